@@ -18,9 +18,10 @@ sound_keepable g age fs sound = keepable_later g age (2 ^ 64 - 1) fs (omega (ari
 
 -- Parts that are the same after a read-only call: what stands there, and what is sound.
 module _ (p q : Parts) (same : q ≡ p) where
-  pub space_held : {g : Geometry} {age : ℕ} → IsSoundFrames g age (frames_of p) → (n : ℕ) (c : Capability) → c ≡ (root_at (objects_in q) n).space →
-      MayBeHeld (objects_in p) c
-  space_held sound n c is = subst (MayBeHeld (objects_in p)) (sym (is ∙ ap (λ (r : Parts). (root_at (objects_in r) n).space) same)) (sound.sound.spaces n).0
+  pub space_held : {g : Geometry} {age : ℕ} → IsSoundFrames g age (frames_of p) → (n : ℕ) (c : Capability) →
+      c ≡ (root_at (objects_in q) n).space → MayBeHeld (objects_in p) c
+  space_held sound n c is = subst (MayBeHeld (objects_in p)) (sym (is ∙ ap (λ (r : Parts). (root_at (objects_in r) n).space) same))
+      (sound.sound.spaces n).0
 
   pub page_still_known : (n : ℕ) → IsTrue (is_page (content_at (objects_in p) n)) → n < length q.headers
   page_still_known n is = page_known q n (ap (λ (r : Parts). is_page (content_at (objects_in r) n)) same ∙ is)
@@ -39,7 +40,8 @@ pub word_stays_sound : (g : Geometry) (age : ℕ) (fs gs : List Frame) (n i word
 word_stays_sound g age fs gs n i word fits is current keepable sound = record {
   keepable = keepable sound.keepable;
   current = current sound.current;
-  sound = subst (λ (os : List Object). IsSound g (record { objects = os; age = age })) (sym is) (world_with_word g (world_at age fs) n i word fits sound.sound);
+  sound = subst (λ (os : List Object). IsSound g (record { objects = os; age = age })) (sym is)
+      (world_with_word g (world_at age fs) n i word fits sound.sound);
 }
 
 -- an announced page with another word
@@ -50,7 +52,8 @@ word_written p q written is fs =
     subst (λ (r : Parts). (age : ℕ) → IsSoundFrames r.geometry age (frames_of r) → IsSoundFrames r.geometry age fs) is
 
 -- from one tree to another on the way to the page with an index
-pub record HasDescended {S : Type 0} (parts : S → Parts) (Continues : S → S → Type 0) (index : ℕ) (tree : Tree) (old : S) (at : Tree) (now : S) : Type 0 where
+pub record HasDescended {S : Type 0} (parts : S → Parts) (Continues : S → S → Type 0) (index : ℕ) (tree : Tree) (old : S) (at : Tree)
+    (now : S) : Type 0 where
   pub same : parts now ≡ parts old
   pub continues : Continues old now
   pub held : MayBeHeld (objects_in (parts old)) (Space at.node at.height at.access)
@@ -62,7 +65,8 @@ module _ {S : Type 0} {parts : S → Parts} {Continues : S → S → Type 0} {in
   pub same_objects : objects_in (parts now) ≡ objects_in (parts old)
   same_objects = ap objects_in so_far.same
 
-  pub read_there : (s : Capability) (i : ℕ) → s ≡ slot_at (objects_in (parts now)) at.node i → s ≡ slot_at (objects_in (parts old)) at.node i
+  pub read_there : (s : Capability) (i : ℕ) → s ≡ slot_at (objects_in (parts now)) at.node i →
+      s ≡ slot_at (objects_in (parts old)) at.node i
   read_there s i is = is ∙ ap (λ (us : List Object). slot_at us at.node i) same_objects
 
   pub still_sound : AreSound (parts old) → AreSound (parts now)

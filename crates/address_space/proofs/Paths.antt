@@ -17,7 +17,8 @@ bits_power (suc (suc (suc (suc (suc h))))) le = absurd (omega (arith, le))
 bits_power other le = refl
 
 -- A tree at least one high, and what its slot on the way holds.
-module _ (os : List Object) (o h index : ℕ) (a : Access) (s : Capability) (some : 1 ≤ h) (there : s ≡ slot_at os o (index / 32 ^ (h - 1) % 32)) where
+module _ (os : List Object) (o h index : ℕ) (a : Access) (s : Capability) (some : 1 ≤ h)
+    (there : s ≡ slot_at os o (index / 32 ^ (h - 1) % 32)) where
   abbrev k : ℕ
   k = h - 1
 
@@ -63,7 +64,8 @@ module _ (a b : Access) (r : Result (ℕ × Access) MemoryFault) (of_a : IsAcces
   level_access : (t : Bool) → HasAccess (if t then restricted b r else Err Malformed)
   level_access x0 = grind (arith, nat_tests, union_access)
 
-  level_twice : (t : Bool) → restricted a (if t then restricted b r else Err Malformed) ≡ (if t then restricted (union a b.0) r else Err Malformed)
+  level_twice : (t : Bool) → restricted a (if t then restricted b r else Err Malformed)
+      ≡ (if t then restricted (union a b.0) r else Err Malformed)
   level_twice x0 = grind (arith, nat_tests, merges)
 
   below_access : (h : ℕ) (s : Capability) → HasAccess (below h b s r)
@@ -76,10 +78,12 @@ module _ (os : List Object) (held : (n i : ℕ) → MayBeHeld os (slot_at os n i
   walk_access : (c : Capability) (slots : List ℕ) → IsWellFormed c → HasAccess (walk_along os c slots)
   walk_access (Page o a) [] formed = formed
   walk_access (Space o h a) (slot ∷ slots) formed =
-      below_access a a (walk_along os (slot_at os o slot) slots) formed.2 formed.2 (walk_access (slot_at os o slot) slots (held o slot).0) h (slot_at os o slot)
+      below_access a a (walk_along os (slot_at os o slot) slots) formed.2 formed.2 (walk_access (slot_at os o slot) slots (held o slot).0) h
+      (slot_at os o slot)
   walk_access c slots formed = tt
 
   -- a tree goes on in a slot
-  pub goes_on : (o h index : ℕ) (a : Access) (s : Capability) → 1 ≤ h → s ≡ slot_at os o (index / 32 ^ (h - 1) % 32) → (n l : ℕ) (b : Access) → s ≡ Space n l b
-      → l ≡ h - 1 → IsAccess a → IsAccess b → walk_along os (Space o h a) (path h index) ≡ walk_along os (Space n l (union a b.0)) (path l index)
+  pub goes_on : (o h index : ℕ) (a : Access) (s : Capability) → 1 ≤ h → s ≡ slot_at os o (index / 32 ^ (h - 1) % 32) →
+      (n l : ℕ) (b : Access) → s ≡ Space n l b → l ≡ h - 1 → IsAccess a → IsAccess b →
+      walk_along os (Space o h a) (path h index) ≡ walk_along os (Space n l (union a b.0)) (path l index)
   goes_on o h index a s some there n l b is level of_a of_b = grind (arith, nat_tests, eq-eqb, descends, below_twice, walk_access)

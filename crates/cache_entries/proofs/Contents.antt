@@ -14,7 +14,8 @@ length_contents : (ks : List Kind) (ps : List (Option (List ℕ))) (ns : List (O
 unfolding contents_in
 length_contents ks ps ns = length-map-range_with_len (content_at ks ps ns) 0 (length ks)
 
-read : (ks : List Kind) (ps : List (Option (List ℕ))) (ns : List (Option (List Cap))) (k : ℕ) → held_at (contents_in ks ps ns) k ≡ content_at ks ps ns k
+read : (ks : List Kind) (ps : List (Option (List ℕ))) (ns : List (Option (List Cap))) (k : ℕ) →
+    held_at (contents_in ks ps ns) k ≡ content_at ks ps ns k
 unfolding contents_in
 read ks ps ns k = grind (arith, nat_tests, get_or-map-range_with_len, get_or_past, length_contents)
 
@@ -38,7 +39,8 @@ pub record Puts (ks : List Kind) (ps : List (Option (List ℕ))) (ns : List (Opt
 
 -- a body whose root is changed
 module _ (change : Root Cap → Root Cap) where
-  root_in : (a : Kind) (o : Option (List ℕ)) (s : Option (List Cap)) → content_in (kind_with_root change a) o s ≡ with_root_in change (content_in a o s)
+  root_in : (a : Kind) (o : Option (List ℕ)) (s : Option (List Cap)) → content_in (kind_with_root change a) o s
+      ≡ with_root_in change (content_in a o s)
   root_in a o s = grind (arith, nat_tests)
 
   root_room : (a : Kind) (o : Option (List ℕ)) (s : Option (List Cap)) → HasRoom a o s → HasRoom (kind_with_root change a) o s
@@ -46,11 +48,12 @@ module _ (change : Root Cap → Root Cap) where
 
 -- a slot of a content
 module _ (slot : ℕ) (c : Cap) where
-  slot_in : (o : Option (List ℕ)) (s : List Cap) (a : Kind) → slots_are_of a ≡ true → with_slot_in (content_in a o (Some s)) slot c ≡ content_in a o
-      (Some (set s slot c))
+  slot_in : (o : Option (List ℕ)) (s : List Cap) (a : Kind) → slots_are_of a ≡ true →
+      with_slot_in (content_in a o (Some s)) slot c ≡ content_in a o (Some (set s slot c))
   slot_in o s a is = grind (arith, nat_tests)
 
-  no_slot : (a : Kind) (o : Option (List ℕ)) (s : Option (List Cap)) → slots_are_of a ≡ false → with_slot_in (content_in a o s) slot c ≡ content_in a o s
+  no_slot : (a : Kind) (o : Option (List ℕ)) (s : Option (List Cap)) → slots_are_of a ≡ false →
+      with_slot_in (content_in a o s) slot c ≡ content_in a o s
   no_slot a o s none = grind (arith, nat_tests)
 
 -- slots of a content from one on
@@ -62,7 +65,8 @@ slots_in o s i (c ∷ cs) a is = rw (slot_in i c o s a is) (slots_in o (set s i 
 no_slots_in : (i : ℕ) (cs : List Cap) (a : Kind) (o : Option (List ℕ)) (s : Option (List Cap)) → slots_are_of a ≡ false → with_slots_in
     (content_in a o s) i cs ≡ content_in a o s
 no_slots_in i [] a o s none = refl
-no_slots_in i (c ∷ cs) a o s none = ap (λ (d : Content Cap). with_slots_in d (i + 1) cs) (no_slot i c a o s none) ∙ no_slots_in (i + 1) cs a o s none
+no_slots_in i (c ∷ cs) a o s none = ap (λ (d : Content Cap). with_slots_in d (i + 1) cs) (no_slot i c a o s none)
+    ∙ no_slots_in (i + 1) cs a o s none
 
 module _ {ks : List Kind} {ps : List (Option (List ℕ))} {ns : List (Option (List Cap))} (are : AreBodies ks ps ns) {v : List (Content Cap)}
     (view : contents_in ks ps ns ≡ v) {k : ℕ} (within : k < length v) where
@@ -77,8 +81,8 @@ module _ {ks : List Kind} {ps : List (Option (List ℕ))} {ns : List (Option (Li
 
   pub ruleset places_within = (kind_within, page_within, node_within)
 
-  replaced : (qs : List (Option (List ℕ))) (ms : List (Option (List Cap))) (b : Kind) (c : Content Cap) → length qs ≡ length ps → length ms ≡ length ns →
-      ((m : ℕ) → m ≢ k → item_at qs m ≡ item_at ps m) → ((m : ℕ) → m ≢ k → item_at ms m ≡ item_at ns m) →
+  replaced : (qs : List (Option (List ℕ))) (ms : List (Option (List Cap))) (b : Kind) (c : Content Cap) → length qs ≡ length ps →
+      length ms ≡ length ns → ((m : ℕ) → m ≢ k → item_at qs m ≡ item_at ps m) → ((m : ℕ) → m ≢ k → item_at ms m ≡ item_at ns m) →
       HasRoom b (item_at qs k) (item_at ms k) → content_in b (item_at qs k) (item_at ms k) ≡ c → Puts (set ks k b) qs ms (set v k c)
   replaced qs ms b c pages nodes same_pages same_nodes room is =
       let here : kind_at (set ks k b) k ≡ b = get_or-set_same ks k b kind.Free kind_within in record {
@@ -108,8 +112,8 @@ module _ {ks : List Kind} {ps : List (Option (List ℕ))} {ns : List (Option (Li
       Puts (set ks k b) ps (set ns k (Some s)) (set v k c)
   slotted b s c room is = search (get_or-set_same, node_within, replaced, length-set, get_or-set_other)
 
-  bare : (b : Kind) (c : Content Cap) → HasRoom b (item_at ps k) (item_at ns k) → content_in b (item_at ps k) (item_at ns k) ≡ c → Puts (set ks k b) ps ns
-      (set v k c)
+  bare : (b : Kind) (c : Content Cap) → HasRoom b (item_at ps k) (item_at ns k) → content_in b (item_at ps k) (item_at ns k) ≡ c →
+      Puts (set ks k b) ps ns (set v k c)
   bare b c room is = replaced ps ns b c refl refl (λ m other. refl) (λ m other. refl) room is
 
   pub puts : (c : Content Cap) → Puts (set ks k (kind_of c)) (with_words_of c k ps) (with_slots_of c k ns) (set v k c)
@@ -145,22 +149,25 @@ module _ {ks : List Kind} {ps : List (Option (List ℕ))} {ns : List (Option (Li
     unchanged c is = sym (set-get_or v k content.Free) ∙ ap (set v k) (held ∙ is)
 
     module _ (index word : ℕ) where
-      no_words : (a : Kind) (o : Option (List ℕ)) (s : Option (List Cap)) → words_are_of a ≡ false → content_in a o s ≡ with_word_in (content_in a o s)
-          index word
+      no_words : (a : Kind) (o : Option (List ℕ)) (s : Option (List Cap)) → words_are_of a ≡ false →
+          content_in a o s ≡ with_word_in (content_in a o s) index word
       no_words a o s none = grind (arith, nat_tests)
 
       pub no_page : words_are_of b ≡ false → v ≡ set v k (with_word_in (held_at v k) index word)
-      no_page none = rw held (unchanged (with_word_in (content_in b (item_at ps k) (item_at ns k)) index word) (no_words b (item_at ps k) (item_at ns k) none))
+      no_page none = rw held (unchanged (with_word_in (content_in b (item_at ps k) (item_at ns k)) index word)
+          (no_words b (item_at ps k) (item_at ns k) none))
 
-      word_in : (a : Kind) (w : List ℕ) (s : Option (List Cap)) → words_are_of a ≡ true → with_word_in (content_in a (Some w) s) index word ≡ content_in a
-          (Some (set w index word)) s
+      word_in : (a : Kind) (w : List ℕ) (s : Option (List Cap)) → words_are_of a ≡ true →
+          with_word_in (content_in a (Some w) s) index word ≡ content_in a (Some (set w index word)) s
       word_in a w s is = grind (arith, nat_tests)
 
       pub word_put : words_are_of b ≡ true → (w : List ℕ) → item_at ps k ≡ Some w →
           Puts ks (set ps k (Some (set w index word))) ns (set v k (with_word_in (held_at v k) index word))
       word_put is w here =
-          let after : content_in b (Some (set w index word)) (item_at ns k) ≡ with_word_in (held_at v k) index word = grind (arith, nat_tests, word_in, held) in
-          subst (λ (js : List Kind). Puts js (set ps k (Some (set w index word))) ns (set v k (with_word_in (held_at v k) index word))) same_kinds
+          let after : content_in b (Some (set w index word)) (item_at ns k) ≡ with_word_in (held_at v k) index word =
+          grind (arith, nat_tests, word_in, held) in
+          subst (λ (js : List Kind). Puts js (set ps k (Some (set w index word))) ns (set v k (with_word_in (held_at v k) index word)))
+          same_kinds
           (worded b (set w index word) (with_word_in (held_at v k) index word) (word_room b (set w index word) (item_at ns k) is) after)
 
     pub word_seen : (index word : ℕ) → words_are_of b ≡ true → (w : List ℕ) → item_at ps k ≡ Some w →
@@ -173,10 +180,12 @@ module _ {ks : List Kind} {ps : List (Option (List ℕ))} {ns : List (Option (Li
     pub words_there : words_are_of b ≡ true → IsSome (item_at ps k)
     words_there is = some_words b (item_at ps k) (item_at ns k) is room_of
 
-    pub root_put : (change : Root Cap → Root Cap) → Puts (set ks k (kind_with_root change b)) ps ns (set v k (with_root_in change (held_at v k)))
+    pub root_put : (change : Root Cap → Root Cap) → Puts (set ks k (kind_with_root change b)) ps ns
+        (set v k (with_root_in change (held_at v k)))
     root_put change = search (bare, root_room, room_of, root_in, held)
 
-    pub root_seen : (change : Root Cap → Root Cap) → contents_in (set ks k (kind_with_root change b)) ps ns ≡ set v k (with_root_in change (held_at v k))
+    pub root_seen : (change : Root Cap → Root Cap) → contents_in (set ks k (kind_with_root change b)) ps ns
+        ≡ set v k (with_root_in change (held_at v k))
     root_seen change = (root_put change).contents
 
     -- the slots of a body have changed
@@ -191,18 +200,21 @@ module _ {ks : List Kind} {ps : List (Option (List ℕ))} {ns : List (Option (Li
     no_slots : slots_are_of b ≡ false → (change : Content Cap → Content Cap) →
         ((a : Kind) (o : Option (List ℕ)) (s : Option (List Cap)) → slots_are_of a ≡ false → change (content_in a o s) ≡ content_in a o s) →
         v ≡ set v k (change (held_at v k))
-    no_slots none change same = rw held (unchanged (change (content_in b (item_at ps k) (item_at ns k))) (sym (same b (item_at ps k) (item_at ns k) none)))
+    no_slots none change same = rw held (unchanged (change (content_in b (item_at ps k) (item_at ns k)))
+        (sym (same b (item_at ps k) (item_at ns k) none)))
 
     pub slot_seen : (slot : ℕ) (c : Cap) → slots_are_of b ≡ true → (s : List Cap) → item_at ns k ≡ Some s →
         contents_in ks ps (set ns k (Some (set s slot c))) ≡ set v k (with_slot_in (held_at v k) slot c)
-    slot_seen slot c is s here = (slots_put is s (set s slot c) here (λ x. with_slot_in x slot c) (slot_in slot c (item_at ps k) s)).contents
+    slot_seen slot c is s here = (slots_put is s (set s slot c) here (λ x. with_slot_in x slot c)
+        (slot_in slot c (item_at ps k) s)).contents
 
     pub no_slot_seen : (slot : ℕ) (c : Cap) → slots_are_of b ≡ false → v ≡ set v k (with_slot_in (held_at v k) slot c)
     no_slot_seen slot c none = no_slots none (λ x. with_slot_in x slot c) (no_slot slot c)
 
     pub slots_seen : (i : ℕ) (cs : List Cap) → slots_are_of b ≡ true → (s : List Cap) → item_at ns k ≡ Some s →
         contents_in ks ps (set ns k (Some (slots_from s i cs))) ≡ set v k (with_slots_in (held_at v k) i cs)
-    slots_seen i cs is s here = (slots_put is s (slots_from s i cs) here (λ x. with_slots_in x i cs) (slots_in (item_at ps k) s i cs)).contents
+    slots_seen i cs is s here = (slots_put is s (slots_from s i cs) here (λ x. with_slots_in x i cs)
+        (slots_in (item_at ps k) s i cs)).contents
 
     pub no_slots_seen : (i : ℕ) (cs : List Cap) → slots_are_of b ≡ false → v ≡ set v k (with_slots_in (held_at v k) i cs)
     no_slots_seen i cs none = no_slots none (λ x. with_slots_in x i cs) (no_slots_in i cs)
@@ -214,15 +226,17 @@ module _ {ks : List Kind} {ps : List (Option (List ℕ))} {ns : List (Option (Li
 
     pub ruleset slot_edits = (slots_there, slots_are_there, slot_seen, no_slot_seen, slots_seen, no_slots_seen)
 
-all_held : (ks : List Kind) (ps : List (Option (List ℕ))) (ns : List (Option (List Cap))) → ((k : ℕ) → kind_at ks k ≡ kind.Free) → replicate (length ks)
-    content.Free ≡ contents_in ks ps ns
+all_held : (ks : List Kind) (ps : List (Option (List ℕ))) (ns : List (Option (List Cap))) → ((k : ℕ) → kind_at ks k ≡ kind.Free) →
+    replicate (length ks) content.Free ≡ contents_in ks ps ns
 unfolding contents_in
 all_held ks ps ns free =
-    (fill_by_all (content_at ks ps ns) (replicate (length ks) content.Free) (length ks) content.Free (length-replicate (length ks) content.Free)
-    (λ k below. get_or-replicate (length ks) k content.Free content.Free below ∙ sym (ap (λ (a : Kind). content_in a (item_at ps k) (item_at ns k)) (free k))))
+    (fill_by_all (content_at ks ps ns) (replicate (length ks) content.Free) (length ks) content.Free
+    (length-replicate (length ks) content.Free)
+    (λ k below. get_or-replicate (length ks) k content.Free content.Free below
+    ∙ sym (ap (λ (a : Kind). content_in a (item_at ps k) (item_at ns k)) (free k))))
 
 -- no place holds anything at first
-pub none_held : (n : ℕ) (ks : List Kind) (ps : List (Option (List ℕ))) (ns : List (Option (List Cap))) → ks ≡ replicate n kind.Free → ps ≡ replicate n
-    None → ns ≡ replicate n None →
+pub none_held : (n : ℕ) (ks : List Kind) (ps : List (Option (List ℕ))) (ns : List (Option (List Cap))) → ks ≡ replicate n kind.Free →
+    ps ≡ replicate n None → ns ≡ replicate n None →
     Puts ks ps ns (replicate n content.Free)
 none_held n ks ps ns kinds pages nodes = grind (arith, nat_tests, length-replicate, get_or-replicate, get_or_past, all_held)

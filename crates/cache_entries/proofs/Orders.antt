@@ -13,19 +13,21 @@ module _ (n : ℕ) where
   without_keys [] = refl
   without_keys (e ∷ es) = go (nat_eq n e.0) (without_keys es)
     where
-      go : (t : Bool) → keys_of (remove_entry (nat_eq n) es) ≡ without n (keys_of es) → keys_of (cond t es (e ∷ remove_entry (nat_eq n) es)) ≡ cond t
-          (keys_of es) (e.0 ∷ without n (keys_of es))
+      go : (t : Bool) → keys_of (remove_entry (nat_eq n) es) ≡ without n (keys_of es) →
+          keys_of (cond t es (e ∷ remove_entry (nat_eq n) es)) ≡ cond t (keys_of es) (e.0 ∷ without n (keys_of es))
       go true later = refl
       go false later = ap (λ (ns : List ℕ). e.0 ∷ ns) later
 
-  entry_found : (t : Bool) (e : ℕ × Unit {0}) (o : Option (ℕ × Unit {0})) (b : Bool) → is_some o ≡ b → is_some (cond t (Some e) o) ≡ (t || b)
+  entry_found : (t : Bool) (e : ℕ × Unit {0}) (o : Option (ℕ × Unit {0})) (b : Bool) → is_some o ≡ b →
+      is_some (cond t (Some e) o) ≡ (t || b)
   entry_found t e o b same = grind (arith, nat_tests)
 
   member_entries : (es : List (ℕ × Unit {0})) → is_some (lookup_entry (nat_eq n) es) ≡ is_member (keys_of es) n
   member_entries [] = refl
   member_entries (e ∷ es) = entry_found (nat_eq n e.0) e (lookup_entry (nat_eq n) es) (is_member (keys_of es) n) (member_entries es)
 
-  pub used_keys : (es : List (ℕ × Unit {0})) → is_member (keys_of es) n ≡ true → keys_of (promoted (nat_eq n) es) ≡ n ∷ without n (keys_of es)
+  pub used_keys : (es : List (ℕ × Unit {0})) → is_member (keys_of es) n ≡ true →
+      keys_of (promoted (nat_eq n) es) ≡ n ∷ without n (keys_of es)
   used_keys es is = go (lookup_entry (nat_eq n) es) refl (member_entries es ∙ is)
     where
       go : (o : Option (ℕ × Unit {0})) → lookup_entry (nat_eq n) es ≡ o → is_some o ≡ true →
@@ -38,12 +40,13 @@ module _ (n : ℕ) where
   pub unused_keys : (es : List (ℕ × Unit {0})) → is_member (keys_of es) n ≡ false → keys_of (promoted (nat_eq n) es) ≡ keys_of es
   unused_keys es none = go (lookup_entry (nat_eq n) es) (member_entries es ∙ none)
     where
-      go : (o : Option (ℕ × Unit {0})) → is_some o ≡ false → keys_of (option_map_or (λ (e : ℕ × Unit {0}). e ∷ remove_entry (nat_eq n) es) o es) ≡
-          keys_of es
+      go : (o : Option (ℕ × Unit {0})) → is_some o ≡ false → keys_of (option_map_or (λ (e : ℕ × Unit {0}). e ∷ remove_entry (nat_eq n) es) o
+          es) ≡ keys_of es
       go None is = refl
       go (Some e) is = absurd (true≢false is)
 
-  pub demoted_keys : (es : List (ℕ × Unit {0})) → is_member (keys_of es) n ≡ true → keys_of (demoted (nat_eq n) es) ≡ without n (keys_of es) ++ n ∷ []
+  pub demoted_keys : (es : List (ℕ × Unit {0})) → is_member (keys_of es) n ≡ true →
+      keys_of (demoted (nat_eq n) es) ≡ without n (keys_of es) ++ n ∷ []
   demoted_keys es is = go (lookup_entry (nat_eq n) es) refl (member_entries es ∙ is)
     where
       keys_end : (es : List (ℕ × Unit {0})) (e : ℕ × Unit {0}) → keys_of (es ++ e ∷ []) ≡ keys_of es ++ e.0 ∷ []
@@ -55,15 +58,17 @@ module _ (n : ℕ) where
       go None at some = absurd (true≢false (sym some))
       go (Some e) at some =
           keys_end (remove_entry (nat_eq n) es) e
-          ∙ ap (λ (m : ℕ). keys_of (remove_entry (nat_eq n) es) ++ m ∷ []) (sym (eqb-true n e.0 (Contains-lookup_entry (nat_eq n) es e at).1))
+          ∙ ap (λ (m : ℕ). keys_of (remove_entry (nat_eq n) es) ++ m ∷ []) (sym
+          (eqb-true n e.0 (Contains-lookup_entry (nat_eq n) es e at).1))
           ∙ ap (λ (ns : List ℕ). ns ++ n ∷ []) (without_keys es)
 
-  pub new_keys : (c : LruCache ℕ (Unit {0})) → is_member (keys_of c.entries) n ≡ false → length c.entries < c.cap → keys_of (put_entries nat_eq c n tt) ≡ n
-      ∷ keys_of c.entries
+  pub new_keys : (c : LruCache ℕ (Unit {0})) → is_member (keys_of c.entries) n ≡ false → length c.entries < c.cap →
+      keys_of (put_entries nat_eq c n tt) ≡ n ∷ keys_of c.entries
   new_keys c none short = go (lookup_entry (nat_eq n) c.entries) (member_entries c.entries ∙ none)
     where
       go : (o : Option (ℕ × Unit {0})) → is_some o ≡ false →
-          keys_of (option_map_or (λ (e : ℕ × Unit {0}). (e.0, tt) ∷ remove_entry (nat_eq n) c.entries) o ((n, tt) ∷ take (c.cap - 1) c.entries)) ≡ n ∷
+          keys_of (option_map_or (λ (e : ℕ × Unit {0}). (e.0, tt) ∷ remove_entry (nat_eq n) c.entries) o
+          ((n, tt) ∷ take (c.cap - 1) c.entries)) ≡ n ∷
           keys_of c.entries
       go None is = ap (λ (es : List (ℕ × Unit {0})). n ∷ keys_of es) (take_all (c.cap - 1) c.entries (omega (arith, short)))
       go (Some e) is = absurd (true≢false is)

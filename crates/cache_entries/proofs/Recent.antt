@@ -9,7 +9,8 @@ module _ (n : ℕ) where
   apart_from m ms place at none same = true≢false (sym (listed_member ms place n at) ∙ ap (is_member ms) same ∙ none)
 
   -- without the last, those before it stay
-  pub front_stays : (ns : List ℕ) (i k : ℕ) → i + 1 ≡ length ns → AllDiffer ns → slice_get ns i ≡ Some n → k < length ns → take k (without n ns) ≡ take k ns
+  pub front_stays : (ns : List ℕ) (i k : ℕ) → i + 1 ≡ length ns → AllDiffer ns → slice_get ns i ≡ Some n → k < length ns →
+      take k (without n ns) ≡ take k ns
   front_stays [] i k last once at below = absurd (omega (arith, below))
   front_stays (m ∷ ms) i zero last once at below = refl
   front_stays (m ∷ ms) zero (suc k) last once at below = absurd (omega (arith, last, below))
@@ -17,8 +18,8 @@ module _ (n : ℕ) where
       grind (arith, nat_tests, without_tail, apart_from, front_stays ms i k (omega (arith, last)) once.1 at (omega (arith, below)))
 
   -- and none of them is the last
-  pub front_apart : (ns : List ℕ) (i k m : ℕ) → i + 1 ≡ length ns → AllDiffer ns → slice_get ns i ≡ Some n → k < length ns → is_member (take k ns) m ≡
-      true → m ≢ n
+  pub front_apart : (ns : List ℕ) (i k m : ℕ) → i + 1 ≡ length ns → AllDiffer ns → slice_get ns i ≡ Some n → k < length ns →
+      is_member (take k ns) m ≡ true → m ≢ n
   front_apart ns i k m last once at below is same = true≢false (
       sym (in_front k (without n ns) m (ap (λ (ms : List ℕ). is_member ms m) (front_stays ns i k last once at below) ∙ is))
       ∙ ap (is_member (without n ns)) same ∙ gone n ns once)

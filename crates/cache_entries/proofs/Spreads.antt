@@ -16,7 +16,8 @@ use Rattle.cache_entries.proofs.Recent.{front_apart, front_stays}
 -- the first ones, once one of them is taken out
 front_used : (p : ℕ) (ns : List ℕ) (k : ℕ) → is_member (take (suc k) ns) p ≡ true → take k (without p ns) ≡ without p (take (suc k) ns)
 front_used p [] k is = absurd (true≢false (sym is))
-front_used p (m ∷ ms) zero is = sym (without_here p m [] (elim (either_of m [] p is) [ inl same ↦ same | inr later ↦ absurd (true≢false (sym later)) ]))
+front_used p (m ∷ ms) zero is = sym (without_here p m [] (elim (either_of m [] p is)
+    [ inl same ↦ same | inr later ↦ absurd (true≢false (sym later)) ]))
 front_used p (m ∷ ms) (suc k) is = elim (cases_eq p m) [
   | inl same ↦ ap (take (suc k)) (without_here p m ms same) ∙ sym (without_here p m (take (suc k) ms) same)
   | inr other ↦ ap (take (suc k)) (without_tail p m ms other) ∙ ap (λ (rest : List ℕ). m ∷ rest) (front_used p ms k
@@ -48,14 +49,17 @@ module _ (f : ℕ → ℕ) where
   not_mapped : (ps : List ℕ) (n : ℕ) → ((p : ℕ) → is_member ps p ≡ true → f p ≢ n) → is_member (map f ps) n ≡ false
   not_mapped ps n none = false_from_ne_true (is_member (map f ps) n) (λ is. let p = map_member ps n is in none p.0 p.1 p.2)
 
-  differ_map : (ps : List ℕ) → AllDiffer ps → ((p q : ℕ) → is_member ps p ≡ true → is_member ps q ≡ true → f p ≡ f q → p ≡ q) → AllDiffer (map f ps)
+  differ_map : (ps : List ℕ) → AllDiffer ps → ((p q : ℕ) → is_member ps p ≡ true → is_member ps q ≡ true → f p ≡ f q → p ≡ q) →
+      AllDiffer (map f ps)
   differ_map [] once apart = tt
   differ_map (p ∷ ps) once apart = (
-    not_mapped ps (f p) (λ q is same. true≢false (sym is ∙ ap (is_member ps) (apart q p (in_tail p ps q is) (member_head p p ps refl) same) ∙ once.0)),
+    not_mapped ps (f p) (λ q is same. true≢false (sym is ∙ ap (is_member ps) (apart q p (in_tail p ps q is) (member_head p p ps refl) same)
+        ∙ once.0)),
     differ_map ps once.1 (λ q r is_q is_r. apart q r (in_tail p ps q is_q) (in_tail p ps r is_r)),
   )
 
-  map_without : (p : ℕ) (ps : List ℕ) → ((q : ℕ) → is_member ps q ≡ true → f p ≡ f q → p ≡ q) → map f (without p ps) ≡ without (f p) (map f ps)
+  map_without : (p : ℕ) (ps : List ℕ) → ((q : ℕ) → is_member ps q ≡ true → f p ≡ f q → p ≡ q) →
+      map f (without p ps) ≡ without (f p) (map f ps)
   map_without p [] apart = refl
   map_without p (q ∷ qs) apart = elim (cases_eq p q) [
     | inl same ↦ ap (map f) (without_here p q qs same) ∙ sym (without_here (f p) (f q) (map f qs) (ap f same))
@@ -125,7 +129,8 @@ module _ {keys numbers places : List ℕ} {count : ℕ} (are : ArePlaced keys nu
       (length-map (set places n p) (place_below most) ∙ length-set places n p ∙ sym (length-map places (place_below most)))
       (omega (arith, known, length-map places (place_below most)))
       (place_of (set places n p) most n ∙ ap (place_below most) (get_or-set_same places n p most known) ∙ is)
-      (λ m other. place_of (set places n p) most m ∙ ap (place_below most) (get_or-set_other places n m p most other) ∙ sym (place_of places most m))
+      (λ m other. place_of (set places n p) most m ∙ ap (place_below most) (get_or-set_other places n m p most other)
+      ∙ sym (place_of places most m))
 
   pub length_used : length (map number used) ≡ count
   length_used = length-map used number ∙ length-take-le count keys (omega (arith, are.few, are.filled.all))
@@ -206,14 +211,19 @@ module _ {keys numbers places : List ℕ} {count : ℕ} (are : ArePlaced keys nu
             are = grind (arith, nat_tests, filled_front are.filled (place n) listed);
             view =
                 ap (λ (ns : List ℕ). let o : OrderState = record { numbers = ns; places = map (place_below most) places; most = most } in o)
-                (ap (map number) front_is ∙ ap (λ (m : ℕ). m ∷ map number (without (place n) used)) (are.forth n below) ∙ ap (λ (ns : List ℕ). n ∷ ns)
+                (ap (map number) front_is ∙ ap (λ (m : ℕ). m ∷ map number (without (place n) used)) (are.forth n below)
+                ∙ ap (λ (ns : List ℕ). n ∷ ns)
                 numbers_left)
                 ∙ ap (used_last n) view;
           }
 
       -- its place is free
       pub removed : (after : List ℕ) (c : ℕ) → after ≡ without (place n) keys ++ place n ∷ [] → c + 1 ≡ count →
-          Spreads after numbers (set places n most) c (record { numbers = without n s.numbers; places = set s.places n None; most = s.most })
+          Spreads after numbers (set places n most) c (record {
+            numbers = without n s.numbers;
+            places = set s.places n None;
+            most = s.most;
+          })
       removed after c is less =
           grind (
             arith,
@@ -238,87 +248,109 @@ module _ {keys numbers places : List ℕ} {count : ℕ} (are : ArePlaced keys nu
   last_below p last = are.filled.known p (listed_member keys (length keys - 1) p last)
 
   -- a number gets the place that was used longest ago
-  module _ (p n : ℕ) (last : used_longest_ago keys ≡ Some p) (short : count < most) (known : n < length places) (absent : most ≤ place n) where
-    p_free : is_member used p ≡ false
-    p_free = grind (arith, nat_tests, false_from_ne_true, front_apart)
+  module _ (p n : ℕ) (last : used_longest_ago keys ≡ Some p) (short : count < most) (known : n < length places) (absent : most ≤ place n)
+    where
+      p_free : is_member used p ≡ false
+      p_free = grind (arith, nat_tests, false_from_ne_true, front_apart)
 
-    abbrev numbers_after : List ℕ
-    numbers_after = set numbers p n
+      abbrev numbers_after : List ℕ
+      numbers_after = set numbers p n
 
-    abbrev places_after : List ℕ
-    places_after = set places n p
+      abbrev places_after : List ℕ
+      places_after = set places n p
 
-    same_most : length numbers_after ≡ most
-    same_most = length-set numbers p n
+      same_most : length numbers_after ≡ most
+      same_most = length-set numbers p n
 
-    place_after : (m : ℕ) → get_or places_after m (length numbers_after) ≡ get_or places_after m most
-    place_after m = ap (get_or places_after m) same_most
+      place_after : (m : ℕ) → get_or places_after m (length numbers_after) ≡ get_or places_after m most
+      place_after m = ap (get_or places_after m) same_most
 
-    number_after : (q : ℕ) → is_member used q ≡ true → get_or numbers_after q 0 ≡ number q
-    number_after q is = get_or-set_other numbers p q n 0 (λ same. true≢false (sym is ∙ ap (is_member used) same ∙ p_free))
+      number_after : (q : ℕ) → is_member used q ≡ true → get_or numbers_after q 0 ≡ number q
+      number_after q is = get_or-set_other numbers p q n 0 (λ same. true≢false (sym is ∙ ap (is_member used) same ∙ p_free))
 
-    pub fresh : (m : ℕ) → place_at (map (place_below most) places) m ≢ Some p
-    fresh m is = grind (arith, nat_tests, placed_at, place_of, p_free)
+      pub fresh : (m : ℕ) → place_at (map (place_below most) places) m ≢ Some p
+      fresh m is = grind (arith, nat_tests, placed_at, place_of, p_free)
 
-    pub inserted : {s : OrderState} → order_of keys numbers places count ≡ s → (after : List ℕ) (c : ℕ) → after ≡ p ∷ without p keys → c ≡ count + 1 →
-        Spreads after numbers_after places_after c (record { numbers = n ∷ s.numbers; places = set s.places n (Some p); most = s.most })
-    inserted {s = s} view after c is more =
-        let listed = listed_member keys (length keys - 1) p last in
-        let front_is : take c after ≡ p ∷ used =
-        ap (take c) is ∙ ap (λ (k : ℕ). take k (p ∷ without p keys)) more ∙ ap (λ (k : ℕ). take k (p ∷ without p keys)) (add-one count)
-        ∙ ap (λ (rest : List ℕ). p ∷ rest) (front_stays p keys (length keys - 1) count (omega (arith, short, are.filled.all)) are.filled.once last
-        (omega (arith, short, are.filled.all))) in
-        let new_place : get_or places_after n most ≡ p = get_or-set_same places n p most known in
-        let old_place : (m : ℕ) → m ≢ n → get_or places_after m most ≡ place m = λ m other. get_or-set_other places n m p most other in
-        let new_number : get_or numbers_after p 0 ≡ n = get_or-set_same numbers p n 0 (last_below p last) in
-        record {
-          are = record {
-            filled = subst (IsFilled after) (sym same_most) (subst (λ (ks : List ℕ). IsFilled ks most) (sym is) (filled_front are.filled p listed));
-            some = omega (arith, are.some, same_most);
-            few = omega (arith, more, short, same_most);
-            back = λ q is_q. place_after (get_or numbers_after q 0) ∙ elim (either_of p used q (ap (λ (ps : List ℕ). is_member ps q) (sym front_is) ∙ is_q)) [
-              | inl same ↦ ap (λ (i : ℕ). get_or places_after (get_or numbers_after i 0) most) same ∙ ap (λ (i : ℕ). get_or places_after i most) new_number
-                  ∙ new_place ∙ sym same
-              | inr old ↦
-                  ap (λ (i : ℕ). get_or places_after i most) (number_after q old)
-                  ∙ old_place (number q) (λ same. omega (arith, absent, inside q old, sym (are.back q old) ∙ ap place same))
-                  ∙ are.back q old
-            ];
-            used = λ m less. ap (λ (ps : List ℕ). is_member ps (get_or places_after m (length numbers_after))) front_is
-                ∙ ap (is_member (p ∷ used)) (place_after m) ∙ elim (cases_eq m n) [
-                  | inl same ↦ member_head (get_or places_after m most) p used (ap (λ (i : ℕ). get_or places_after i most) same ∙ new_place)
-                  | inr other ↦
-                      ap (is_member (p ∷ used)) (old_place m other)
-                      ∙ in_tail p used (place m) (are.used m (omega (arith, less, place_after m, old_place m other, same_most)))
-                ];
-            forth = λ m less. ap (λ (i : ℕ). get_or numbers_after i 0) (place_after m) ∙ elim (cases_eq m n) [
-              | inl same ↦ ap (λ (i : ℕ). get_or numbers_after i 0) (ap (λ (i : ℕ). get_or places_after i most) same ∙ new_place) ∙ new_number ∙ sym same
-              | inr other ↦
-                  let old : place m < most = omega (arith, less, place_after m, old_place m other, same_most) in
-                  ap (λ (i : ℕ). get_or numbers_after i 0) (old_place m other) ∙ number_after (place m) (are.used m old) ∙ are.forth m old
-            ];
-          };
-          view =
-              ap (λ (k : ℕ). let o : OrderState = record
-              { numbers = map (λ q. get_or numbers_after q 0) (take c after); places = map (place_below k) places_after; most = k } in o) same_most
-              ∙ ap (λ (ns : List ℕ). let o : OrderState = record { numbers = ns; places = map (place_below most) places_after; most = most } in o)
-              (ap (map (λ q. get_or numbers_after q 0)) front_is ∙ ap (λ (m : ℕ). m ∷ map (λ q. get_or numbers_after q 0) used) new_number
-              ∙ ap (λ (ns : List ℕ). n ∷ ns) (same_map (λ q. get_or numbers_after q 0) number used number_after))
-              ∙ ap (λ (os : List (Option ℕ)). let o : OrderState = record { numbers = n ∷ map number used; places = os; most = most } in o)
-              (places_set n p (Some p) known (below_is most p (last_below p last)))
-              ∙ ap (λ (o : OrderState). let t : OrderState = record { numbers = n ∷ o.numbers; places = set o.places n (Some p); most = o.most } in t) view;
-        }
+      pub inserted : {s : OrderState} → order_of keys numbers places count ≡ s → (after : List ℕ) (c : ℕ) → after ≡ p ∷ without p keys →
+          c ≡ count + 1 → Spreads after numbers_after places_after c (record {
+            numbers = n ∷ s.numbers;
+            places = set s.places n (Some p);
+            most = s.most;
+          })
+      inserted {s = s} view after c is more =
+          let listed = listed_member keys (length keys - 1) p last in
+          let front_is : take c after ≡ p ∷ used =
+          ap (take c) is ∙ ap (λ (k : ℕ). take k (p ∷ without p keys)) more ∙ ap (λ (k : ℕ). take k (p ∷ without p keys)) (add-one count)
+          ∙ ap (λ (rest : List ℕ). p ∷ rest) (front_stays p keys (length keys - 1) count (omega (arith, short, are.filled.all))
+          are.filled.once last
+          (omega (arith, short, are.filled.all))) in
+          let new_place : get_or places_after n most ≡ p = get_or-set_same places n p most known in
+          let old_place : (m : ℕ) → m ≢ n → get_or places_after m most ≡ place m = λ m other. get_or-set_other places n m p most other in
+          let new_number : get_or numbers_after p 0 ≡ n = get_or-set_same numbers p n 0 (last_below p last) in
+          record {
+            are = record {
+              filled = subst (IsFilled after) (sym same_most) (subst (λ (ks : List ℕ). IsFilled ks most) (sym is)
+                  (filled_front are.filled p listed));
+              some = omega (arith, are.some, same_most);
+              few = omega (arith, more, short, same_most);
+              back = λ q is_q. place_after (get_or numbers_after q 0) ∙ elim (either_of p used q
+                  (ap (λ (ps : List ℕ). is_member ps q) (sym front_is) ∙ is_q)) [
+                    | inl same ↦ ap (λ (i : ℕ). get_or places_after (get_or numbers_after i 0) most) same
+                        ∙ ap (λ (i : ℕ). get_or places_after i most) new_number
+                        ∙ new_place ∙ sym same
+                    | inr old ↦
+                        ap (λ (i : ℕ). get_or places_after i most) (number_after q old)
+                        ∙ old_place (number q) (λ same. omega (arith, absent, inside q old, sym (are.back q old) ∙ ap place same))
+                        ∙ are.back q old
+                  ];
+              used = λ m less. ap (λ (ps : List ℕ). is_member ps (get_or places_after m (length numbers_after))) front_is
+                  ∙ ap (is_member (p ∷ used)) (place_after m) ∙ elim (cases_eq m n) [
+                    | inl same ↦ member_head (get_or places_after m most) p used
+                        (ap (λ (i : ℕ). get_or places_after i most) same ∙ new_place)
+                    | inr other ↦
+                        ap (is_member (p ∷ used)) (old_place m other)
+                        ∙ in_tail p used (place m) (are.used m (omega (arith, less, place_after m, old_place m other, same_most)))
+                  ];
+              forth = λ m less. ap (λ (i : ℕ). get_or numbers_after i 0) (place_after m) ∙ elim (cases_eq m n) [
+                | inl same ↦ ap (λ (i : ℕ). get_or numbers_after i 0) (ap (λ (i : ℕ). get_or places_after i most) same ∙ new_place)
+                    ∙ new_number ∙ sym same
+                | inr other ↦
+                    let old : place m < most = omega (arith, less, place_after m, old_place m other, same_most) in
+                    ap (λ (i : ℕ). get_or numbers_after i 0) (old_place m other) ∙ number_after (place m) (are.used m old) ∙ are.forth m old
+              ];
+            };
+            view =
+                ap (λ (k : ℕ). let o : OrderState = record
+                { numbers = map (λ q. get_or numbers_after q 0) (take c after); places = map (place_below k) places_after; most = k } in o)
+                same_most
+                ∙ ap (λ (ns : List ℕ). let o : OrderState = record {
+                  numbers = ns;
+                  places = map (place_below most) places_after;
+                  most = most;
+                }
+                in o)
+                (ap (map (λ q. get_or numbers_after q 0)) front_is ∙ ap (λ (m : ℕ). m ∷ map (λ q. get_or numbers_after q 0) used) new_number
+                ∙ ap (λ (ns : List ℕ). n ∷ ns) (same_map (λ q. get_or numbers_after q 0) number used number_after))
+                ∙ ap (λ (os : List (Option ℕ)). let o : OrderState = record { numbers = n ∷ map number used; places = os; most = most } in
+                o)
+                (places_set n p (Some p) known (below_is most p (last_below p last)))
+                ∙ ap (λ (o : OrderState). let t : OrderState = record {
+                  numbers = n ∷ o.numbers;
+                  places = set o.places n (Some p);
+                  most = o.most;
+                } in t) view;
+          }
 
   -- the number of the place that was used longest ago, where all have one
-  pub least_number : {s : OrderState} → order_of keys numbers places count ≡ s → s.most ≤ length s.numbers → (p n : ℕ) → used_longest_ago keys ≡ Some p →
-      n ≡ get_or numbers p n →
+  pub least_number : {s : OrderState} → order_of keys numbers places count ≡ s → s.most ≤ length s.numbers → (p n : ℕ) →
+      used_longest_ago keys ≡ Some p → n ≡ get_or numbers p n →
       Some n ≡ used_longest_ago s.numbers
   least_number {s = s} view many p n last is =
       grind (arith, nat_tests, count_is, most_is, take_all, get_or_default, last_below, length_used, slice_get-map)
 
 -- no number has a place at first
-pub none_placed : (keys numbers places : List ℕ) (most count : ℕ) → 0 < most → IsFilled keys most → length numbers ≡ most → places ≡ replicate count most →
-    Spreads keys numbers places 0 (record { numbers = []; places = replicate count None; most = most })
+pub none_placed : (keys numbers places : List ℕ) (most count : ℕ) → 0 < most → IsFilled keys most → length numbers ≡ most →
+    places ≡ replicate count most → Spreads keys numbers places 0 (record { numbers = []; places = replicate count None; most = most })
 none_placed keys numbers places most count some filled size is =
     let past : (n : ℕ) → get_or places n (length numbers) ≡ length numbers =
     λ n. ap (get_or places n) size ∙ ap (λ (ps : List ℕ). get_or ps n most) is ∙ elim (cases_lt n count) [

@@ -44,25 +44,33 @@ module _ (o : OrderState) {ps ks : List (Content Cap)} {ms : List Bool} (are : A
         ((q : ℕ) → q ≢ p → entry_in qs js ls q ≡ entry q) → entries_of o qs js ls ≡ with_entry_of change n s
     replaced qs js ls change here others =
         ap (λ (es : List (Option Entry)). let t : EntriesState = record { at = es; order = o.numbers; most = o.most } in t)
-        (changed_once (map (option_map entry) o.places) (map (option_map (entry_in qs js ls)) o.places) n None (option_map change (entry_at s.at n))
+        (changed_once (map (option_map entry) o.places) (map (option_map (entry_in qs js ls)) o.places) n None
+        (option_map change (entry_at s.at n))
         (length-map o.places (option_map (entry_in qs js ls)) ∙ sym (length-map o.places (option_map entry)))
         (omega (arith, some_within o.places n (ap is_some at), length-map o.places (option_map entry)))
         (get_map (option_map (entry_in qs js ls)) o.places n None None refl ∙ ap (option_map (entry_in qs js ls)) at
         ∙ ap Some here ∙ sym (ap (option_map change) (at_is n ∙ ap (option_map entry) at)))
         (λ m other. get_map (option_map (entry_in qs js ls)) o.places m None None refl
-        ∙ elsewhere (entry_in qs js ls) entry (place_at o.places m) (λ q is. others q (λ same. other (spread.apart m n p (is ∙ ap Some same) at)))
+        ∙ elsewhere (entry_in qs js ls) entry (place_at o.places m) (λ q is. others q
+        (λ same. other (spread.apart m n p (is ∙ ap Some same) at)))
         ∙ sym (get_map (option_map entry) o.places m None None refl)))
-        ∙ ap (λ (t : EntriesState). let u : EntriesState = record { at = set t.at n (option_map change (entry_at s.at n)); order = t.order; most = t.most }
+        ∙ ap (λ (t : EntriesState). let u : EntriesState = record {
+          at = set t.at n (option_map change (entry_at s.at n));
+          order = t.order;
+          most = t.most;
+        }
         in u) view
 
     -- it holds something else now
-    pub present_put : (change : Content Cap → Content Cap) → entries_of o (set ps p (change (held_at ps p))) ks ms ≡ with_entry_of (changing change) n s
+    pub present_put : (change : Content Cap → Content Cap) → entries_of o (set ps p (change (held_at ps p))) ks ms
+        ≡ with_entry_of (changing change) n s
     present_put change =
         let c = change (held_at ps p) in
         replaced (set ps p c) ks ms (changing change)
         (ap (λ (d : Content Cap). let e : Entry = record { present = d; kept = (entry p).kept } in e)
         (get_or-set_same ps p c content.Free (omega (arith, below, are.presents))))
-        (λ q other. ap (λ (d : Content Cap). let e : Entry = record { present = d; kept = (entry q).kept } in e) (get_or-set_other ps p q c content.Free other))
+        (λ q other. ap (λ (d : Content Cap). let e : Entry = record { present = d; kept = (entry q).kept } in e)
+        (get_or-set_other ps p q c content.Free other))
 
     -- something else is kept, or nothing
     abbrev kept_by : Bool → Content Cap → Option (Content Cap)
@@ -84,7 +92,8 @@ module _ (o : OrderState) {ps ks : List (Content Cap)} {ms : List Bool} (are : A
 
   -- a number gets a place that none has
   pub entered : (n p : ℕ) (c : Content Cap) → n < length s.at → p < o.most → ((m : ℕ) → place_at o.places m ≢ Some p) →
-      entries_of (record { numbers = n ∷ o.numbers; places = set o.places n (Some p); most = o.most }) (set ps p c) ks (set ms p false) ≡ with_new n c s
+      entries_of (record { numbers = n ∷ o.numbers; places = set o.places n (Some p); most = o.most }) (set ps p c) ks (set ms p false)
+      ≡ with_new n c s
   entered n p c inside within fresh =
       let known : n < length o.places = omega (arith, inside, known_is) in
       let qs = set ps p c in
@@ -98,7 +107,8 @@ module _ (o : OrderState) {ps ks : List (Content Cap)} {ms : List Bool} (are : A
       (get_or-set_other ms p q false false other) in
       ap (λ (es : List (Option Entry)). let t : EntriesState = record { at = es; order = n ∷ o.numbers; most = o.most } in t)
       (changed_once (map (option_map entry) o.places) (map (option_map (entry_in qs ks ls)) (set o.places n (Some p))) n None (Some new)
-      (length-map (set o.places n (Some p)) (option_map (entry_in qs ks ls)) ∙ length-set o.places n (Some p) ∙ sym (length-map o.places (option_map entry)))
+      (length-map (set o.places n (Some p)) (option_map (entry_in qs ks ls)) ∙ length-set o.places n (Some p)
+      ∙ sym (length-map o.places (option_map entry)))
       (omega (arith, known, length-map o.places (option_map entry)))
       (get_map (option_map (entry_in qs ks ls)) (set o.places n (Some p)) n None None refl
       ∙ ap (option_map (entry_in qs ks ls)) (get_or-set_same o.places n (Some p) None known) ∙ ap Some here)

@@ -11,15 +11,16 @@ use Rattle.cache_entries.proofs.Orders.{not_here, member_end, without_here, with
 pub member_used : (n : ℕ) (ns : List ℕ) (m : ℕ) → is_member ns n ≡ true → is_member (n ∷ without n ns) m ≡ is_member ns m
 member_used n ns m is = grind (arith, nat_tests, member_head, member_tail, still)
 
-pub member_in_turn : (ns order : List ℕ) (m : ℕ) → ((k : ℕ) → is_member ns k ≡ true → is_member order k ≡ true) → is_member (used_in_turn ns order) m ≡
-    is_member order m
+pub member_in_turn : (ns order : List ℕ) (m : ℕ) → ((k : ℕ) → is_member ns k ≡ true → is_member order k ≡ true) →
+    is_member (used_in_turn ns order) m ≡ is_member order m
 member_in_turn [] order m listed = refl
 member_in_turn (n ∷ ns) order m listed =
     let here = listed n (member_head n n ns refl) in
     member_in_turn ns (n ∷ without n order) m (λ k is. member_used n order k here ∙ listed k (in_tail n ns k is))
     ∙ member_used n order m here
 
-pub length_in_turn : (ns order : List ℕ) → ((k : ℕ) → is_member ns k ≡ true → is_member order k ≡ true) → length (used_in_turn ns order) ≡ length order
+pub length_in_turn : (ns order : List ℕ) → ((k : ℕ) → is_member ns k ≡ true → is_member order k ≡ true) →
+    length (used_in_turn ns order) ≡ length order
 length_in_turn [] order listed = refl
 length_in_turn (n ∷ ns) order listed =
     let here = listed n (member_head n n ns refl) in
@@ -45,7 +46,8 @@ used_at_end [] n order = refl
 used_at_end (m ∷ ms) n order = used_at_end ms n (m ∷ without m order)
 
 -- the uses of others leave it where it is
-pub without_in_turn : (n : ℕ) (ns order : List ℕ) → is_member ns n ≡ false → without n (used_in_turn ns order) ≡ used_in_turn ns (without n order)
+pub without_in_turn : (n : ℕ) (ns order : List ℕ) → is_member ns n ≡ false →
+    without n (used_in_turn ns order) ≡ used_in_turn ns (without n order)
 without_in_turn n [] order none = refl
 without_in_turn n (m ∷ ms) order none =
     let apart = not_here m ms n none in
@@ -82,10 +84,17 @@ pub one_more : (s t : List ℕ) (ns : List ℕ) (i : ℕ) → i < length ns → 
     get_or ns i 0 ∷ without (get_or ns i 0) t ≡ used_in_turn (take (i + 1) ns) s
 one_more s t ns i below is = cc (used_at_end (take i ns) (get_or ns i 0) s, take_more ns i 0 below)
 
-pub listed_more : (s t : List ℕ) (ns : List ℕ) (i : ℕ) → i < length ns → t ≡ used_in_turn (take i ns) s → is_member t (get_or ns i 0) ≡ true →
-    ((n : ℕ) → is_member (take i ns) n ≡ true → is_member s n ≡ true) → (n : ℕ) → is_member (take (i + 1) ns) n ≡ true → is_member s n ≡ true
+pub listed_more : (s t : List ℕ) (ns : List ℕ) (i : ℕ) → i < length ns → t ≡ used_in_turn (take i ns) s →
+    is_member t (get_or ns i 0) ≡ true → ((n : ℕ) → is_member (take i ns) n ≡ true → is_member s n ≡ true) → (n : ℕ) →
+    is_member (take (i + 1) ns) n ≡ true → is_member s n ≡ true
 listed_more s t ns i below is here listed n has =
-    grind (arith, nat_tests, take_more ns i 0 below, member_end (take i ns) (get_or ns i 0) n, member_in_turn (take i ns) s (get_or ns i 0) listed)
+    grind (
+      arith,
+      nat_tests,
+      take_more ns i 0 below,
+      member_end (take i ns) (get_or ns i 0) n,
+      member_in_turn (take i ns) s (get_or ns i 0) listed,
+    )
 
 pub differ_end : (ns : List ℕ) (n : ℕ) → AllDiffer ns → is_member ns n ≡ false → AllDiffer (ns ++ n ∷ [])
 differ_end [] n once none = (refl, tt)
@@ -112,7 +121,8 @@ pub left_out : (uses : List ℕ) (i : ℕ) (o : OrderState) → i < length uses 
 left_out uses i o below later = settles uses i o below ∙ used_again (get_or uses i 0) (drop (i + 1) uses) o later
 
 -- a number is new in the order, and used after those of the log
-pub new_last : (uses order : List ℕ) (n : ℕ) → is_member uses n ≡ false → used_in_turn (uses ++ n ∷ []) (n ∷ order) ≡ n ∷ used_in_turn uses order
+pub new_last : (uses order : List ℕ) (n : ℕ) → is_member uses n ≡ false → used_in_turn (uses ++ n ∷ []) (n ∷ order)
+    ≡ n ∷ used_in_turn uses order
 new_last uses order n none =
     used_at_end uses n (n ∷ order)
     ∙ ap (λ (rest : List ℕ). n ∷ rest) (without_in_turn n uses (n ∷ order) none ∙ ap (used_in_turn uses) (without_here n n order refl))
@@ -138,8 +148,8 @@ last_without m (k ∷ l ∷ ks) n other last =
           ∙ last_behind k (without m (l ∷ ks)) n (last_without m (l ∷ ks) n other behind)
     ]
 
-pub last_in_turn : (ns order : List ℕ) (n : ℕ) → is_member ns n ≡ false → used_longest_ago order ≡ Some n → used_longest_ago (used_in_turn ns order) ≡
-    Some n
+pub last_in_turn : (ns order : List ℕ) (n : ℕ) → is_member ns n ≡ false → used_longest_ago order ≡ Some n →
+    used_longest_ago (used_in_turn ns order) ≡ Some n
 last_in_turn [] order n none last = last
 last_in_turn (m ∷ ms) order n none last =
     let apart = not_here m ms n none in
@@ -173,7 +183,8 @@ module _ {keys : List ℕ} {count : ℕ} (are : IsFilled keys count) (p : ℕ) (
   pub filled_back : IsFilled (without p keys ++ p ∷ []) count
   filled_back = grind (arith, nat_tests, differ_end, differ_without, gone, length-append, length_without, member_end, member_used)
 
-pub filled_used : (p : ℕ) (es : List (ℕ × Unit {0})) {count : ℕ} → IsFilled (keys_of es) count → IsFilled (keys_of (promoted (nat_eq p) es)) count
+pub filled_used : (p : ℕ) (es : List (ℕ × Unit {0})) {count : ℕ} → IsFilled (keys_of es) count →
+    IsFilled (keys_of (promoted (nat_eq p) es)) count
 filled_used p es {count} are = go (is_member (keys_of es) p) refl
   where
     go : (t : Bool) → is_member (keys_of es) p ≡ t → IsFilled (keys_of (promoted (nat_eq p) es)) count

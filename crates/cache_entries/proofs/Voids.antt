@@ -8,11 +8,15 @@ use Rattle.cache_entries.proofs.Stored.{some_within}
 
 -- slots that are all void are void from the start
 pub void_from_start : (slots : List Cap) → slots ≡ replicate 32 void_held → AreVoidFrom 0 slots
-void_from_start slots are = (omega arith, λ i from within. ap (λ (it : List Cap). get_or it i void_held) are ∙ get_or-replicate 32 i void_held void_held within)
+void_from_start slots are = (
+  omega arith,
+  λ i from within. ap (λ (it : List Cap). get_or it i void_held) are
+      ∙ get_or-replicate 32 i void_held void_held within,
+)
 
 -- slots are void that are so up to an index, and from one before it on
-pub all_void : (slots : List Cap) (end index : ℕ) → length slots ≡ 32 → end ≤ index → ((i : ℕ) → i < index → get_or slots i void_held ≡ void_held)
-    → AreVoidFrom end slots → slots ≡ replicate 32 void_held
+pub all_void : (slots : List Cap) (end index : ℕ) → length slots ≡ 32 → end ≤ index →
+    ((i : ℕ) → i < index → get_or slots i void_held ≡ void_held) → AreVoidFrom end slots → slots ≡ replicate 32 void_held
 all_void slots end index count past before from =
     same_lists slots (replicate 32 void_held) (count ∙ sym (length-replicate {A = Cap} 32 void_held)) (λ k d within.
     let void : get_or slots k void_held ≡ void_held = grind (arith, before k, from.1 k) in
@@ -40,7 +44,8 @@ module _ {ns : List (Option (List Cap))} {ends : List ℕ} (are : AreEnds ns end
     count = omega (arith, are.count, length-set ends k e, length-set ns k (Some slots));
     void = λ m s at. elim (cases_eq m k) [
       | inl same ↦
-          let here : s ≡ slots = same_Some s slots (sym at ∙ ap (item_at (set ns k (Some slots))) same ∙ get_or-set_same ns k (Some slots) None below) in
+          let here : s ≡ slots = same_Some s slots (sym at ∙ ap (item_at (set ns k (Some slots))) same
+          ∙ get_or-set_same ns k (Some slots) None below) in
           let end : get_or (set ends k e) m 0 ≡ e = ap (λ (i : ℕ). get_or (set ends k e) i 0) same
           ∙ get_or-set_same ends k e 0 (omega (arith, below, are.count)) in
           subst (λ (i : ℕ). AreVoidFrom i s) (sym end) (subst (AreVoidFrom e) (sym here) void)
@@ -63,7 +68,8 @@ module _ {ns : List (Option (List Cap))} {ends : List ℕ} (are : AreEnds ns end
       ends_put k e (set (slots_at ns k) i c) (some_place ns k there) (
         few,
         λ j from past.
-            get_or-set_other (slots_at ns k) i j c void_held (λ same. omega (arith, same, from, new)) ∙ before.1 j (omega (arith, from, old)) past,
+            get_or-set_other (slots_at ns k) i j c void_held (λ same. omega (arith, same, from, new))
+            ∙ before.1 j (omega (arith, from, old)) past,
       )
 
 none_there : (most k : ℕ) → item_at {T = List Cap} (replicate most None) k ≡ None
@@ -72,7 +78,8 @@ none_there most k = elim (cases_lt k most) [
   | inr past ↦ get_or_past (replicate most None) k None (omega (arith, past, length-replicate {A = Option (List Cap)} most None))
 ]
 
-pub no_ends : (ns : List (Option (List Cap))) (most : ℕ) (ends : List ℕ) → ns ≡ replicate most None → ends ≡ replicate most 0 → AreEnds ns ends
+pub no_ends : (ns : List (Option (List Cap))) (most : ℕ) (ends : List ℕ) → ns ≡ replicate most None → ends ≡ replicate most 0 →
+    AreEnds ns ends
 no_ends ns most ends none is = record {
   count = ap length is ∙ length-replicate {A = ℕ} most 0 ∙ sym (ap length none ∙ length-replicate {A = Option (List Cap)} most None);
   void = λ k s at. absurd (none-some s (sym (ap (λ (xs : List (Option (List Cap))). item_at xs k) none ∙ none_there most k) ∙ at));

@@ -20,7 +20,8 @@ void_either : (b : Bool) → Void ≡ (if b then Void else Void)
 void_either b = grind (arith, nat_tests)
 
 -- two tables: the later one counts one more for the capabilities that go
-module _ (goes : Capability → Bool) (hs ks : List ObjectHeader) (raises : (w : Capability) → current_count ks w ≡ raised (goes w) (current_count hs w)) where
+module _ (goes : Capability → Bool) (hs ks : List ObjectHeader) (raises : (w : Capability) →
+    current_count ks w ≡ raised (goes w) (current_count hs w)) where
   stale : (c : Cap) → IsCurrent hs c → conveyed ks c ≡ void_where goes (conveyed hs c)
   stale c current = grind (arith, nat_tests, void_either)
 
@@ -34,7 +35,8 @@ module _ (goes : Capability → Bool) (hs ks : List ObjectHeader) (raises : (w :
   twice [] = refl
   twice (x ∷ xs) = ap (λ (t : List Capability). void_where goes (conveyed hs x) ∷ t) (twice xs)
 
-  content_twice : (c : Content Cap) → map_content (void_where goes) (map_content (conveyed hs) c) ≡ map_content (λ d. void_where goes (conveyed hs d)) c
+  content_twice : (c : Content Cap) → map_content (void_where goes) (map_content (conveyed hs) c)
+      ≡ map_content (λ d. void_where goes (conveyed hs d)) c
   content_twice c = grind (arith, nat_tests, twice)
 
   -- what a content conveys later is what it conveyed, without what goes
@@ -49,9 +51,9 @@ allocations_given b h k is = grind (arith, nat_tests)
 calls_given : (b : Bool) (h k : ObjectHeader) → k ≡ (if b then given_up h else h) → k.calls ≡ raised b h.calls
 calls_given b h k is = grind (arith, nat_tests)
 
-given_object : (set : List ℕ) (hs ks : List ObjectHeader) → ((w : Capability) → current_count ks w ≡ raised (names_member set w) (current_count hs w)) →
-    (b : Bool) (h k : ObjectHeader) (c d : Content Cap) → k ≡ (if b then given_up h else h) → d ≡ (if b then content.Free else c) →
-    All (IsCurrent hs) (caps_in c) →
+given_object : (set : List ℕ) (hs ks : List ObjectHeader) → ((w : Capability) →
+    current_count ks w ≡ raised (names_member set w) (current_count hs w)) → (b : Bool) (h k : ObjectHeader) (c d : Content Cap) →
+    k ≡ (if b then given_up h else h) → d ≡ (if b then content.Free else c) → All (IsCurrent hs) (caps_in c) →
     (let o : Object = record { owner = k.owner; content = map_content (conveyed ks) d } in o)
     ≡ (if b then free else without (names_member set) (record { owner = h.owner; content = map_content (conveyed hs) c }))
 given_object set hs ks raises b h k c d is are all = grind (arith, nat_tests, conveyed_without)
@@ -85,7 +87,8 @@ module _ (set : List ℕ) (p q : Parts) (given : AreGivenUp set p q) where
 
   length_rescinded : (os : List Object) → length (rescind set os) ≡ length os
   unfolding rescind
-  length_rescinded os = length-map (enumerate_from 0 os) (λ e. if is_member set e.0 then free else without (names_member set) e.1) ∙ length-enumerate_from 0 os
+  length_rescinded os = length-map (enumerate_from 0 os) (λ e. if is_member set e.0 then free else without (names_member set) e.1)
+      ∙ length-enumerate_from 0 os
 
   -- raising both counts of the members and freeing them is rescinding them
   pub objects_given_up : AreCurrent (frames_of p) → objects_in q ≡ rescind set (objects_in p)
@@ -96,7 +99,8 @@ module _ (set : List ℕ) (p q : Parts) (given : AreGivenUp set p q) where
       (λ n known.
       let old : n < length p.headers = omega (arith, given.header_count) in
       let inside : n < length os = omega (arith, count) in
-      given_object set p.headers q.headers given_raises (is_member set n) (header_at p.headers n) (header_at q.headers n) (held_at p.contents n)
+      given_object set p.headers q.headers given_raises (is_member set n) (header_at p.headers n) (header_at q.headers n)
+      (held_at p.contents n)
       (held_at q.contents n)
       (given.headers n) (given.contents n) (current_held p current n old)
       ∙ sym (rescinded_at os n inside
@@ -105,7 +109,8 @@ module _ (set : List ℕ) (p q : Parts) (given : AreGivenUp set p q) where
   pub current_given_up : AreCurrent (frames_of p) → AreCurrent (frames_of q)
   current_given_up current = grind (arith, nat_tests, current_from, all_current, given_raises, current_held)
 
-  pub keepable_given_up : (g : Geometry) (age : ℕ) → age + 1 < 2 ^ 64 → AreKeepable g age (frames_of p) → AreKeepable g (age + 1) (frames_of q)
+  pub keepable_given_up : (g : Geometry) (age : ℕ) → age + 1 < 2 ^ 64 → AreKeepable g age (frames_of p) →
+      AreKeepable g (age + 1) (frames_of q)
   keepable_given_up g age few k = keepable_from g (age + 1) q (given.header_count ∙ keepable_count g age p k) (λ n known.
       let old : n < length p.headers = omega (arith, given.header_count) in
       given_kept g age n few (is_member set n) (header_at p.headers n) (header_at q.headers n) (held_at p.contents n) (held_at q.contents n)
@@ -146,12 +151,14 @@ pub rescind_keeps_sound_frames : RescindKeepsSoundFrames
 rescind_keeps_sound_frames g age set old new frames given world = record {
   keepable = keepable_given_up set old new given g age (omega (arith, world.age)) frames.keepable;
   current = current_given_up set old new given frames.current;
-  sound = subst (λ (os : List Object). IsSound g (record { objects = os; age = age + 1 })) (sym (objects_given_up set old new given frames.current)) world;
+  sound = subst (λ (os : List Object). IsSound g (record { objects = os; age = age + 1 }))
+      (sym (objects_given_up set old new given frames.current)) world;
 }
 
 pub consume_keeps_sound_frames : ConsumeKeepsSoundFrames
 consume_keeps_sound_frames g age p old new frames known is world = record {
   keepable = call_stays_keepable g age old new p known (omega (arith, world.age)) is frames.keepable;
   current = current_called p old new known is frames.current;
-  sound = subst (λ (os : List Object). IsSound g (record { objects = os; age = age + 1 })) (sym (objects_called p old new known is frames.current)) world;
+  sound = subst (λ (os : List Object). IsSound g (record { objects = os; age = age + 1 }))
+      (sym (objects_called p old new known is frames.current)) world;
 }

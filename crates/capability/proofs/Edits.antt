@@ -1,4 +1,5 @@
--- What frames stand for once the header or the content at one number has changed, or the root of a process. What an edit of present frames leaves.
+-- What frames stand for once the header or the content at one number has changed, or the root of a process. What an edit of present frames
+-- leaves.
 use Rattle.capability.proofs.Names.{ℕ, suc, inl, inr, nat_lt, List, [], map, length, slice_index_or, slice_set, refl, sym, ap, subst, arith, All, get_or-map}
 use Rattle.capability.proofs.Names.{map-set_same, cases_lt, nat_tests, length-set, map-set, set-get_or, All-replicate, All-set, Cap, Capability, Void, Page}
 use Rattle.capability.proofs.Names.{Node, Space, Process, Start, Resume, Bank, Frame, ObjectHeader, Content, Object, blank_header, conveyed, current_count}
@@ -26,8 +27,8 @@ abbrev pub HasCounts : ObjectHeader → ObjectHeader → Type 0
 HasCounts h k = (h.allocations ≡ k.allocations) × (h.calls ≡ k.calls)
 
 -- a field that is as it was in the header that is set is as it was in each
-pub field_same : (field : ObjectHeader → ℕ) (hs : List ObjectHeader) (n : ℕ) (h : ObjectHeader) → field h ≡ field (header_at hs n) → (m : ℕ) →
-    field (header_at (slice_set hs n h) m) ≡ field (header_at hs m)
+pub field_same : (field : ObjectHeader → ℕ) (hs : List ObjectHeader) (n : ℕ) (h : ObjectHeader) → field h ≡ field (header_at hs n) →
+    (m : ℕ) → field (header_at (slice_set hs n h) m) ≡ field (header_at hs m)
 field_same field hs n h same m =
     cc (get_or-map field (slice_set hs n h) m blank_header, map-set_same field hs n h blank_header same, get_or-map field hs m blank_header)
 
@@ -56,23 +57,27 @@ pub content_kept : (p : Parts) (n : ℕ) (h : ObjectHeader) → with_header p n 
 content_kept p n h = grind (arith, nat_tests, set-get_or)
 
 -- capabilities of each frame, by the two lists
-pub current_held : (p : Parts) → AreCurrent (frames_of p) → (n : ℕ) → n < length p.headers → All (IsCurrent p.headers) (caps_in (held_at p.contents n))
+pub current_held : (p : Parts) → AreCurrent (frames_of p) → (n : ℕ) → n < length p.headers →
+    All (IsCurrent p.headers) (caps_in (held_at p.contents n))
 current_held p current n known =
     subst (λ (hs : List ObjectHeader). All (IsCurrent hs) (caps_in (held_at p.contents n))) (headers_in p.headers p.contents)
     (subst (λ (f : Frame). All (IsCurrent (headers (frames_of p))) (caps_in f.content)) (frame_in p.headers p.contents n known) (current n))
 
-pub current_from : (p : Parts) → ((n : ℕ) → n < length p.headers → All (IsCurrent p.headers) (caps_in (held_at p.contents n))) → AreCurrent (frames_of p)
+pub current_from : (p : Parts) → ((n : ℕ) → n < length p.headers → All (IsCurrent p.headers) (caps_in (held_at p.contents n))) →
+    AreCurrent (frames_of p)
 current_from p each n = elim (cases_lt n (length p.headers)) [
   | inl known ↦
       subst (λ (f : Frame). All (IsCurrent (headers (frames_of p))) (caps_in f.content)) (sym (frame_in p.headers p.contents n known))
-      (subst (λ (hs : List ObjectHeader). All (IsCurrent hs) (caps_in (held_at p.contents n))) (sym (headers_in p.headers p.contents)) (each n known))
+      (subst (λ (hs : List ObjectHeader). All (IsCurrent hs) (caps_in (held_at p.contents n))) (sym (headers_in p.headers p.contents))
+      (each n known))
   | inr past ↦
       subst (λ (f : Frame). All (IsCurrent (headers (frames_of p))) (caps_in f.content)) (sym (frame_past p.headers p.contents n past))
       (λ k d inside. absurd (omega arith))
 ]
 
 -- An edit at a number that leaves both counts: the objects change there alone.
-module _ (p : Parts) (n : ℕ) (h : ObjectHeader) (c : Content Cap) (inside : n < length p.contents) (same : HasCounts h (header_at p.headers n)) where
+module _ (p : Parts) (n : ℕ) (h : ObjectHeader) (c : Content Cap) (inside : n < length p.contents)
+    (same : HasCounts h (header_at p.headers n)) where
   pub objects_set : objects_in (with_both p n h c)
       ≡ slice_set (objects_in p) n (record { owner = h.owner; content = map_content (conveyed p.headers) c })
   unfolding objects_of
@@ -82,12 +87,14 @@ module _ (p : Parts) (n : ℕ) (h : ObjectHeader) (c : Content Cap) (inside : n 
       let frame : Frame = record { header = h; content = c } in
       let alike : (f : Frame) → object_of hs f ≡ object_of p.headers f =
       λ f. ap (λ (d : Content Capability). let o : Object = record { owner = f.header.owner; content = d } in o)
-      (content_agree (conveyed hs) (conveyed p.headers) f.content (λ k d within. conveyed_same p.headers n h same (slice_index_or (caps_in f.content) k d))) in
+      (content_agree (conveyed hs) (conveyed p.headers) f.content (λ k d within. conveyed_same p.headers n h same
+      (slice_index_or (caps_in f.content) k d))) in
       ap (λ (ks : List ObjectHeader). map (object_of ks) fs) (headers_in hs (slice_set p.contents n c))
       ∙ map_agree (object_of hs) (object_of p.headers) fs (λ k d within. alike (slice_index_or fs k d))
       ∙ ap (map (object_of p.headers)) (set_in p.headers p.contents n h c inside)
       ∙ map-set (object_of p.headers) (frames_of p) n frame
-      ∙ ap (λ (ks : List ObjectHeader). slice_set (map (object_of ks) (frames_of p)) n (object_of p.headers frame)) (sym (headers_in p.headers p.contents))
+      ∙ ap (λ (ks : List ObjectHeader). slice_set (map (object_of ks) (frames_of p)) n (object_of p.headers frame))
+      (sym (headers_in p.headers p.contents))
 
   -- and capabilities that are live or stale stay so
   pub current_set : All (IsCurrent p.headers) (caps_in c) → AreCurrent (frames_of p) → AreCurrent (frames_of (with_both p n h c))
@@ -96,7 +103,8 @@ module _ (p : Parts) (n : ℕ) (h : ObjectHeader) (c : Content Cap) (inside : n 
       current_from (with_both p n h c) (λ m known.
       let old : m < length p.headers = omega (arith, length-set p.headers n h) in
       let held : All (IsCurrent p.headers) (caps_in (held_at (slice_set p.contents n c) m)) =
-      at_set (λ (k : ℕ) (d : Content Cap). All (IsCurrent p.headers) (caps_in d)) p.contents n m c content.Free new (current_held p current m old) in
+      at_set (λ (k : ℕ) (d : Content Cap). All (IsCurrent p.headers) (caps_in d)) p.contents n m c content.Free new
+      (current_held p current m old) in
       λ k d within. let is = current_same p.headers n h same (slice_index_or (caps_in (held_at (slice_set p.contents n c) m)) k d).what in
       rw is (held k d within))
 
@@ -110,11 +118,12 @@ module _ (p : Parts) (n : ℕ) (c : Content Cap) (known : n < length p.headers) 
   held_current new current = grind (arith, nat_tests, header_kept, current_set)
 
 -- a change of a slot, a word or a message goes through the map
-pub slot_through_map : (f : Cap → Capability) (c : Content Cap) (i : ℕ) (held : Cap) → map_content f (with_slot_in c i held) ≡ with_slot_in (map_content f c) i
-    (f held)
+pub slot_through_map : (f : Cap → Capability) (c : Content Cap) (i : ℕ) (held : Cap) →
+    map_content f (with_slot_in c i held) ≡ with_slot_in (map_content f c) i (f held)
 slot_through_map f c i held = grind (arith, nat_tests, map-set)
 
-pub word_through_map : (f : Cap → Capability) (c : Content Cap) (i word : ℕ) → map_content f (with_word_in c i word) ≡ with_word_in (map_content f c) i word
+pub word_through_map : (f : Cap → Capability) (c : Content Cap) (i word : ℕ) →
+    map_content f (with_word_in c i word) ≡ with_word_in (map_content f c) i word
 word_through_map f c i word = grind (arith, nat_tests)
 
 -- what a content holds after it is live or stale where what it held was
@@ -138,7 +147,8 @@ module _ (p q : Parts) (n : ℕ) (known : n < length p.headers) (inside : n < le
       objects_in q ≡ slice_set (objects_in p) n (record { owner = bank; content = content_at (objects_in p) n })
   owner_objects bank is = grind (arith, nat_tests, content_kept, objects_set, content_there)
 
-  pub owner_stays_current : (bank : ℕ) → q ≡ with_header p n (owned_by bank (header_at p.headers n)) → AreCurrent (frames_of p) → AreCurrent (frames_of q)
+  pub owner_stays_current : (bank : ℕ) → q ≡ with_header p n (owned_by bank (header_at p.headers n)) → AreCurrent (frames_of p) →
+      AreCurrent (frames_of q)
   owner_stays_current bank is current = grind (arith, nat_tests, content_kept, current_set, current_held)
 
 slots_current : (hs : List ObjectHeader) → All (IsCurrent hs) (all_slots void_held)
@@ -156,15 +166,16 @@ module _ (p q : Parts) (n : ℕ) (inside : n < length p.contents) (f : Fresh) (o
 
 -- a change that goes through the map of capabilities
 abbrev pub GoesThrough : (Root Cap → Root Cap) → (Root Capability → Root Capability) → (Cap → Capability) → Type 0
-GoesThrough change after f = (r : Root Cap) → map_content f (content.Root (change r)) ≡ content.Root (after (root_in (map_content f (content.Root r))))
+GoesThrough change after f = (r : Root Cap) → map_content f (content.Root (change r))
+    ≡ content.Root (after (root_in (map_content f (content.Root r))))
 
-pub through_map : (change : Root Cap → Root Cap) (after : Root Capability → Root Capability) (f : Cap → Capability) → GoesThrough change after f →
-    (c : Content Cap) →
+pub through_map : (change : Root Cap → Root Cap) (after : Root Capability → Root Capability) (f : Cap → Capability) →
+    GoesThrough change after f → (c : Content Cap) →
     is_root (map_content f c) ≡ true → map_content f (with_root_in change c) ≡ content.Root (after (root_in (map_content f c)))
 through_map change after f through c is = grind (arith, nat_tests)
 
-pub root_current : (hs : List ObjectHeader) (change : Root Cap → Root Cap) → ((r : Root Cap) → IsCurrent hs r.space → IsCurrent hs (change r).space) →
-    (c : Content Cap) →
+pub root_current : (hs : List ObjectHeader) (change : Root Cap → Root Cap) →
+    ((r : Root Cap) → IsCurrent hs r.space → IsCurrent hs (change r).space) → (c : Content Cap) →
     All (IsCurrent hs) (caps_in c) → All (IsCurrent hs) (caps_in (with_root_in change c))
 root_current hs change stays c all = grind (arith, nat_tests)
 
@@ -208,22 +219,25 @@ module _ (p q : Parts) (n : ℕ) (known : n < length p.headers) (inside : n < le
   there = content_there p n known held refl
 
   content_edit : (new : Content Cap) (conveys : Content Capability) (may : ℕ → Type 0) → map_content (conveyed p.headers) new ≡ conveys →
-      (All (IsCurrent p.headers) (caps_in held) → All (IsCurrent p.headers) (caps_in new)) → ((age : ℕ) → may age → kept held age → kept new age) →
-      q ≡ with_held p n new → IsEdit p q (with_content (objects_in p) n conveys) may
+      (All (IsCurrent p.headers) (caps_in held) → All (IsCurrent p.headers) (caps_in new)) →
+      ((age : ℕ) → may age → kept held age → kept new age) → q ≡ with_held p n new → IsEdit p q (with_content (objects_in p) n conveys) may
   content_edit new conveys may through current keeps is = record {
     objects = ap (λ (r : Parts). objects_in r) is ∙ held_objects p n new known inside ∙ ap (with_content (objects_in p) n) through;
-    current = λ k. subst (λ (r : Parts). AreCurrent (frames_of r)) (sym is) (held_current p n new known inside (current (current_held p k n known)) k);
+    current = λ k. subst (λ (r : Parts). AreCurrent (frames_of r)) (sym is)
+        (held_current p n new known inside (current (current_held p k n known)) k);
     keepable = λ age allowed k.
         one_keepable p.geometry age age (omega arith) p q n (header_at p.headers n) new inside (is ∙ header_kept p n new)
         (keeps age allowed (keepable_at p.geometry age p n known k)) k;
   }
 
-  pub word_edit : (i word : ℕ) → word < 2 ^ 64 → q ≡ with_held p n (with_word_in held i word) → IsEdit p q (with_word (objects_in p) n i word) (λ age. Unit {0})
+  pub word_edit : (i word : ℕ) → word < 2 ^ 64 → q ≡ with_held p n (with_word_in held i word) →
+      IsEdit p q (with_word (objects_in p) n i word) (λ age. Unit {0})
   unfolding with_word
   word_edit i word fits h1 = search (content_edit, word_through_map, there, word_current, with_word_keeps)
 
   pub slot_edit : (i : ℕ) (w : Capability) → q ≡ with_held p n (with_slot_in held i (live_cap p.headers w)) →
-      IsEdit p q (with_slot (objects_in p) n i w) (λ age. IsKeptCap p.geometry age (live_cap p.headers w) × (IsTrue (is_annex held) → i ≡ 0 → w ≡ Void))
+      IsEdit p q (with_slot (objects_in p) n i w) (λ age. IsKeptCap p.geometry age (live_cap p.headers w)
+      × (IsTrue (is_annex held) → i ≡ 0 → w ≡ Void))
   unfolding with_slot
   slot_edit i w =
       let f = conveyed p.headers in
@@ -237,15 +251,16 @@ module _ (p q : Parts) (n : ℕ) (known : n < length p.headers) (inside : n < le
   pub root_edit : (change : Root Cap → Root Cap) (after : Root Capability → Root Capability) (may : ℕ → Type 0) →
       GoesThrough change after (conveyed p.headers) →
       ((r : Root Cap) → IsCurrent p.headers r.space → IsCurrent p.headers (change r).space) →
-      ((age : ℕ) → may age → (r : Root Cap) → MayBeKept p.geometry age (content.Root r) → MayBeKept p.geometry age (content.Root (change r))) →
-      is_process (objects_in p) n ≡ true → q ≡ with_held p n (with_root_in change held) →
-      IsEdit p q (with_root (objects_in p) n (after (root_at (objects_in p) n))) may
+      ((age : ℕ) → may age → (r : Root Cap) → MayBeKept p.geometry age (content.Root r) →
+      MayBeKept p.geometry age (content.Root (change r))) → is_process (objects_in p) n ≡ true →
+      q ≡ with_held p n (with_root_in change held) → IsEdit p q (with_root (objects_in p) n (after (root_at (objects_in p) n))) may
   unfolding with_root
   root_edit change after may through current stays process =
       content_edit (with_root_in change held) (content.Root (after (root_at (objects_in p) n))) may
       (through_map change after (conveyed p.headers) through held (sym (ap is_root there) ∙ process) ∙
       ap (λ (d : Content Capability). content.Root (after (root_in d))) (sym there))
-      (root_current p.headers change current held) (λ age allowed. root_keeps p.geometry age n (header_at p.headers n) change (stays age allowed) held)
+      (root_current p.headers change current held) (λ age allowed. root_keeps p.geometry age n (header_at p.headers n) change
+      (stays age allowed) held)
 
 -- capabilities in the slots from i on, after the first
 pub slots_edit : (p q : Parts) (n : ℕ) → n < length p.headers → n < length p.contents → (i : ℕ) → 0 < i → (cs : List Capability) →
@@ -257,7 +272,8 @@ slots_edit p q n known inside i behind (c ∷ cs) is =
     let mid : Parts = with_held p n first in
     let step = slot_edit p mid n known inside i c refl in
     let last : Content Cap → Parts = λ d. with_held mid n (with_slots_in d (i + 1) (map (live_cap p.headers) cs)) in
-    let again : with_held p n (with_slots_in first (i + 1) (map (live_cap p.headers) cs)) ≡ last first = grind (arith, nat_tests, set-set) in
+    let again : with_held p n (with_slots_in first (i + 1) (map (live_cap p.headers) cs)) ≡ last first =
+    grind (arith, nat_tests, set-set) in
     let rest = slots_edit mid q n known (omega (arith, length-set p.contents n first)) (i + 1) (omega arith) cs
     (is ∙ again ∙ ap last (sym (get_or-set_same p.contents n first content.Free inside))) in
     record {
@@ -269,7 +285,7 @@ slots_edit p q n known inside i behind (c ∷ cs) is =
     }
 
 -- an edit of what an object holds
-pub edited : {S : Type 0} (parts : S → Parts) (Fetched Announced : S → ℕ → Type 0) (Continues : S → S → Type 0) (old new : S) (n : ℕ) (c : Content Cap)
-    (after : List Object) (may : ℕ → Type 0) → Becomes parts Fetched Announced Continues old new (with_held (parts old) n c) →
-    IsEdit (parts old) (parts new) after may → Edits parts Fetched Announced Continues old new after may
+pub edited : {S : Type 0} (parts : S → Parts) (Fetched Announced : S → ℕ → Type 0) (Continues : S → S → Type 0) (old new : S) (n : ℕ)
+    (c : Content Cap) (after : List Object) (may : ℕ → Type 0) → Becomes parts Fetched Announced Continues old new
+    (with_held (parts old) n c) → IsEdit (parts old) (parts new) after may → Edits parts Fetched Announced Continues old new after may
 edited parts Fetched Announced Continues old new n c after may becomes edit = grind (arith, nat_tests)

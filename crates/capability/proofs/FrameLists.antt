@@ -47,7 +47,8 @@ unfolding frames_in
 set_in [] cs n h c inside = refl
 set_in (g ∷ hs) [] n h c inside = absurd (omega arith)
 set_in (g ∷ hs) (d ∷ cs) zero h c inside = refl
-set_in (g ∷ hs) (d ∷ cs) (suc n) h c inside = ap (λ (t : List Frame). record { header = g; content = d } ∷ t) (set_in hs cs n h c (omega arith))
+set_in (g ∷ hs) (d ∷ cs) (suc n) h c inside = ap (λ (t : List Frame). record { header = g; content = d } ∷ t)
+    (set_in hs cs n h c (omega arith))
 
 -- the object that stands at a number
 abbrev pub shown_at : List ObjectHeader → List (Content Cap) → ℕ → Object
@@ -57,7 +58,8 @@ object_at_frame : (fs : List Frame) (n : ℕ) → object_at (objects_of fs) n �
 unfolding objects_of
 object_at_frame fs n = get_or-map (object_of (headers fs)) fs n blank_frame
 
-pub object_in : (hs : List ObjectHeader) (cs : List (Content Cap)) (n : ℕ) → n < length hs → object_at (objects_of (frames_in hs cs)) n ≡ shown_at hs cs n
+pub object_in : (hs : List ObjectHeader) (cs : List (Content Cap)) (n : ℕ) → n < length hs →
+    object_at (objects_of (frames_in hs cs)) n ≡ shown_at hs cs n
 object_in hs cs n inside = search (object_at_frame, frame_in, headers_in)
 
 pub length_objects : (hs : List ObjectHeader) (cs : List (Content Cap)) → length (objects_of (frames_in hs cs)) ≡ length hs
@@ -72,15 +74,18 @@ objects_by hs cs os count each =
     (λ i inside. let known : i < length hs = subst (λ k. i < k) (length_objects hs cs) inside in object_in hs cs i known ∙ each i known)
 
 -- past the last header stands what is free
-pub object_past : (hs : List ObjectHeader) (cs : List (Content Cap)) (n : ℕ) → length hs ≤ n → object_at (objects_of (frames_in hs cs)) n ≡ free
+pub object_past : (hs : List ObjectHeader) (cs : List (Content Cap)) (n : ℕ) → length hs ≤ n →
+    object_at (objects_of (frames_in hs cs)) n ≡ free
 object_past hs cs n past = get_or_past (objects_of (frames_in hs cs)) n free (rw length_objects past)
 
 -- the owner of what stands at a number is its header's
-pub owner_in : (hs : List ObjectHeader) (cs : List (Content Cap)) (n : ℕ) → owner_at (objects_of (frames_in hs cs)) n ≡ (header_at hs n).owner
+pub owner_in : (hs : List ObjectHeader) (cs : List (Content Cap)) (n : ℕ) →
+    owner_at (objects_of (frames_in hs cs)) n ≡ (header_at hs n).owner
 owner_in hs cs n = grind (arith, nat_tests, object_in, object_past, get_or_past)
 
 -- what the table of headers says of an owner
-pub owner_read : (p : Parts) (hs : List ObjectHeader) (h : ObjectHeader) (n : ℕ) → hs ≡ p.headers → h ≡ header_at hs n → h.owner ≡ owner_at (objects_in p) n
+pub owner_read : (p : Parts) (hs : List ObjectHeader) (h : ObjectHeader) (n : ℕ) → hs ≡ p.headers → h ≡ header_at hs n →
+    h.owner ≡ owner_at (objects_in p) n
 owner_read p hs h n table is = grind (arith, nat_tests, owner_in)
 
 -- what isn't free has a header
@@ -112,8 +117,9 @@ module _ (p : Parts) (n : ℕ) (known : n < length p.headers) (c : Content Cap) 
   pub content_there : content_at (objects_in p) n ≡ map_content (conveyed p.headers) c
   content_there = grind (arith, nat_tests, object_in)
 
-  pub slot_there : (slots : List Cap) → slots ≡ slots_in c → (hs : List ObjectHeader) → hs ≡ p.headers → (i : ℕ) (default : Cap) (r : Capability) →
-      r ≡ conveyed hs (slice_index_or slots i default) → i < length slots → r ≡ slot_at (objects_in p) n i
+  pub slot_there : (slots : List Cap) → slots ≡ slots_in c → (hs : List ObjectHeader) → hs ≡ p.headers →
+      (i : ℕ) (default : Cap) (r : Capability) → r ≡ conveyed hs (slice_index_or slots i default) → i < length slots →
+      r ≡ slot_at (objects_in p) n i
   slot_there slots are hs same i default r reads within = grind (arith, nat_tests, read_through, mapped, content_there)
 
   pub no_slot_there : (i : ℕ) → slots_in c ≡ [] → slot_at (objects_in p) n i ≡ Void
@@ -135,8 +141,8 @@ module _ (p : Parts) (n : ℕ) (known : n < length p.headers) (c : Content Cap) 
   no_annex_there annex = grind (arith, nat_tests, content_there, mapped)
 
 -- the object that its header and what it holds make
-pub object_there : (p : Parts) (n : ℕ) → n < length p.headers → (hs ks : List ObjectHeader) (h : ObjectHeader) (now : Content Cap) (shown : Content Capability)
-    →
+pub object_there : (p : Parts) (n : ℕ) → n < length p.headers → (hs ks : List ObjectHeader) (h : ObjectHeader) (now : Content Cap)
+    (shown : Content Capability) →
     hs ≡ p.headers → ks ≡ p.headers → h ≡ header_at hs n → now ≡ held_at p.contents n → shown ≡ map_content (conveyed ks) now →
     record { owner = h.owner; content = shown } ≡ object_at (objects_in p) n
 object_there p n known hs ks h now shown first second is held made = grind (arith, nat_tests, object_in)

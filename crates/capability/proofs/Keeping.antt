@@ -44,12 +44,14 @@ pub keepable_roles : (g : Geometry) (age : ℕ) (fs : List Frame) → AreKeepabl
 keepable_roles g age fs k n = grind (arith, nat_tests, get_or_past)
 
 -- one object changes to one that can be kept
-module _ (g : Geometry) (age later : ℕ) (le : age ≤ later) (p q : Parts) (n : ℕ) (h : ObjectHeader) (c : Content Cap) (inside : n < length p.contents) where
+module _ (g : Geometry) (age later : ℕ) (le : age ≤ later) (p q : Parts) (n : ℕ) (h : ObjectHeader) (c : Content Cap)
+    (inside : n < length p.contents) where
   pub one_keepable : q ≡ with_both p n h c → IsKeepable g later n (record { header = h; content = c }) → AreKeepable g age (frames_of p) →
       AreKeepable g later (frames_of q)
   one_keepable is new k =
       let frame : Frame = record { header = h; content = c } in
-      subst (λ (fs : List Frame). AreKeepable g later fs) (sym (ap (λ (r : Parts). frames_of r) is ∙ set_in p.headers p.contents n h c inside))
+      subst (λ (fs : List Frame). AreKeepable g later fs) (sym (ap (λ (r : Parts). frames_of r) is
+      ∙ set_in p.headers p.contents n h c inside))
       (record {
         count = length-set (frames_of p) n frame ∙ k.count;
         each = λ m known. at_set (λ (i : ℕ) (f : Frame). IsKeepable g later i f) (frames_of p) n m frame blank_frame new
@@ -57,13 +59,16 @@ module _ (g : Geometry) (age later : ℕ) (le : age ≤ later) (p q : Parts) (n 
       })
 
 -- another content of its kind
-pub refilled : (g : Geometry) (age n : ℕ) (h : ObjectHeader) (c d : Content Cap) → role_of d ≡ role_of c → IsOfKind g n d → MayBeKept g age d →
-    IsKeepable g age n (record { header = h; content = c }) → IsKeepable g age n (record { header = h; content = d })
+pub refilled : (g : Geometry) (age n : ℕ) (h : ObjectHeader) (c d : Content Cap) → role_of d ≡ role_of c → IsOfKind g n d →
+    MayBeKept g age d → IsKeepable g age n (record { header = h; content = c }) → IsKeepable g age n (record { header = h; content = d })
 refilled g age n h c d same kind may k = grind (arith, nat_tests)
 
 slots_set : (g : Geometry) (age : ℕ) (slots : List Cap) (i : ℕ) (held : Cap) → IsKeptCap g age held → AreKeptSlots g age slots →
     AreKeptSlots g age (slice_set slots i held)
-slots_set g age slots i held new s = record { count = length-set slots i held ∙ s.count; each = All-set (IsKeptCap g age) slots i held new s.each }
+slots_set g age slots i held new s = record {
+  count = length-set slots i held ∙ s.count;
+  each = All-set (IsKeptCap g age) slots i held new s.each;
+}
 
 pub with_slot_keeps : (g : Geometry) (age n : ℕ) (h : ObjectHeader) (c : Content Cap) (i : ℕ) (held : Cap) → IsKeptCap g age held →
     (IsTrue (is_annex c) → i ≡ 0 → held ≡ void_held) → IsKeepable g age n (record { header = h; content = c }) →
@@ -95,7 +100,8 @@ module _ (g : Geometry) (age later : ℕ) (le : age ≤ later) (p q : Parts) (n 
       (keepable_from g later (with_header p n h) (length-set p.headers n h ∙ keepable_count g age p k)
       (λ m within.
       let known : m < length p.headers = omega (arith, length-set p.headers n h) in
-      at_set (λ (i : ℕ) (o : ObjectHeader). IsKeepable g later i (record { header = o; content = held_at p.contents i })) p.headers n m h blank_header new
+      at_set (λ (i : ℕ) (o : ObjectHeader). IsKeepable g later i (record { header = o; content = held_at p.contents i })) p.headers n m h
+      blank_header new
       (frame_later g age later m (pair_at p.headers p.contents m) le (keepable_at g age p m known k))))
 
 module _ (g : Geometry) (age : ℕ) (p q : Parts) (n : ℕ) (known : n < length p.headers) where
@@ -144,8 +150,8 @@ fresh_kept g age (fresh.Bank limit) fits = fits
 fresh_kind : (g : Geometry) (n : ℕ) (f : Fresh) → n < object_count g → IsFreshAt g n f → IsOfKind g n (fresh_content void_held f)
 fresh_kind g n f known place = grind (arith, nat_tests)
 
-pub claim_stays_keepable : (age : ℕ) (p q : Parts) (n : ℕ) → n < length p.headers → n < length p.contents → (f : Fresh) (owner : ℕ) → owner < 2 ^ 64 →
-    FreshFits f → IsFreshAt p.geometry n f →
+pub claim_stays_keepable : (age : ℕ) (p q : Parts) (n : ℕ) → n < length p.headers → n < length p.contents → (f : Fresh) (owner : ℕ) →
+    owner < 2 ^ 64 → FreshFits f → IsFreshAt p.geometry n f →
     q ≡ with_both p n (claimed (role_of (fresh_content void_held f)) owner (header_at p.headers n)) (fresh_content void_held f) →
     AreKeepable p.geometry age (frames_of p) → AreKeepable p.geometry age (frames_of q)
 claim_stays_keepable age p q n known inside f owner fits fresh_fits place is k =

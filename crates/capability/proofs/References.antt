@@ -8,11 +8,14 @@ use Rattle.model.specs.declared.object.ContentRef.TheVariants as content_ref
 pub not_page : (r : ContentRef) → ((x : Bor (List ℕ)) → r ≡ content_ref.Page x → ⊥) → (x : List ℕ) → content_behind r ≡ content.Page x → ⊥
 not_page r other x is = grind (arith, nat_tests)
 
-pub not_node : (r : ContentRef) → ((x : Bor (List Cap)) → r ≡ content_ref.Node x → ⊥) → (x : List Cap) → content_behind r ≡ content.Node x → ⊥
+pub not_node : (r : ContentRef) → ((x : Bor (List Cap)) → r ≡ content_ref.Node x → ⊥) → (x : List Cap) → content_behind r ≡ content.Node x →
+    ⊥
 not_node r other x is = grind (arith, nat_tests)
 
-pub not_root : (r : ContentRef) → ((x : Bor (Root Cap)) → r ≡ content_ref.Root x → ⊥) → (x : Root Cap) → content_behind r ≡ content.Root x → ⊥
+pub not_root : (r : ContentRef) → ((x : Bor (Root Cap)) → r ≡ content_ref.Root x → ⊥) → (x : Root Cap) → content_behind r ≡ content.Root x →
+    ⊥
 not_root r other x is = grind (arith, nat_tests)
 
-pub not_annex : (r : ContentRef) → ((x : Bor (List Cap)) → r ≡ content_ref.Annex x → ⊥) → (x : List Cap) → content_behind r ≡ content.Annex x → ⊥
+pub not_annex : (r : ContentRef) → ((x : Bor (List Cap)) → r ≡ content_ref.Annex x → ⊥) → (x : List Cap) →
+    content_behind r ≡ content.Annex x → ⊥
 not_annex r other x is = grind (arith, nat_tests)

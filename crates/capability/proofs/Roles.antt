@@ -23,19 +23,21 @@ header_there : (p : Parts) (n : ℕ) → header_at p.headers n ≡ (frame_at (fr
 header_there p n = cc (headers_in p.headers p.contents, get_or-map (λ (f : Frame). f.header) (frames_of p) n blank_frame)
 
 -- a number is that of a process exactly if its role is that of a root
-pub process_by_role : (p : Parts) (n : ℕ) → HaveTheirRoles (frames_of p) → is_process (objects_in p) n ≡ is_root_role (header_at p.headers n).role
+pub process_by_role : (p : Parts) (n : ℕ) → HaveTheirRoles (frames_of p) → is_process (objects_in p) n
+    ≡ is_root_role (header_at p.headers n).role
 process_by_role p n roles = grind (arith, nat_tests, content_there, mapped, root_of, header_there)
 
 pub role_there : (p : Parts) (n : ℕ) (hs : List ObjectHeader) (h : ObjectHeader) → hs ≡ p.headers → h ≡ header_at hs n →
     is_root_role (header_at p.headers n).role ≡ is_root_role h.role
-role_there p n hs h same is = ap (λ (k : ObjectHeader). is_root_role k.role) (sym (is ∙ ap (λ (ks : List ObjectHeader). header_at ks n) same))
+role_there p n hs h same is = ap (λ (k : ObjectHeader). is_root_role k.role)
+    (sym (is ∙ ap (λ (ks : List ObjectHeader). header_at ks n) same))
 
 pub no_root_role : (r : Role) → (r ≡ role.Root → ⊥) → is_root_role r ≡ false
 no_root_role r other = grind (arith, nat_tests)
 
 -- a role decides what a content is, and whether it is free or a bank
-pub role_read : (p : Parts) (hs : List ObjectHeader) (h : ObjectHeader) (n : ℕ) → HaveTheirRoles (frames_of p) → hs ≡ p.headers → h ≡ header_at hs n →
-    h.role ≡ role_of (content_at (objects_in p) n)
+pub role_read : (p : Parts) (hs : List ObjectHeader) (h : ObjectHeader) (n : ℕ) → HaveTheirRoles (frames_of p) → hs ≡ p.headers →
+    h ≡ header_at hs n → h.role ≡ role_of (content_at (objects_in p) n)
 role_read p hs h n roles table is =
     ap (λ (k : ObjectHeader). k.role) (is ∙ ap (λ (ks : List ObjectHeader). header_at ks n) table)
     ∙ ⊎_elim

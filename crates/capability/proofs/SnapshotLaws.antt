@@ -13,15 +13,16 @@ module _ {S : Type 0} (parts : S → Parts) (Fetched Announced : S → ℕ → T
       KeepsRest parts Fetched Announced Continues s u
   keeps_twice s t u a b = grind (arith, nat_tests)
 
-module _ {S : Type 0} (parts : S → Parts) (Continues : S → S → Type 0) (twice : (s t u : S) → Continues s t → Continues t u → Continues s u) where
-  -- and two read-only calls
-  pub only_reads_twice : (s t u : S) → OnlyFetches parts Continues s t → OnlyFetches parts Continues t u → OnlyFetches parts Continues s u
-  only_reads_twice s t u a b = record {
-    same = λ stayed. b.same (omega (arith, stayed, a.later, b.later)) ∙ a.same (omega (arith, stayed, a.later, b.later));
-    touched = b.touched ∙ a.touched;
-    later = omega (arith, a.later, b.later);
-    continues = twice s t u a.continues b.continues;
-  }
+module _ {S : Type 0} (parts : S → Parts) (Continues : S → S → Type 0) (twice : (s t u : S) → Continues s t → Continues t u → Continues s u)
+  where
+    -- and two read-only calls
+    pub only_reads_twice : (s t u : S) → OnlyFetches parts Continues s t → OnlyFetches parts Continues t u → OnlyFetches parts Continues s u
+    only_reads_twice s t u a b = record {
+      same = λ stayed. b.same (omega (arith, stayed, a.later, b.later)) ∙ a.same (omega (arith, stayed, a.later, b.later));
+      touched = b.touched ∙ a.touched;
+      later = omega (arith, a.later, b.later);
+      continues = twice s t u a.continues b.continues;
+    }
 
 -- from parts that are the same to what a call says that only reads, and one more call
 module _ {S : Type 0} {parts : S → Parts} {Continues : S → S → Type 0} {s t : S} (is : parts t ≡ parts s) (continues : Continues s t) where

@@ -11,8 +11,8 @@ pub closing_first : (slot : HeaderSlot) {old c : Image} → IsLesser old slot �
 closing_first slot {old} {c} lesser is = grind (arith, nat_tests)
 
 -- and while the second is closed, the first being closed
-pub closing_second : (slot : HeaderSlot) {old mid c : Image} → IsLesser old slot → Elsewhere (gate_at slot) 1 old mid → is_open (mid (gate_at slot)) ≡ false →
-    IsClosing (gate_at (other_slot slot)) mid c → KeepsOrHasNone old c
+pub closing_second : (slot : HeaderSlot) {old mid c : Image} → IsLesser old slot → Elsewhere (gate_at slot) 1 old mid →
+    is_open (mid (gate_at slot)) ≡ false → IsClosing (gate_at (other_slot slot)) mid c → KeepsOrHasNone old c
 closing_second slot {old} {mid} {c} lesser first shut is = grind (arith, nat_tests)
 
 -- nothing was touched
@@ -33,9 +33,10 @@ pub first_run : (slot : HeaderSlot) {at : ℕ} {image : Image} {old new : Disk} 
 first_run slot {at} {image} {old} {new} place lesser run = search (arith, leaves_weaker, closing_first)
 
 -- and then the second
-pub second_run : (slot : HeaderSlot) {at next : ℕ} {image mid_image : Image} {old mid new : Disk} → at ≡ gate_at slot → next ≡ gate_at (other_slot slot) →
-    IsLesser image slot → Elsewhere at 1 image mid_image → is_open (mid_image at) ≡ false → LeavesOnly old mid (λ c. KeepsOrHasNone image c) →
-    LeavesOnly mid new (λ c. IsClosing next mid_image c) → LeavesOnly old new (λ c. KeepsOrHasNone image c)
+pub second_run : (slot : HeaderSlot) {at next : ℕ} {image mid_image : Image} {old mid new : Disk} → at ≡ gate_at slot →
+    next ≡ gate_at (other_slot slot) → IsLesser image slot → Elsewhere at 1 image mid_image → is_open (mid_image at) ≡ false →
+    LeavesOnly old mid (λ c. KeepsOrHasNone image c) → LeavesOnly mid new (λ c. IsClosing next mid_image c) →
+    LeavesOnly old new (λ c. KeepsOrHasNone image c)
 second_run slot {at} {next} {image} {mid_image} {old} {mid} {new} place next_place lesser change shut first second =
     let before = rw place at change in
     let closed = rw place at shut in
@@ -45,9 +46,11 @@ second_run slot {at} {next} {image} {mid_image} {old} {mid} {new} place next_pla
 
 -- a sync, which may fail, and reads
 pub peek_run : {old new : Disk} → Peeks old new → LeavesOnly old new (λ c. WasKeptOrHasNone old c)
-peek_run {old} {new} run = leaves_weaker {old = old} {new = new} {P = old.may_leave} (λ c. WasKeptOrHasNone old c) (λ c left. (c, left, untouched)) run
+peek_run {old} {new} run = leaves_weaker {old = old} {new = new} {P = old.may_leave} (λ c. WasKeptOrHasNone old c)
+    (λ c left. (c, left, untouched)) run
 
 -- and what closes the gates after them
 pub closing_run : {old mid new : Disk} → old.may_leave old.seen → Agrees mid.seen old.seen
-    → LeavesOnly old mid (λ c. WasKeptOrHasNone old c) → LeavesOnly mid new (λ c. KeepsOrHasNone mid.seen c) → LeavesOnly old new (λ c. WasKeptOrHasNone old c)
+    → LeavesOnly old mid (λ c. WasKeptOrHasNone old c) → LeavesOnly mid new (λ c. KeepsOrHasNone mid.seen c) →
+    LeavesOnly old new (λ c. WasKeptOrHasNone old c)
 closing_run {old} {mid} {new} left same first second = grind (arith, nat_tests)

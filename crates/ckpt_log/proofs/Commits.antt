@@ -10,7 +10,8 @@ use Rattle.std.specs.Prelude.{if◌then◌else◌, ◌==◌}
 -- ---- a header that counts
 
 pub belongs : (header gate : List ℕ) {slot : ℕ} → does_count header gate slot ≡ true → sequence_in header % 2 ≡ slot
-belongs header gate {slot} counts = eqb-true (sequence_in header % 2) slot (and_parts (is_open gate) (sequence_in header % 2 == slot) counts).1
+belongs header gate {slot} counts = eqb-true (sequence_in header % 2) slot (and_parts (is_open gate) (sequence_in header % 2 == slot)
+    counts).1
 
 -- whether the header in slot k counts, and its sequence number
 abbrev pub counts_at : Image → ℕ → Bool
@@ -70,7 +71,8 @@ module _ {n : ℕ} {old new : Image} {b : List ℕ} (is : committed_bytes old �
   gate = beside (2 + 2 * k) (omega arith) (omega arith)
 
   -- and the next header is the committed one where its slot counts
-  pub new_at : {h : List ℕ} → new (1 + 2 * (n % 2)) ≡ h → sequence_in h ≡ n → is_open (new (2 + 2 * (n % 2))) ≡ true → committed_bytes new ≡ Some h
+  pub new_at : {h : List ℕ} → new (1 + 2 * (n % 2)) ≡ h → sequence_in h ≡ n → is_open (new (2 + 2 * (n % 2))) ≡ true →
+      committed_bytes new ≡ Some h
   new_at {h} written number open' = grind (arith, nat_tests)
 
 -- ---- what a torn write of a gate or a header leaves committed
@@ -90,18 +92,20 @@ unfolding header_bytes
 sequence_of h fits = search (arith, six, number_back)
 
 -- the sectors of the slot that a header belongs in
-pub header_is : (h : CheckpointHeader) (slot : HeaderSlot) {at : ℕ} → slot_number slot ≡ h.sequence % 2 → at ≡ header_at slot → at ≡ header_sector h
+pub header_is : (h : CheckpointHeader) (slot : HeaderSlot) {at : ℕ} → slot_number slot ≡ h.sequence % 2 → at ≡ header_at slot →
+    at ≡ header_sector h
 header_is h slot number place = place ∙ ap (λ (n : ℕ). 1 + 2 * n) number
 
-pub gate_is : (h : CheckpointHeader) (slot : HeaderSlot) {at : ℕ} → slot_number slot ≡ h.sequence % 2 → at ≡ gate_at slot → at ≡ gate_sector h
+pub gate_is : (h : CheckpointHeader) (slot : HeaderSlot) {at : ℕ} → slot_number slot ≡ h.sequence % 2 → at ≡ gate_at slot →
+    at ≡ gate_sector h
 gate_is h slot number place = place ∙ ap (λ (n : ℕ). 2 + 2 * n) number
 
 -- one sector of a slot is within it
 gate_within : (r : ℕ) {old new : Image} → Elsewhere (2 + 2 * r) 1 old new → Elsewhere (1 + 2 * r) 2 old new
 gate_within r e = record { before = λ i lt. e.before i (omega (arith, lt)); after = λ i le. e.after i (omega (arith, le)) }
 
-closing_by : (b : Bool) {h : CheckpointHeader} {old new : Image} → is_open (old (gate_sector h)) ≡ b → Precedes old h → Elsewhere (gate_sector h) 1 old new
-    → (is_open (old (gate_sector h)) ≡ false → Agrees new old) → KeepsHeader h old new
+closing_by : (b : Bool) {h : CheckpointHeader} {old new : Image} → is_open (old (gate_sector h)) ≡ b → Precedes old h →
+    Elsewhere (gate_sector h) 1 old new → (is_open (old (gate_sector h)) ≡ false → Agrees new old) → KeepsHeader h old new
 closing_by b {h} {old} {new} is next e same = grind (arith, nat_tests)
 
 -- a gate is closed where it was open
@@ -116,20 +120,21 @@ shut_by b bytes is = grind (arith, nat_tests)
 pub shut : (bytes : List ℕ) → is_open (closed_gate bytes) ≡ false
 shut bytes = shut_by (is_open bytes) bytes refl
 
-pub shut_gate : (old new : Image) (h : CheckpointHeader) → new (gate_sector h) ≡ closed_gate (old (gate_sector h)) → is_open (new (gate_sector h)) ≡ false
+pub shut_gate : (old new : Image) (h : CheckpointHeader) → new (gate_sector h) ≡ closed_gate (old (gate_sector h)) →
+    is_open (new (gate_sector h)) ≡ false
 shut_gate old new h closed = ap is_open closed ∙ shut (old (gate_sector h))
 
 -- a header is written under a closed gate
-pub header_keeps : {h : CheckpointHeader} {old new : Image} → Precedes old h → is_open (old (gate_sector h)) ≡ false → Elsewhere (header_sector h) 1 old new →
-    KeepsHeader h old new
+pub header_keeps : {h : CheckpointHeader} {old new : Image} → Precedes old h → is_open (old (gate_sector h)) ≡ false →
+    Elsewhere (header_sector h) 1 old new → KeepsHeader h old new
 header_keeps {h} {old} {new} next closed e = grind (arith, nat_tests)
 
 open_new : {h : CheckpointHeader} {old new : Image} → h.sequence < 2 ^ 64 → Precedes old h → old (header_sector h) ≡ header_bytes h
     → Elsewhere (gate_sector h) 1 old new → is_open (new (gate_sector h)) ≡ true → HasNew h old new
 open_new {h} {old} {new} fits next written e gate = grind (arith, nat_tests, gate, gate_within, header, new_at, sequence_of)
 
-opening_by : (b : Bool) {h : CheckpointHeader} {old new : Image} → is_open (new (gate_sector h)) ≡ b → h.sequence < 2 ^ 64 → Precedes old h →
-    old (header_sector h) ≡ header_bytes h → Elsewhere (gate_sector h) 1 old new → IsOldOrNew h old new
+opening_by : (b : Bool) {h : CheckpointHeader} {old new : Image} → is_open (new (gate_sector h)) ≡ b → h.sequence < 2 ^ 64 →
+    Precedes old h → old (header_sector h) ≡ header_bytes h → Elsewhere (gate_sector h) 1 old new → IsOldOrNew h old new
 opening_by b {h} {old} {new} is fits next written e = grind (arith, nat_tests)
 
 -- the gate of a header that is written is torn: it is open or closed

@@ -20,7 +20,8 @@ no_entries p generation image [] none = (
 no_entries p generation image (e ∷ es) none = absurd (omega (arith, none))
 
 -- a directory with no entries has no sectors, so nothing lies after it
-nothing_behind : (image : Image) (at : ℕ) → drop (16 * 0) (sectors_from image at (directory_length 0)) ≡ replicate (512 * directory_length 0 - 16 * 0) 0
+nothing_behind : (image : Image) (at : ℕ) → drop (16 * 0) (sectors_from image at (directory_length 0))
+    ≡ replicate (512 * directory_length 0 - 16 * 0) 0
 unfolding sectors_from
 nothing_behind image at = refl
 
@@ -47,7 +48,8 @@ slot_not_refused {g} {age} {object} {f} e is bad = grind (arith, nat_tests)
 pub slots_read_back : SlotsAreReadBack
 slots_read_back = search (arith, one_frame, slot_not_refused)
 
-directory_not_refused : {g : Geometry} {es : List Entry} (e : OpenFault) → IsDirectory g es → IsBadDirectory g (directory_bytes es) e → e ≡ Failed
+directory_not_refused : {g : Geometry} {es : List Entry} (e : OpenFault) → IsDirectory g es → IsBadDirectory g (directory_bytes es) e →
+    e ≡ Failed
 directory_not_refused Failed is bad = refl
 directory_not_refused NoMemory is bad = absurd bad
 directory_not_refused {es} (Bad reason) is bad = absurd (bad.1 es is refl)
@@ -57,11 +59,12 @@ directories_read_back = grind (arith, nat_tests, one_directory, directory_fits, 
 
 -- ---- the committed header with its directory, and why there is none
 
-pub bad_directory : {image seen : Image} {p : Plan} {h : CheckpointHeader} {n : ℕ} (e : OpenFault) → seen ≡ image → n ≡ h.entries → HasHeader image p h →
-    IsBadDirectory p.geometry (directory_in seen p h.generation n) e → HasNoCommitted image p e
+pub bad_directory : {image seen : Image} {p : Plan} {h : CheckpointHeader} {n : ℕ} (e : OpenFault) → seen ≡ image → n ≡ h.entries →
+    HasHeader image p h → IsBadDirectory p.geometry (directory_in seen p h.generation n) e → HasNoCommitted image p e
 bad_directory {image} {seen} {p} {h} {n} e same all has bad = grind (arith, nat_tests)
 
 pub has_committed : {image seen : Image} {p : Plan} {h : CheckpointHeader} {n : ℕ} {named : List Entry} (rest : List Entry) → seen ≡ image →
     n ≡ h.entries → length named ≡ n →
-    HasHeader image p h → IsDirectory p.geometry named → directory_in seen p h.generation n ≡ directory_bytes named → HasCommitted image p h (named ++ rest)
+    HasHeader image p h → IsDirectory p.geometry named → directory_in seen p h.generation n ≡ directory_bytes named →
+    HasCommitted image p h (named ++ rest)
 has_committed {image} {seen} {p} {h} {n} {named} rest same all size has is spelt = grind (arith, nat_tests, take-append_seam)

@@ -27,7 +27,15 @@ halves_within p generation fits = half_within p generation fits
 pub halves_apart : HalvesAreApart
 halves_apart p a b fits differ = half_apart p a b fits differ
 
-pub ruleset place_laws = (slots_inside, frames_in_slots, directories_inside, halves_within, halves_apart, slots_apart, slots_spare_directories)
+pub ruleset place_laws = (
+  slots_inside,
+  frames_in_slots,
+  directories_inside,
+  halves_within,
+  halves_apart,
+  slots_apart,
+  slots_spare_directories,
+)
 
 -- ---- what lies apart from the headers
 

@@ -13,20 +13,23 @@ pub closing_run : {h : CheckpointHeader} {at : ℕ} {image : Image} {old new : D
     → LeavesOnly old new (λ c. IsClosing at image c) → LeavesOnly old new (λ c. KeepsHeader h image c)
 closing_run {h} {at} {image} {old} {new} place next run =
     leaves_weaker {old = old} {new = new} {P = λ c. IsClosing at image c} (λ c. KeepsHeader h image c)
-    (λ c is. let here : IsClosing (gate_sector h) image c = subst (λ (i : ℕ). IsClosing i image c) place is in closing_keeps next here.0 here.1) run
+    (λ c is. let here : IsClosing (gate_sector h) image c = subst (λ (i : ℕ). IsClosing i image c) place is in
+    closing_keeps next here.0 here.1) run
 
 -- a header is written under a closed gate, after a run that keeps the committed one
 pub header_run : {h : CheckpointHeader} {at : ℕ} {image mid_image : Image} {old mid new : Disk} → at ≡ header_sector h → Precedes image h
     → KeepsHeader h image mid_image → is_open (mid_image (gate_sector h)) ≡ false
-    → LeavesOnly old mid (λ c. KeepsHeader h image c) → LeavesOnly mid new (λ c. Elsewhere at 1 mid_image c) → LeavesOnly old new (λ c. KeepsHeader h image c)
+    → LeavesOnly old mid (λ c. KeepsHeader h image c) → LeavesOnly mid new (λ c. Elsewhere at 1 mid_image c) →
+    LeavesOnly old new (λ c. KeepsHeader h image c)
 header_run {h} {at} {image} {mid_image} {old} {mid} {new} place next kept closed first second =
     leaves_on {old = old} {mid = mid} {new = new} {P = λ c. KeepsHeader h image c} first
     (leaves_weaker {old = mid} {new = new} {P = λ c. Elsewhere at 1 mid_image c} (λ c. KeepsHeader h image c) (λ c is. keeps_on kept
     (header_keeps (precedes_on next kept) closed (subst (λ (i : ℕ). Elsewhere i 1 mid_image c) place is))) second)
 
 -- the gate is opened
-pub opening_run : {h : CheckpointHeader} {at : ℕ} {image : Image} {old new : Disk} → at ≡ gate_sector h → h.sequence < 2 ^ 64 → Precedes image h →
-    image (header_sector h) ≡ header_bytes h → LeavesOnly old new (λ c. Elsewhere at 1 image c) → LeavesOnly old new (λ c. IsOldOrNew h image c)
+pub opening_run : {h : CheckpointHeader} {at : ℕ} {image : Image} {old new : Disk} → at ≡ gate_sector h → h.sequence < 2 ^ 64 →
+    Precedes image h → image (header_sector h) ≡ header_bytes h → LeavesOnly old new (λ c. Elsewhere at 1 image c) →
+    LeavesOnly old new (λ c. IsOldOrNew h image c)
 opening_run {h} {at} {image} {old} {new} place fits next written run = grind (arith, nat_tests, leaves_weaker, opening)
 
 -- a header is written under a closed gate, and then its gate is opened
@@ -35,7 +38,8 @@ pub preparing_run : {h : CheckpointHeader} {image : Image} {old new : Disk} → 
 preparing_run {h} {image} {old} {new} run = grind (arith, nat_tests)
 
 pub publishing_run : {h : CheckpointHeader} {image mid_image : Image} {old mid new : Disk} → KeepsHeader h image mid_image
-    → LeavesOnly old mid (λ c. KeepsHeader h image c) → LeavesOnly mid new (λ c. IsOldOrNew h mid_image c) → LeavesOnly old new (λ c. IsOldOrNew h image c)
+    → LeavesOnly old mid (λ c. KeepsHeader h image c) → LeavesOnly mid new (λ c. IsOldOrNew h mid_image c) →
+    LeavesOnly old new (λ c. IsOldOrNew h image c)
 publishing_run {h} {image} {mid_image} {old} {mid} {new} kept first second = grind (arith, nat_tests)
 
 -- ---- from a disk whose writes aren't durable
@@ -43,7 +47,8 @@ publishing_run {h} {image} {mid_image} {old} {mid} {new} kept first second = gri
 abbrev pub IsOldOrCommitted : CheckpointHeader → Disk → Image → Type 0
 IsOldOrCommitted h disk c = IsOld h disk c ⊎ HasNew h disk.seen c
 
-was_seen : {h : CheckpointHeader} {disk : Disk} {c : Image} → disk.may_leave disk.seen → IsOldOrNew h disk.seen c → IsOldOrCommitted h disk c
+was_seen : {h : CheckpointHeader} {disk : Disk} {c : Image} → disk.may_leave disk.seen → IsOldOrNew h disk.seen c →
+    IsOldOrCommitted h disk c
 was_seen {h} {disk} {c} left h1 = grind (arith, nat_tests)
 
 -- a sync that may fail
@@ -62,11 +67,13 @@ commit_run {h} {old} {mid} {new} left same first second =
 
 -- ---- the order of the writes of a slot
 
-pub sync_order : (h : CheckpointHeader) {old new : Disk} → OnlyNow old → Elapses old new → Narrows old new → LeavesOnly old new (λ c. IsInOrderAfter h old c)
+pub sync_order : (h : CheckpointHeader) {old new : Disk} → OnlyNow old → Elapses old new → Narrows old new →
+    LeavesOnly old new (λ c. IsInOrderAfter h old c)
 sync_order h {old} {new} only_now time narrows = grind (arith, nat_tests)
 
 pub commit_order : (h : CheckpointHeader) {old mid new : Disk} → old.may_leave old.seen → Agrees mid.seen old.seen
-    → LeavesOnly old mid (λ c. IsInOrderAfter h old c) → LeavesOnly mid new (λ c. IsInOrder h mid.seen c) → LeavesOnly old new (λ c. IsInOrderAfter h old c)
+    → LeavesOnly old mid (λ c. IsInOrderAfter h old c) → LeavesOnly mid new (λ c. IsInOrder h mid.seen c) →
+    LeavesOnly old new (λ c. IsInOrderAfter h old c)
 commit_order h {old} {mid} {new} left same first second = grind (arith, nat_tests)
 
 -- the header stands while its gate is opened

@@ -14,7 +14,8 @@ same_slot old new same =
     let four : new 4 ≡ old 4 = same 3 (omega arith) in
     rw (one, two, three, four) refl
 
-same_option : (old new : Image) (slot : Option ℕ) → SameFrom 1 4 old new → committed_slot old ≡ slot → option_at new slot ≡ option_at old slot
+same_option : (old new : Image) (slot : Option ℕ) → SameFrom 1 4 old new → committed_slot old ≡ slot →
+    option_at new slot ≡ option_at old slot
 same_option old new slot same is = grind (arith, nat_tests)
 
 pub same_header : SameHeader
@@ -46,8 +47,8 @@ pub frames_behind : FramesAreBehind
 frames_behind p generation es object fits behind = behind_by (frame_slot_in p es object) p generation (half_behind p generation fits) behind
 
 -- a change of a header's slot leaves all else of a state
-ready_stays : {old new : Image} {size : ℕ} {s : SavedState} (h : CheckpointHeader) → HomesAreBehind s.plan → Elsewhere (header_sector h) 2 old new →
-    IsReady old size s → IsReady new size s
+ready_stays : {old new : Image} {size : ℕ} {s : SavedState} (h : CheckpointHeader) → HomesAreBehind s.plan →
+    Elsewhere (header_sector h) 2 old new → IsReady old size s → IsReady new size s
 ready_stays {old} {new} {size} {s} h homes e is = grind (arith, nat_tests, spare_sectors, spare_directories, spare_frames, frames_behind)
 
 ready_of : {image : Image} {size : ℕ} {s : SavedState} → Encodes image size s → IsReady image size s
@@ -56,7 +57,13 @@ ready_of is = record { plan = is.plan; header = is.header.fits; directory = is.d
 pub new_denoted : NewIsDenoted
 new_denoted old new size s homes ready has =
     let is = ready_stays s.header homes has.elsewhere ready in
-    record { plan = is.plan; header = record { fits = is.header; spelt = has.committed }; directory = is.directory; count = is.count; each = is.each }
+    record {
+      plan = is.plan;
+      header = record { fits = is.header; spelt = has.committed };
+      directory = is.directory;
+      count = is.count;
+      each = is.each;
+    }
 
 pub old_denoted : OldIsDenoted
 old_denoted seen before c size s h homes shown was e same =

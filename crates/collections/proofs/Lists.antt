@@ -40,7 +40,8 @@ module _ {X : Type 0} where
   changed_once [] ys n d v size within here others = absurd (omega (arith, within))
   changed_once (x ∷ xs) [] n d v size within here others = absurd (omega (arith, size))
   changed_once (x ∷ xs) (y ∷ ys) zero d v size within here others =
-      ap (λ (z : X). z ∷ ys) here ∙ ap (λ (zs : List X). v ∷ zs) (all_same xs ys (omega (arith, size)) (λ m. others (suc m) (λ same. omega (arith, same))))
+      ap (λ (z : X). z ∷ ys) here ∙ ap (λ (zs : List X). v ∷ zs) (all_same xs ys (omega (arith, size))
+      (λ m. others (suc m) (λ same. omega (arith, same))))
     where
       all_same : (xs ys : List X) → length ys ≡ length xs → ((m : ℕ) → get_or ys m d ≡ get_or xs m d) → ys ≡ xs
       all_same [] [] size same = refl
@@ -54,13 +55,19 @@ module _ {X : Type 0} where
       (λ m other. others (suc m) (λ same. other (omega (arith, same)))))
 
   -- one that is not counted is replaced by one that is
-  pub one_counted : (p : X → Bool) (xs : List X) (n : ℕ) (d y : X) → n < length xs → p (get_or xs n d) ≡ false → p y ≡ true → count_by p (set xs n y) ≡
-      count_by p xs + 1
+  pub one_counted : (p : X → Bool) (xs : List X) (n : ℕ) (d y : X) → n < length xs → p (get_or xs n d) ≡ false → p y ≡ true →
+      count_by p (set xs n y) ≡ count_by p xs + 1
   one_counted p xs n d y within was is = grind (arith, nat_tests, sum_by-set)
 
   -- where one isn't counted, not all are
-  pub not_all_counted : (p : X → Bool) (xs : List X) (n : ℕ) (d y : X) → n < length xs → p (get_or xs n d) ≡ false → p y ≡ true → count_by p xs < length xs
-  not_all_counted p xs n d y within was is = omega (arith, one_counted p xs n d y within was is, count_by-le-length p (set xs n y), length-set xs n y)
+  pub not_all_counted : (p : X → Bool) (xs : List X) (n : ℕ) (d y : X) → n < length xs → p (get_or xs n d) ≡ false → p y ≡ true →
+      count_by p xs < length xs
+  not_all_counted p xs n d y within was is = omega (
+    arith,
+    one_counted p xs n d y within was is,
+    count_by-le-length p (set xs n y),
+    length-set xs n y,
+  )
 
 -- what is read after a map whose value at the default is the default
 pub get_map : {X Y : Type 0} (f : X → Y) (xs : List X) (k : ℕ) (d : X) (e : Y) → f d ≡ e → get_or (map f xs) k e ≡ f (get_or xs k d)

@@ -102,13 +102,15 @@ module _ (words : List ℕ) where
           | inl lower ↦ before m past lower
           | inr here ↦
               let split : w * 64 + (m - w * 64) ≡ m = omega arith in
-              sym (ap (bit_of words) split) ∙ bit_in_word w (m - w * 64) (omega (arith, lowest.inside)) ∙ lowest.least (m - w * 64) (omega arith) (omega arith)
+              sym (ap (bit_of words) split) ∙ bit_in_word w (m - w * 64) (omega (arith, lowest.inside))
+              ∙ lowest.least (m - w * 64) (omega arith) (omega arith)
         ];
   }
 
   -- a word with no bit goes on with what has none
   pub none_by_word : (from w low : ℕ) → low ≡ from - w * 64 → from / 64 ≤ w → ((m : ℕ) → from ≤ m → m < w * 64 → bit_of words m ≡ 0) →
-      ((other : ℕ) → low ≤ other → other < 64 → bit_at (slice_index words w) other ≡ 0) → (m : ℕ) → from ≤ m → m < (w + 1) * 64 → bit_of words m ≡ 0
+      ((other : ℕ) → low ≤ other → other < 64 → bit_at (slice_index words w) other ≡ 0) → (m : ℕ) → from ≤ m → m < (w + 1) * 64 →
+      bit_of words m ≡ 0
   none_by_word from w low is_low after before none m past within = grind (arith, nat_tests, bit_in_word w (m - w * 64) (omega arith))
 
   -- a word is written that has all other bits as they were
@@ -192,7 +194,8 @@ module _ (count : ℕ) (words : List ℕ) where
   mark_within n within = get_or-map-range_with_len (λ k. nat_eq (bit_of words k) 1) 0 count n n false within (omega arith)
 
   -- two lists with the same marks are equal
-  same_marks : (marks : List Bool) → length marks ≡ count → ((n : ℕ) → n < count → is_marked marks n ≡ nat_eq (bit_of words n) 1) → marks ≡ marks_of count words
+  same_marks : (marks : List Bool) → length marks ≡ count → ((n : ℕ) → n < count → is_marked marks n ≡ nat_eq (bit_of words n) 1) →
+      marks ≡ marks_of count words
   unfolding marks_of
   same_marks marks long each = fill_by_all (λ k. nat_eq (bit_of words k) 1) marks count false long each
 
@@ -227,9 +230,11 @@ module _ (count : ℕ) (words : List ℕ) where
     }
 
 -- the marks of the words with one bit put
-marks_put : (count n : ℕ) (b : Bool) (words new : List ℕ) → IsBitPut words n (digit b) new → marks_of count new ≡ slice_set (marks_of count words) n b
+marks_put : (count n : ℕ) (b : Bool) (words new : List ℕ) → IsBitPut words n (digit b) new →
+    marks_of count new ≡ slice_set (marks_of count words) n b
 marks_put count n b words new put =
-    sym (same_marks count new (set (marks_of count words) n b) (length-set (marks_of count words) n b ∙ length_marks count words) (λ m within.
+    sym (same_marks count new (set (marks_of count words) n b) (length-set (marks_of count words) n b ∙ length_marks count words)
+    (λ m within.
     elim (cases_eq m n) [
       | inl same ↦ rw same (get_or-set_same (marks_of count words) n b false (omega (arith, length_marks count words)) ∙
           sym (ap (λ d. nat_eq d 1) put.here ∙ digit_one b))
@@ -239,7 +244,8 @@ marks_put count n b words new put =
 
 -- ---- the methods: what is seen of the words, and what is known of them
 
-module _ (count : ℕ) (words summary : List ℕ) (sums : IsSummed count words summary) (marks : List Bool) (is_marks : marks_of count words ≡ marks) where
+module _ (count : ℕ) (words summary : List ℕ) (sums : IsSummed count words summary) (marks : List Bool)
+    (is_marks : marks_of count words ≡ marks) where
   count_is : length marks ≡ count
   count_is = sym (ap length is_marks) ∙ length_marks count words
 
@@ -257,7 +263,8 @@ module _ (count : ℕ) (words summary : List ℕ) (sums : IsSummed count words s
     mark_read n b within is_bit = rw (← is_marks) (mark_is count words n b (omega (arith, count_is)) (rw is_seen at is_bit))
 
     -- the first bit that is found is the next marked number
-    pub next_is_marked : (from : ℕ) (found : Option ℕ) → IfSome found (λ n. IsFirstSet seen from n) → IfSome found (λ n. IsNextMarked marks from n)
+    pub next_is_marked : (from : ℕ) (found : Option ℕ) → IfSome found (λ n. IsFirstSet seen from n) →
+        IfSome found (λ n. IsNextMarked marks from n)
     next_is_marked from None _ = tt
     next_is_marked from (Some n) first = rw (← is_marks) (next_by_bits count words sums.past from n (rw is_seen at first))
 
@@ -281,13 +288,15 @@ module _ (count : ℕ) (words summary : List ℕ) (sums : IsSummed count words s
   pub has_word_above : (seen : List ℕ) → seen ≡ summary → (n : ℕ) → n < length marks → n / 64 / 64 < length seen
   has_word_above seen is_seen n within = omega (arith, count_is, ap length is_seen, sums.summary_each, sums.words_each)
 
-  module _ (n : ℕ) (b : Bool) (within : n < length marks) (seen new : List ℕ) (is_seen : seen ≡ words) (put : IsBitPut seen n (digit b) new) (stored : List ℕ)
+  module _ (n : ℕ) (b : Bool) (within : n < length marks) (seen new : List ℕ) (is_seen : seen ≡ words) (put : IsBitPut seen n (digit b) new)
+      (stored : List ℕ)
       (is_stored : stored ≡ new) where
     -- a bit is put, and the mark is set
     pub marks_set : marks_of count stored ≡ slice_set marks n b
     marks_set = ap (marks_of count) is_stored ∙ marks_put count n b words new (rw is_seen at put) ∙ ap (λ ms. slice_set ms n b) is_marks
 
-    module _ (seen_summary new_summary : List ℕ) (word : ℕ) (is_seen_summary : seen_summary ≡ summary) (is_word : word ≡ slice_index new (n / 64))
+    module _ (seen_summary new_summary : List ℕ) (word : ℕ) (is_seen_summary : seen_summary ≡ summary)
+        (is_word : word ≡ slice_index new (n / 64))
         (put_above : IsBitPut seen_summary (n / 64) (digit (not (nat_eq word 0))) new_summary) where
       -- the summary still sums up, once the word's bit is put in it
       pub set_summed : (stored_summary : List ℕ) → stored_summary ≡ new_summary → IsSummed count stored stored_summary
@@ -319,10 +328,12 @@ module _ (count k : ℕ) (words : List ℕ) (are_zero : words ≡ replicate k 0)
   zeros_summed l summary fits summary_zero is_k is_l = grind (arith, nat_tests, length-replicate, none_set, bit_of_zero, zeros)
 
 -- the words of a set, and their summary, are made 0
-module _ (count : ℕ) (words summary : List ℕ) (sums : IsSummed count words summary) (marks : List Bool) (is_marks : marks_of count words ≡ marks)
+module _ (count : ℕ) (words summary : List ℕ) (sums : IsSummed count words summary) (marks : List Bool)
+    (is_marks : marks_of count words ≡ marks)
     (zero_words : List ℕ) (are_zero : zero_words ≡ replicate (length words) 0) where
   pub cleared : marks_of count zero_words ≡ replicate (length marks) false
-  cleared = no_marks count (length words) zero_words are_zero ∙ ap (λ k. replicate k false) (sym (count_is count words summary sums marks is_marks))
+  cleared = no_marks count (length words) zero_words are_zero ∙ ap (λ k. replicate k false)
+      (sym (count_is count words summary sums marks is_marks))
 
   pub cleared_sums : (zero_summary : List ℕ) → zero_summary ≡ replicate (length summary) 0 → IsSummed count zero_words zero_summary
   cleared_sums zero_summary are_zero_too = search zeros_summed

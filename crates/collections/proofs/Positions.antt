@@ -17,7 +17,8 @@ module _ {X : Type 0} where
   unfolding items_in
   length_items items at = length-map at (slice_get items)
 
-  item_is : (items : List X) (at : List ℕ) → length items ≤ length at → (k : ℕ) → item_at (items_in items at) k ≡ slice_get items (position at k)
+  item_is : (items : List X) (at : List ℕ) → length items ≤ length at → (k : ℕ) →
+      item_at (items_in items at) k ≡ slice_get items (position at k)
   unfolding items_in
   item_is items at few k = get_map (slice_get items) at k (length at) None (slice_get_past items (length at) few)
 
@@ -37,7 +38,8 @@ module _ {X : Type 0} where
 
       outside : is_some (item_at v k) ≡ false → length at ≤ position at k
       outside none = elim (cases_lt (position at k) (length at)) [
-        | inl within ↦ let x = get_some items (position at k) (is.known k within) in absurd (true≢false (sym (ap is_some (read ∙ x.1)) ∙ none))
+        | inl within ↦ let x = get_some items (position at k) (is.known k within) in
+            absurd (true≢false (sym (ap is_some (read ∙ x.1)) ∙ none))
         | inr past ↦ past
       ]
 
@@ -52,7 +54,8 @@ module _ {X : Type 0} where
         has_is within = elim (cases_lt p (length items)) [
           | inl below ↦ let x = get_some items p below in lt-ltb p (length items) below ∙ sym
               (ap is_some (read ∙ ap (slice_get items) (sym (here (placed within))) ∙ x.1))
-          | inr past ↦ le-ltb p (length items) past ∙ sym (ap is_some (read ∙ slice_get_past items (position at k) (omega (arith, past, here (placed within)))))
+          | inr past ↦ le-ltb p (length items) past ∙ sym (ap is_some (read
+              ∙ slice_get_past items (position at k) (omega (arith, past, here (placed within)))))
         ]
 
         module _ (some : IsSome (item_at v k)) where
@@ -60,7 +63,8 @@ module _ {X : Type 0} where
           inside_at = omega (arith, inside some, here (has_place some))
 
           pub item_read : (x : X) → x ≡ get_or items p x → item_at v k ≡ Some x
-          item_read x x_is = read ∙ ap (slice_get items) (sym (here (has_place some))) ∙ slice_get_read items (length items) p x refl inside_at x_is
+          item_read x x_is = read ∙ ap (slice_get items) (sym (here (has_place some)))
+              ∙ slice_get_read items (length items) p x refl inside_at x_is
 
           pub changed : (x : X) → items_in (set items p x) at ≡ set v k (Some x)
           changed x =
@@ -121,7 +125,8 @@ module _ {X : Type 0} where
               (length_items more after ∙ same_length ∙ sym (length_items items at))
               (omega (arith, placed within, length_items items at))
               (item_is more after fits_more k ∙ ap (slice_get more) now_here ∙ get_append_end items x)
-              (λ m other. item_is more after fits_more m ∙ ap (slice_get more) (still m other) ∙ elim (cases_lt (position at m) (length items)) [
+              (λ m other. item_is more after fits_more m ∙ ap (slice_get more) (still m other)
+              ∙ elim (cases_lt (position at m) (length items)) [
                 | inl below ↦ get_append items x (position at m) below
                 | inr past ↦ slice_get_past more (position at m) (omega (arith, past, one_more, elsewhere m other, still m other)) ∙ sym
                     (slice_get_past items (position at m) past)

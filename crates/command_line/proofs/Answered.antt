@@ -47,16 +47,18 @@ module _ (p : Text × List Text) (well : is_no_help whole.top p.0 ≡ true) wher
       negated false e = refl
       negated true e = absurd (true≢false (sym e))
 
-      go : (b : Bool) → bytes_eq s.name (codes "help") ≡ b → s.name ≡ p.0 → (b || (is_plain s.rules && not s.subcommand_negates_reqs)) ≡ true
-          → (is_plain s.rules ≡ true) × (s.subcommand_negates_reqs ≡ false)
+      go : (b : Bool) → bytes_eq s.name (codes "help") ≡ b → s.name ≡ p.0 →
+          (b || (is_plain s.rules && not s.subcommand_negates_reqs)) ≡ true →
+          (is_plain s.rules ≡ true) × (s.subcommand_negates_reqs ≡ false)
       go true e name ready = absurd (no_help p.0 well (sym name ∙ (bytes_eq-Decides _ _).0 e))
       go false e name ready = let parts = both _ _ ready in (parts.0, negated _ parts.1)
 
-      whole_named : (name : Text) → subcommand_named name ≡ Some s → is_whole s.rules (rows_at s p.1).1 ≡ true → has_all name (rows_at s p.1).1 ≡ true
+      whole_named : (name : Text) → subcommand_named name ≡ Some s → is_whole s.rules (rows_at s p.1).1 ≡ true →
+          has_all name (rows_at s p.1).1 ≡ true
       whole_named name found full = ap (λ (o : Option Shape). option_map_or (λ x. is_whole x.rules (rows_at s p.1).1) o false) found ∙ full
 
-entered_named : (stop : Option (Text × List Text)) → is_some (entered whole stop) ≡ true → StopsWell whole.top stop → entered_passes whole stop ≡ true
-    → NamesNone (entered whole stop) → AsksForSame (entered whole stop)
+entered_named : (stop : Option (Text × List Text)) → is_some (entered whole stop) ≡ true → StopsWell whole.top stop →
+    entered_passes whole stop ≡ true → NamesNone (entered whole stop) → AsksForSame (entered whole stop)
 entered_named None some well passes none = absurd (true≢false (sym some))
 entered_named (Some p) some well passes none = go (subcommand_named p.0) refl some passes none
   where
@@ -67,7 +69,8 @@ entered_named (Some p) some well passes none = go (subcommand_named p.0) refl so
     go (Some s) is some level none = shape_named p well s is level none
 
 -- words that the command takes name a job, unless they are an upgrade or a copy of one word to itself
-pub takes_named : (words : List Text) → takes eros_app words ≡ true → NamesNone (subcommand_of eros_app words) → AsksForSame (subcommand_of eros_app words)
+pub takes_named : (words : List Text) → takes eros_app words ≡ true → NamesNone (subcommand_of eros_app words) →
+    AsksForSame (subcommand_of eros_app words)
 takes_named words taken none =
     let parts = both (is_simple eros_app) _ taken in
     let given = drop 1 words in

@@ -4,13 +4,18 @@ use Rattle.command_line.proofs.Names.{IsCommand, ℕ, List, [], map, take, get_o
 use Rattle.command_line.proofs.Names.{subcommand_app, with_rules, with_subcommands, Argument, Subcommand}
 use Rattle.std.proofs.Common.{◌≡◌, ◌∙◌, ◌||◌, ◌∷◌, ◌++◌, ◌+◌, ◌<◌}
 
-pub added : (a b : App) (old sub new : Command) → AddsSubcommand old sub new → IsCommand a old → IsCommand b sub → IsCommand (with_subcommand a b.top) new
+pub added : (a b : App) (old sub new : Command) → AddsSubcommand old sub new → IsCommand a old → IsCommand b sub →
+    IsCommand (with_subcommand a b.top) new
 added a b old sub new adds is_old is_sub = grind (arith, nat_tests)
 
 -- and of an argument
-pub argued : (app : App) (old new : Command) (arg : Arg) (rule : Rule) → AddsArg old arg new → IsCommand app old → rule_of arg ≡ rule → arg.global ≡ false
-    → IsCommand (with_rule app rule) new
-argued app old new arg rule adds is_old ruled local = (adds.shape local ∙ ap₂ with_rule is_old.0 ruled, adds.globals ∙ ap₂ (λ x y. x || y) is_old.1 local)
+pub argued : (app : App) (old new : Command) (arg : Arg) (rule : Rule) → AddsArg old arg new → IsCommand app old → rule_of arg ≡ rule →
+    arg.global ≡ false → IsCommand (with_rule app rule) new
+argued app old new arg rule adds is_old ruled local = (
+  adds.shape local ∙ ap₂ with_rule is_old.0 ruled,
+  adds.globals
+      ∙ ap₂ (λ x y. x || y) is_old.1 local,
+)
 
 -- one argument more, and one subcommand more
 with_rules_more : (app : App) (rs : List Rule) (r : Rule) → with_rules app (rs ++ (r ∷ [])) ≡ with_rule (with_rules app rs) r
@@ -23,7 +28,8 @@ with_subcommands_more app [] s = refl
 with_subcommands_more app (x ∷ ss) s = with_subcommands_more (with_subcommand app (subcommand_app x).top) ss s
 
 rules_more : (app : App) (xs : List Argument) (i : ℕ) (d : Argument) → i < length xs →
-    with_rules app (map argument_rule (take (i + 1) xs)) ≡ with_rule (with_rules app (map argument_rule (take i xs))) (argument_rule (get_or xs i d))
+    with_rules app (map argument_rule (take (i + 1) xs)) ≡ with_rule (with_rules app (map argument_rule (take i xs)))
+    (argument_rule (get_or xs i d))
 rules_more app xs i d inside =
     ap (λ (ys : List Argument). with_rules app (map argument_rule ys)) (ap (λ (n : ℕ). take n xs) (add-one i) ∙ take-suc xs i d inside)
     ∙ ap (λ (rs : List Rule). with_rules app rs) (map-append argument_rule (take i xs) (get_or xs i d ∷ []))
@@ -32,7 +38,8 @@ rules_more app xs i d inside =
 pub argued_more : (app : App) (xs : List Argument) (i : ℕ) (d : Argument) (old new : Command) (arg : Arg) → i < length xs →
     IsCommand (with_rules app (map argument_rule (take i xs))) old → AddsArg old arg new → rule_of arg ≡ argument_rule (get_or xs i d) →
     arg.global ≡ false → IsCommand (with_rules app (map argument_rule (take (i + 1) xs))) new
-argued_more app xs i d old new arg inside is adds ruled local = rw (rules_more app xs i d inside) (argued _ old new arg _ adds is ruled local)
+argued_more app xs i d old new arg inside is adds ruled local = rw (rules_more app xs i d inside)
+    (argued _ old new arg _ adds is ruled local)
 
 subcommands_more : (app : App) (ss : List Subcommand) (i : ℕ) (d : Subcommand) → i < length ss →
     with_subcommands app (take (i + 1) ss) ≡ with_subcommand (with_subcommands app (take i ss)) (subcommand_app (get_or ss i d)).top

@@ -16,7 +16,8 @@ pub given : (f : Found) (id : Text) (o : Option (Bor Text)) (text : Bor Text) �
     → IsGiven (rows_of f) id text.now
 given f id o text got is = sym (first_value-rows f id) ∙ (sym got ∙ ap (option_map (λ s. s.now)) is)
 
-pub missing : (f : Found) (id : Text) (o : Option (Bor Text)) → option_map (λ s. s.now) o ≡ first_value f id → o ≡ None → first_of id (rows_of f) ≡ None
+pub missing : (f : Found) (id : Text) (o : Option (Bor Text)) → option_map (λ s. s.now) o ≡ first_value f id → o ≡ None →
+    first_of id (rows_of f) ≡ None
 missing f id o got is = sym (first_value-rows f id) ∙ (sym got ∙ ap (option_map (λ s. s.now)) is)
 
 pub given_or_not : (f : Found) (id : Text) (o : Option (Bor Text)) → option_map (λ s. s.now) o ≡ first_value f id →
@@ -28,8 +29,8 @@ pub given_all : (f : Found) (id : Text) (o : Option (Bor (List (Bor Text)))) (wo
     all_of id (rows_of f) ≡ Some (map (λ v. v.now) words.now)
 given_all f id o words got is = sym (raw_values-rows f id) ∙ (sym got ∙ ap (option_map (λ s. map (λ v. v.now) s.now)) is)
 
-pub missing_all : (f : Found) (id : Text) (o : Option (Bor (List (Bor Text)))) → option_map (λ s. map (λ v. v.now) s.now) o ≡ option_map raw_values
-    (matched_of f id)
+pub missing_all : (f : Found) (id : Text) (o : Option (Bor (List (Bor Text)))) →
+    option_map (λ s. map (λ v. v.now) s.now) o ≡ option_map raw_values (matched_of f id)
     → o ≡ None → all_of id (rows_of f) ≡ None
 missing_all f id o got is = sym (raw_values-rows f id) ∙ (sym got ∙ ap (option_map (λ s. map (λ v. v.now) s.now)) is)
 
@@ -46,14 +47,16 @@ pub unflagged : (rows : List Row) (id : Text) → first_of id rows ≡ None → 
 unflagged rows id none = λ set. let bad : None ≡ Some (codes "true") = sym none ∙ set in cc
 
 -- numbers that were given, or a word that is none
-pub numbers_given : (rows : List Row) (name : Text) (words : List Text) (r : Result (Option (Vec ℕ Global)) AllocError) → all_of name rows ≡ Some words
-    → IfOk r (λ o. IfSome o (λ numbers. (numbers.items ≡ map number_of words) × All (IsUnsignedIn 0 greatest_number) words))
+pub numbers_given : (rows : List Row) (name : Text) (words : List Text) (r : Result (Option (Vec ℕ Global)) AllocError) →
+    all_of name rows ≡ Some words → IfOk r (λ o. IfSome o (λ numbers. (numbers.items ≡ map number_of words)
+    × All (IsUnsignedIn 0 greatest_number) words))
     → IfOk r (λ o. IfSome o (λ numbers. AreNumbersIfAny rows name numbers.items))
 numbers_given rows name words (Ok (Some numbers)) given is = inl (words, given, is.1, is.0)
 numbers_given rows name words (Ok None) given is = tt
 numbers_given rows name words (Err e) given is = tt
 
-pub numbers_not_given : (rows : List Row) (name : Text) (words : List Text) (r : Result (Option (Vec ℕ Global)) AllocError) → all_of name rows ≡ Some words
-    → IfOk r (λ o. IsNone o → All (IsUnsignedIn 0 greatest_number) words → ⊥) → IfOk r (λ o. IsNone o → GivesNoNumbers rows name)
+pub numbers_not_given : (rows : List Row) (name : Text) (words : List Text) (r : Result (Option (Vec ℕ Global)) AllocError) →
+    all_of name rows ≡ Some words → IfOk r (λ o. IsNone o → All (IsUnsignedIn 0 greatest_number) words → ⊥) →
+    IfOk r (λ o. IsNone o → GivesNoNumbers rows name)
 numbers_not_given rows name words (Ok o) given bad = λ none. (words, given, bad none)
 numbers_not_given rows name words (Err e) given bad = tt

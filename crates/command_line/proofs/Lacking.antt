@@ -26,8 +26,8 @@ abbrev row_named : Text → List Row → Option Row
 row_named id rows = find (λ r. bytes_eq r.id id) rows
 
 module _ (name id : Text) (rows : List Row) where
-  filled_in : (o : Option Shape) (a : Rule) → option_and_then (λ s. arg_by_id s.rules id) o ≡ Some a → option_map_or (λ s. is_whole s.rules rows) o false ≡ true
-      → fills a (row_named id rows) ≡ true
+  filled_in : (o : Option Shape) (a : Rule) → option_and_then (λ s. arg_by_id s.rules id) o ≡ Some a →
+      option_map_or (λ s. is_whole s.rules rows) o false ≡ true → fills a (row_named id rows) ≡ true
   filled_in o a is has = grind (arith, nat_tests, found, bytes_eq-Decides)
 
   -- rows that lack what is required name no job
@@ -47,14 +47,15 @@ module _ (name id : Text) (rows : List Row) where
       empty [] e = refl
       empty (v ∷ vs) e = let bad : Some v ≡ None = e in cc
 
-      go : (o : Option Row) → option_and_then (λ (r : Row). slice_get r.values 0) o ≡ None → option_map_or (λ (r : Row). nat_lt 0 (length r.values)) o false ≡
-          false
+      go : (o : Option Row) → option_and_then (λ (r : Row). slice_get r.values 0) o ≡ None →
+          option_map_or (λ (r : Row). nat_lt 0 (length r.values)) o false ≡ false
       go None e = refl
       go (Some r) e = empty r.values e
 
   -- the values of an argument pass its parser
-  passing : (p : ValueParser) (o : Option Rule) → rule_named name id ≡ o → option_map (λ a. parser_of_value a.parser) o ≡ Some p → has_all name rows ≡ true
-      → (r : Row) → row_named id rows ≡ Some r → (ignore_case : Bool) × (list_all (accepts ignore_case p) r.values ≡ true)
+  passing : (p : ValueParser) (o : Option Rule) → rule_named name id ≡ o → option_map (λ a. parser_of_value a.parser) o ≡ Some p →
+      has_all name rows ≡ true → (r : Row) → row_named id rows ≡ Some r → (ignore_case : Bool)
+      × (list_all (accepts ignore_case p) r.values ≡ true)
   passing p None is parser has r at = let bad : None ≡ Some p = parser in cc
   passing p (Some a) is parser has r at =
       let full : fills a (Some r) ≡ true = subst (λ o. fills a o ≡ true) at (filled_in (subcommand_named name) a is has) in
@@ -62,11 +63,12 @@ module _ (name id : Text) (rows : List Row) where
       (a.ignore_case, subst (λ q. list_all (accepts a.ignore_case q) r.values ≡ true) same (both _ _ full).1)
 
   -- rows in which an option gives no number name no job
-  pub wrong : (least most : ℕ) → option_map (λ a. parser_of_value a.parser) (rule_named name id) ≡ Some (Unsigned least most) → GivesNoNumber rows id least most
-      → IsNoJob name rows
+  pub wrong : (least most : ℕ) → option_map (λ a. parser_of_value a.parser) (rule_named name id) ≡ Some (Unsigned least most) →
+      GivesNoNumber rows id least most → IsNoJob name rows
   wrong least most parser gives has = absurd (go (row_named id rows) refl gives.1)
     where
-      first : (vs : List Text) (ignore_case : Bool) → slice_get vs 0 ≡ Some gives.0 → list_all (accepts ignore_case (Unsigned least most)) vs ≡ true → ⊥
+      first : (vs : List Text) (ignore_case : Bool) → slice_get vs 0 ≡ Some gives.0 →
+          list_all (accepts ignore_case (Unsigned least most)) vs ≡ true → ⊥
       first [] ignore_case is all = let bad : None ≡ Some gives.0 = is in cc
       first (v ∷ vs) ignore_case is all =
           let same : v ≡ gives.0 = ap (λ (o : Option Text). unwrap_or o v) is in
@@ -76,8 +78,8 @@ module _ (name id : Text) (rows : List Row) where
       go None at is = let bad : None ≡ Some gives.0 = is in cc
       go (Some r) at is = let all = passing (Unsigned least most) (rule_named name id) refl parser has r at in first r.values all.0 is all.1
 
-  pub wrong_all : (least most : ℕ) (words : List Text) → option_map (λ a. parser_of_value a.parser) (rule_named name id) ≡ Some (Unsigned least most)
-      → all_of id rows ≡ Some words → (All (IsUnsignedIn least most) words → ⊥) → IsNoJob name rows
+  pub wrong_all : (least most : ℕ) (words : List Text) → option_map (λ a. parser_of_value a.parser) (rule_named name id)
+      ≡ Some (Unsigned least most) → all_of id rows ≡ Some words → (All (IsUnsignedIn least most) words → ⊥) → IsNoJob name rows
   wrong_all least most words parser given bad has = absurd (go (row_named id rows) refl given)
     where
       go : (o : Option Row) → row_named id rows ≡ o → option_map (λ (r : Row). r.values) o ≡ Some words → ⊥
@@ -90,8 +92,8 @@ module _ (name id : Text) (rows : List Row) where
           (subst (λ vs. list_all (accepts all.0 (Unsigned least most)) vs ≡ true) same all.1) k d lt))
 
 -- an upgrade or a copy whose two words are equal
-pub same_twice : (command id : Text) (rows : List Row) (one other : Text) → first_of id rows ≡ Some one → first_of (codes "NEW") rows ≡ Some other
-    → one ≡ other → IsSameOf command id command rows
+pub same_twice : (command id : Text) (rows : List Row) (one other : Text) → first_of id rows ≡ Some one →
+    first_of (codes "NEW") rows ≡ Some other → one ≡ other → IsSameOf command id command rows
 same_twice command id rows one other one_is other_is same = (refl, one, one_is, other_is ∙ ap Some (sym same))
 
 -- the name is none of these
@@ -102,10 +104,12 @@ DiffersFrom name (s ∷ rest) = (name ≡ s.name → ⊥) × DiffersFrom name re
 not_found : (name : Text) (xs : List Shape) → DiffersFrom name xs → list_all (λ s. is_empty s.aliases) xs ≡ true →
     find (λ s. answers_to name (label_of s)) xs ≡ None
 not_found name [] differs plain = refl
-not_found name (s ∷ rest) differs plain = go (bytes_eq s.name name) refl s.aliases (both _ _ plain).0 (not_found name rest differs.1 (both _ _ plain).1)
+not_found name (s ∷ rest) differs plain = go (bytes_eq s.name name) refl s.aliases (both _ _ plain).0
+    (not_found name rest differs.1 (both _ _ plain).1)
   where
-    go : (b : Bool) → bytes_eq s.name name ≡ b → (aliases : List Text) → is_empty aliases ≡ true → find (λ x. answers_to name (label_of x)) rest ≡ None
-        → cond (b || list_any (λ alias. bytes_eq alias name) aliases) (Some s) (find (λ x. answers_to name (label_of x)) rest) ≡ None
+    go : (b : Bool) → bytes_eq s.name name ≡ b → (aliases : List Text) → is_empty aliases ≡ true →
+        find (λ x. answers_to name (label_of x)) rest ≡ None → cond (b || list_any (λ alias. bytes_eq alias name) aliases) (Some s)
+        (find (λ x. answers_to name (label_of x)) rest) ≡ None
     go true e aliases none more = absurd (differs.0 (sym ((bytes_eq-Decides s.name name).0 e)))
     go false e [] none more = more
     go false e (x ∷ xs) none more = let bad : suc (length xs) ≡ 0 = eqb-true _ _ none in absurd (omega arith)
@@ -120,7 +124,13 @@ unknown name rows each has = go (bytes_eq name (codes "help")) refl
     differs : (name ≡ codes "help" → ⊥) → DiffersFrom name (built eros_app).subs
     differs help =
         let shapes : List Shape = (built eros_app).subs in
-        let last : DiffersFrom name (drop 7 shapes) = (at 7 (omega arith), (at 8 (omega arith), (at 9 (omega arith), (at 10 (omega arith), (help, tt))))) in
+        let last : DiffersFrom name (drop 7 shapes) = (
+          at 7 (omega arith),
+          (
+            at 8 (omega arith),
+            (at 9 (omega arith), (at 10 (omega arith), (help, tt))),
+          ),
+        ) in
         let more : DiffersFrom name (drop 4 shapes) = (at 4 (omega arith), (at 5 (omega arith), (at 6 (omega arith), last))) in
         (at 0 (omega arith), (at 1 (omega arith), (at 2 (omega arith), (at 3 (omega arith), more))))
 

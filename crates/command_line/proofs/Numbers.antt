@@ -9,7 +9,8 @@ no_word = record { ref_ptr = (0, 0); now = [] }
 
 -- the first words write these numbers
 abbrev pub NumbersBefore : List (Bor Text) → ℕ → List ℕ → Type 0
-NumbersBefore words i numbers = (numbers ≡ map number_of (take i (texts_of words))) × All (IsUnsignedIn 0 greatest_number) (take i (texts_of words))
+NumbersBefore words i numbers = (numbers ≡ map number_of (take i (texts_of words)))
+    × All (IsUnsignedIn 0 greatest_number) (take i (texts_of words))
 
 module _ (words : List (Bor Text)) (i : ℕ) (d : Bor Text) (lt : i < length words) where
   abbrev word : Bor Text
@@ -27,8 +28,10 @@ module _ (words : List (Bor Text)) (i : ℕ) (d : Bor Text) (lt : i < length wor
     ap₂ (λ (a : List ℕ) (b : ℕ). a ++ b ∷ []) before.0 (is.1 ∙ ap number_of (sym text_here))
         ∙ sym (ap (map number_of) (take_more (texts_of words) i word.now within) ∙
         map-append number_of (take i (texts_of words)) (get_or (texts_of words) i word.now ∷ [])),
-    All-more (IsUnsignedIn 0 greatest_number) (texts_of words) i word.now within before.1 (subst (IsUnsignedIn 0 greatest_number) (sym text_here) is.0),
+    All-more (IsUnsignedIn 0 greatest_number) (texts_of words) i word.now within before.1
+        (subst (IsUnsignedIn 0 greatest_number) (sym text_here) is.0),
   )
 
   pub numbers_bad : (IsUnsignedIn 0 greatest_number word.now → ⊥) → All (IsUnsignedIn 0 greatest_number) (texts_of words) → ⊥
-  numbers_bad bad all = bad (subst (IsUnsignedIn 0 greatest_number) text_here (All-get_or (IsUnsignedIn 0 greatest_number) _ i _ within all))
+  numbers_bad bad all = bad (subst (IsUnsignedIn 0 greatest_number) text_here
+      (All-get_or (IsUnsignedIn 0 greatest_number) _ i _ within all))

@@ -5,12 +5,13 @@ use Rattle.std.proofs.Common.{◌≡◌, ◌⊎◌}
 use Rattle.clap.specs.Words.{app_of, subcommand_of, takes}
 
 -- words are refused as bad ones by an error that explains it
-pub refused : (words : List Text) (e : Error) (f : JobFault) → IsFaultOf e f → (kind_of e ≡ OutOfMemory) ⊎ Explains words e → IsRefused words f
+pub refused : (words : List Text) (e : Error) (f : JobFault) → IsFaultOf e f → (kind_of e ≡ OutOfMemory) ⊎ Explains words e →
+    IsRefused words f
 refused words e f is reported = grind (arith, nat_tests)
 
 -- an error of the parse explains why the command doesn't take the words
-parse_explains : (words : List Text) (e : Error) → (takes eros_app words ≡ true → kind_of e ≡ OutOfMemory) → HasKind (fault_of eros_app words) e
-    → (kind_of e ≡ OutOfMemory) ⊎ Explains words e
+parse_explains : (words : List Text) (e : Error) → (takes eros_app words ≡ true → kind_of e ≡ OutOfMemory) →
+    HasKind (fault_of eros_app words) e → (kind_of e ≡ OutOfMemory) ⊎ Explains words e
 unfolding Explains
 parse_explains words e passes kinds = go (takes eros_app words) refl
   where
@@ -21,7 +22,8 @@ parse_explains words e passes kinds = go (takes eros_app words) refl
 -- and so it does where the parse is of a command that is read as that of `eros`
 pub parse_refused : (words : List Text) (command : Command) (e : Error) → app_of command ≡ eros_app →
     (takes (app_of command) words ≡ true → kind_of e ≡ OutOfMemory)
-    → (is_simple_and_free (app_of command) ≡ true → HasKind (fault_of (app_of command) words) e) → (kind_of e ≡ OutOfMemory) ⊎ Explains words e
+    → (is_simple_and_free (app_of command) ≡ true → HasKind (fault_of (app_of command) words) e) →
+    (kind_of e ≡ OutOfMemory) ⊎ Explains words e
 parse_refused words command e is passes kinds =
     parse_explains words e (subst (λ (a : App). takes a words ≡ true → kind_of e ≡ OutOfMemory) is passes)
     (subst (λ (a : App). is_simple_and_free a ≡ true → HasKind (fault_of a words) e) is kinds refl)

@@ -79,8 +79,9 @@ module _ (c : List Rule) where
   joined [] ys f g = g
   joined (x ∷ xs) ys f g = (f.0, joined xs ys f.1 g)
 
-  changed : (id : Text) (change : Row → List Row) (lacking rows : List Row) → ((r : Row) → bytes_eq r.id id ≡ true → IsGood c r → Filled c (change r))
-      → Filled c lacking → Filled c rows → Filled c (at_row id change lacking rows)
+  changed : (id : Text) (change : Row → List Row) (lacking rows : List Row) →
+      ((r : Row) → bytes_eq r.id id ≡ true → IsGood c r → Filled c (change r)) → Filled c lacking → Filled c rows →
+      Filled c (at_row id change lacking rows)
   changed id change lacking [] keeps f g = f
   changed id change lacking (r ∷ rs) keeps f g = grind (arith, nat_tests, changed id change lacking rs keeps f g.1, joined)
 
@@ -88,12 +89,14 @@ module _ (c : List Rule) where
   without_keeps id rows f = changed id (λ _. []) [] rows (λ r is good. tt) tt f
 
   -- values of a row of the argument's name suit it if they pass its parser
-  suits_own : (a : Rule) (id : Text) (values : List Text) → arg_by_id c a.id ≡ Some a → bytes_eq id a.id ≡ true → suits c id values ≡ values_pass a values
+  suits_own : (a : Rule) (id : Text) (values : List Text) → arg_by_id c a.id ≡ Some a → bytes_eq id a.id ≡ true →
+      suits c id values ≡ values_pass a values
   suits_own a id values own same =
-      ap (λ (t : Text). suits c t values) ((bytes_eq-Decides id a.id).0 same) ∙ ap (λ (o : Option Rule). option_map_or (λ b. values_pass b values) o true) own
+      ap (λ (t : Text). suits c t values) ((bytes_eq-Decides id a.id).0 same)
+      ∙ ap (λ (o : Option Rule). option_map_or (λ b. values_pass b values) o true) own
 
-  with_keeps : (a : Rule) (s : ValueSource) (values : List Text) (rows : List Row) → arg_by_id c a.id ≡ Some a → 0 < length values → values_pass a values ≡ true
-      → Filled c rows → Filled c (with_values a.id (reading_by a) s values rows)
+  with_keeps : (a : Rule) (s : ValueSource) (values : List Text) (rows : List Row) → arg_by_id c a.id ≡ Some a → 0 < length values →
+      values_pass a values ≡ true → Filled c rows → Filled c (with_values a.id (reading_by a) s values rows)
   with_keeps a s values rows own lt passes f = grind (arith, nat_tests, changed, suits_own, bytes_eq-Decides, longer, list_all-append)
 
 module _ (c : List Rule) (again : Bool) where
@@ -115,15 +118,16 @@ module _ (c : List Rule) (again : Bool) (own : AllOwn c c) where
 
   react_keeps : (a : Rule) (values : List Text) (h : Held) → IsOwn c a → react_passes c again a values h ≡ true → Filled c h.rows →
       Filled c (reacted c a values h).rows
-  react_keeps a values h is passes f = let parts = both _ _ passes in used_keeps c again a values (settled c h).rows is parts.1 (settle_keeps h parts.0 f)
+  react_keeps a values h is passes f = let parts = both _ _ passes in used_keeps c again a values (settled c h).rows is parts.1
+      (settle_keeps h parts.0 f)
 
   option_keeps : (a : Rule) (v : Option Text) (h : Held) → IsOwn c a → option_passes c again a v h ≡ true → Filled c h.rows →
       Filled c (option_met c a v h).0.rows
   option_keeps a (Some v) h is passes f = react_keeps a (v ∷ []) h is passes f
   option_keeps a None h is passes f = settle_keeps h passes f
 
-  flag_keeps : (a : Rule) (v : Option Text) (h : Held) → IsOwn c a → (not (is_some v) && react_passes c again a [] h) ≡ true → Filled c h.rows
-      → Filled c (flag_met c a v h).0.rows
+  flag_keeps : (a : Rule) (v : Option Text) (h : Held) → IsOwn c a → (not (is_some v) && react_passes c again a [] h) ≡ true →
+      Filled c h.rows → Filled c (flag_met c a v h).0.rows
   flag_keeps a (Some v) h is passes f = f
   flag_keeps a None h is passes f = react_keeps a [] h is passes f
 
@@ -133,19 +137,21 @@ module _ (c : List Rule) (again : Bool) (own : AllOwn c c) where
   short_keeps None rest h more passes_on is keeps passes f = f
   short_keeps (Some a) rest h more passes_on is keeps passes f = go (takes_values a) passes
     where
-      go : (b : Bool) → cond b (option_passes c again a (attached_value rest) h) (react_passes c again a [] h && passes_on (reacted c a [] h)) ≡ true
-          → Filled c (cond b (option_met c a (attached_value rest) h) (more (reacted c a [] h))).0.rows
+      go : (b : Bool) → cond b (option_passes c again a (attached_value rest) h)
+          (react_passes c again a [] h && passes_on (reacted c a [] h)) ≡ true →
+          Filled c (cond b (option_met c a (attached_value rest) h) (more (reacted c a [] h))).0.rows
       go true e = option_keeps a (attached_value rest) h is e f
       go false e = let parts = both _ _ e in keeps (reacted c a [] h) parts.1 (react_keeps a [] h is parts.0 f)
 
   bundle_step_keeps : (o : Option ℕ) (flags : Text) (skip : ℕ) (so_far : Outcome) (h : Held)
       (more : Text → ℕ → Outcome → Held → Held × Outcome) (passes_on : Text → ℕ → Held → Bool)
       → ((t : Text) (n : ℕ) (u : Outcome) (g : Held) → passes_on t n g ≡ true → Filled c g.rows → Filled c (more t n u g).0.rows)
-      → bundle_step_passes c again o flags skip h passes_on ≡ true → Filled c h.rows → Filled c (bundle_step c o flags skip so_far h more).0.rows
+      → bundle_step_passes c again o flags skip h passes_on ≡ true → Filled c h.rows →
+      Filled c (bundle_step c o flags skip so_far h more).0.rows
   bundle_step_keeps o flags skip so_far h more passes_on keeps passes f = grind (arith, nat_tests, short_keeps, found_own)
 
-  bundle_keeps : (k : ℕ) (flags : Text) (skip : ℕ) (so_far : Outcome) (h : Held) → flags_pass c again k flags skip h ≡ true → Filled c h.rows
-      → Filled c (bundle_met c k flags skip so_far h).0.rows
+  bundle_keeps : (k : ℕ) (flags : Text) (skip : ℕ) (so_far : Outcome) (h : Held) → flags_pass c again k flags skip h ≡ true →
+      Filled c h.rows → Filled c (bundle_met c k flags skip so_far h).0.rows
   unfolding bundle_met flags_pass
   bundle_keeps zero flags skip so_far h passes f = f
   bundle_keeps (suc k) flags skip so_far h passes f = grind (arith, nat_tests, bundle_keeps k, bundle_step_keeps)
@@ -174,21 +180,33 @@ module _ (s : Shape) (own : AllOwn s.rules s.rules) where
   plain_keeps : (waiting : Waiting) (word : Text) (h : Held) → Filled s.rules h.rows → StepKeeps s (plain_word s.rules waiting word h)
   plain_keeps waiting word h f = grind (arith, nat_tests, positional)
 
-  after_flag_keeps : (waiting : Waiting) (word : Text) (h : Held) (u : Outcome) → Filled s.rules h.rows → StepKeeps s (after_flag s.rules waiting word h u)
+  after_flag_keeps : (waiting : Waiting) (word : Text) (h : Held) (u : Outcome) → Filled s.rules h.rows →
+      StepKeeps s (after_flag s.rules waiting word h u)
   after_flag_keeps waiting word h u f = grind (arith, nat_tests, plain_keeps)
 
   other_keeps : (waiting : Waiting) (word : Text) (o : Option (Text × Option Text)) (h : Held)
-      → flag_word_passes s.rules s.args_override_self o word h ≡ true → Filled s.rules h.rows → StepKeeps s (long_or_other s.rules waiting word o h)
-  other_keeps waiting word o h passes f = grind (arith, nat_tests, after_flag_keeps, option_keeps, flag_keeps, found_own, plain_keeps, bundle_keeps)
+      → flag_word_passes s.rules s.args_override_self o word h ≡ true → Filled s.rules h.rows →
+      StepKeeps s (long_or_other s.rules waiting word o h)
+  other_keeps waiting word o h passes f = grind (
+    arith,
+    nat_tests,
+    after_flag_keeps,
+    option_keeps,
+    flag_keeps,
+    found_own,
+    plain_keeps,
+    bundle_keeps,
+  )
 
   word_keeps : (names : Names) (is_trailing : Bool) (waiting : Waiting) (position : ℕ) (word : Text) (h : Held)
-      → word_passes s names is_trailing waiting word h ≡ true → Filled s.rules h.rows → StepKeeps s (word_met s.rules names is_trailing waiting position word h)
+      → word_passes s names is_trailing waiting word h ≡ true → Filled s.rules h.rows →
+      StepKeeps s (word_met s.rules names is_trailing waiting position word h)
   word_keeps names is_trailing waiting position word h passes f = grind (arith, nat_tests, other_keeps)
 
   -- ---- the walk
 
-  step_keeps : (word : Text) (w : Walk) (h : Held) (step : Step) → step_passes s w.position h step ≡ true → StopsWell s w.stopped → Filled s.rules h.rows
-      → EntersNoHelp s step → WalkKeeps s (after_step s.rules word w h step)
+  step_keeps : (word : Text) (w : Walk) (h : Held) (step : Step) → step_passes s w.position h step ≡ true → StopsWell s w.stopped →
+      Filled s.rules h.rows → EntersNoHelp s step → WalkKeeps s (after_step s.rules word w h step)
   step_keeps word w h step passes stops f well = grind (arith, nat_tests, settle_keeps)
 
   turn_keeps : (names : Names) (stop : Option (Text × List Text)) (w : Walk) (word : Text)
@@ -212,7 +230,8 @@ with_default_keeps : (c : List Rule) (rows : List Row) (a : Rule) → arg_by_id 
     Filled c (with_default rows a)
 with_default_keeps c rows a own passes f = grind (arith, nat_tests, eqb-true, with_keeps)
 
-defaults_keep : (c xs : List Rule) (rows : List Row) → AllOwn c xs → list_all default_passes xs ≡ true → Filled c rows → Filled c (fold with_default rows xs)
+defaults_keep : (c xs : List Rule) (rows : List Row) → AllOwn c xs → list_all default_passes xs ≡ true → Filled c rows →
+    Filled c (fold with_default rows xs)
 defaults_keep c [] rows own passes f = f
 defaults_keep c (a ∷ xs) rows own passes f = grind (arith, nat_tests, defaults_keep c xs (with_default rows a) own.1, with_default_keeps)
 
@@ -225,19 +244,20 @@ found_good : (c : List Rule) (id : Text) (rows : List Row) → Filled c rows →
 found_good c id [] f = tt
 found_good c id (r ∷ rs) f = grind (arith, nat_tests, found_good c id rs f.1, bytes_eq-Decides)
 
-rule_filled : (c : List Rule) (a : Rule) (rows : List Row) → arg_by_id c a.id ≡ Some a → Filled c rows → (not a.required || is_given a.id rows) ≡ true
-    → is_filled rows a ≡ true
+rule_filled : (c : List Rule) (a : Rule) (rows : List Row) → arg_by_id c a.id ≡ Some a → Filled c rows →
+    (not a.required || is_given a.id rows) ≡ true → is_filled rows a ≡ true
 rule_filled c a rows own f given = grind (arith, nat_tests, found_good, suits_own, bytes_eq-Decides, lt-ltb)
 
-whole_from : (c xs : List Rule) (rows : List Row) → AllOwn c xs → Filled c rows → list_all (λ a. not a.required || is_given a.id rows) xs ≡ true →
-    is_whole xs rows ≡ true
+whole_from : (c xs : List Rule) (rows : List Row) → AllOwn c xs → Filled c rows →
+    list_all (λ a. not a.required || is_given a.id rows) xs ≡ true → is_whole xs rows ≡ true
 whole_from c [] rows own f given = refl
 whole_from c (a ∷ xs) rows own f given = grind (arith, nat_tests, whole_from c xs rows own.1 f, rule_filled)
 
 -- what holds of a level that passes: each argument has the values that it takes, no help is entered, and a required subcommand is there
-pub level_keeps : (s : Shape) (names : Names) (words : List Text) (has_subcommand : Bool) → is_plain s.rules ≡ true → s.subcommand_negates_reqs ≡ false
-    → level_passes s names nothing_held words has_subcommand ≡ true
-    → (is_whole s.rules (finished s.rules (walk s.rules names nothing_held words).held) ≡ true) × StopsWell s (walk s.rules names nothing_held words).stopped
+pub level_keeps : (s : Shape) (names : Names) (words : List Text) (has_subcommand : Bool) → is_plain s.rules ≡ true →
+    s.subcommand_negates_reqs ≡ false → level_passes s names nothing_held words has_subcommand ≡ true
+    → (is_whole s.rules (finished s.rules (walk s.rules names nothing_held words).held) ≡ true)
+    × StopsWell s (walk s.rules names nothing_held words).stopped
     × ((not s.subcommand_required || has_subcommand) ≡ true)
 level_keeps s names words has simple negates passes =
     let own = all_own s.rules simple in
@@ -250,8 +270,11 @@ level_keeps s names words has simple negates passes =
     let end = (walk s.rules names nothing_held words) in
     let kept = walk_keeps s own names (walk_from nothing_held) words walks.0 (tt, tt) in
     let filled = defaults_keep s.rules s.rules (settled s.rules end.held).rows own defaults.0
-    (settle_keeps s.rules s.args_override_self own end.held settles.0 kept.0) in
-    (whole_from s.rules s.rules (finished s.rules end.held) own filled (negated s.subcommand_negates_reqs has _ negates free.1), kept.1, wanted.0)
+    (settle_keeps s.rules s.args_override_self own end.held settles.0 kept.0) in (
+      whole_from s.rules s.rules (finished s.rules end.held) own filled (negated s.subcommand_negates_reqs has _ negates free.1),
+      kept.1,
+      wanted.0,
+    )
   where
     negated : (b has x : Bool) → b ≡ false → ((b && has) || x) ≡ true → x ≡ true
     negated true has x is e = absurd (true≢false is)

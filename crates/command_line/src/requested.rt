@@ -66,7 +66,7 @@ pub struct Reach<'a> {
     pub reads: bool,
     /// The object to which a shortest chain of capabilities is shown.
     pub shows: Option<u64>,
-    /// The object of which it is shown which processes can change it.
+    /// The object whose changers are printed: the processes that can change it.
     pub to: Option<u64>,
     /// The processes that are trusted, in the order of the words.
     pub trusted: Vec<u64>,

@@ -99,8 +99,8 @@ module _ (g : Geometry) (z : Zone) (os : List Object) (h : IsNow g os) (k : Encl
   IsUnused n = (n < length os) × IsTrue (is_free (content_at os n))
 
   -- each free number of a range of objects is one
-  unused_at : (from count : ℕ) → from + count ≤ length os → (ns : List ℕ) → are_free os (range_with_len from count) ≡ ns → (n : ℕ) → is_member ns n ≡ true →
-      IsUnused n
+  unused_at : (from count : ℕ) → from + count ≤ length os → (ns : List ℕ) → are_free os (range_with_len from count) ≡ ns → (n : ℕ) →
+      is_member ns n ≡ true → IsUnused n
   unused_at from count fits ns e n member = grind (arith, nat_tests, found_in)
 
   -- one new object
@@ -146,7 +146,8 @@ module _ (g : Geometry) (z : Zone) (os : List Object) (h : IsNow g os) (k : Encl
   freed_inside c names within n member = grind (arith, nat_tests)
 
   -- a bank whose chain passes through one inside is inside
-  above_inside : (b : ℕ) → IsTrue (z.members b) → (c : ℕ) → IsTrue (is_bank (content_at os c)) → is_member (chain os c) b ≡ true → IsTrue (z.members c)
+  above_inside : (b : ℕ) → IsTrue (z.members b) → (c : ℕ) → IsTrue (is_bank (content_at os c)) → is_member (chain os c) b ≡ true →
+      IsTrue (z.members c)
   above_inside b is =
       tree_induction os tree (λ c. is_member (chain os c) b ≡ true → IsTrue (z.members c))
       (λ e. ap z.members (sym (only_member 0 b (ap (λ xs. is_member xs b) (sym (chain_zero os 0 refl)) ∙ e))) ∙ is)
@@ -187,13 +188,15 @@ module _ (g : Geometry) (z : Zone) (os : List Object) (h : IsNow g os) (k : Encl
     page_made_stays : OutcomeStays z os (on_bank g os b bank.NewPage args)
     unfolding on_bank free_pages
     page_made_stays = chosen (OutcomeStays z os) (has_quota os b 1) _ _
-        (λ _. allocated_stays g.nodes g.pages (omega (arith, h.frame.size)) b new_page _ (fresh_page z) (λ n is. inl (inr is)) (free_pages g os) refl)
+        (λ _. allocated_stays g.nodes g.pages (omega (arith, h.frame.size)) b new_page _ (fresh_page z) (λ n is. inl (inr is))
+        (free_pages g os) refl)
         (λ _. refused_stays code.Limit)
 
     node_made_stays : OutcomeStays z os (on_bank g os b bank.NewNode args)
     unfolding on_bank free_nodes
     node_made_stays = chosen (OutcomeStays z os) (has_quota os b 1) _ _
-        (λ _. allocated_stays 0 g.nodes (omega (arith, h.frame.size)) b new_node _ (fresh_node z) (λ n is. inl (inr is)) (free_nodes g os) refl)
+        (λ _. allocated_stays 0 g.nodes (omega (arith, h.frame.size)) b new_node _ (fresh_node z) (λ n is. inl (inr is)) (free_nodes g os)
+        refl)
         (λ _. refused_stays code.Limit)
 
     bank_made_stays : OutcomeStays z os (on_bank g os b bank.NewBank args)
@@ -203,7 +206,8 @@ module _ (g : Geometry) (z : Zone) (os : List Object) (h : IsNow g os) (k : Encl
         go : (ns : List ℕ) → are_free os (range_with_len 0 g.nodes) ≡ ns → OutcomeStays z os (bank_allocated os b ns args.first)
         go [] e = refused_stays code.NoFrame
         go (n ∷ ns) e = chosen (OutcomeStays z os) (nat_lt (length (chain os b)) 16) _ _
-            (λ _. allocated_stays 0 g.nodes (omega (arith, h.frame.size)) b (content.Bank args.first) Bank (fresh_bank z args.first) (λ n is. inl (inr is))
+            (λ _. allocated_stays 0 g.nodes (omega (arith, h.frame.size)) b (content.Bank args.first) Bank (fresh_bank z args.first)
+            (λ n is. inl (inr is))
             (n ∷ ns) e)
             (λ _. refused_stays code.TooDeep)
 

@@ -45,7 +45,12 @@ content_twice first second c = grind (arith, nat_tests, map_twice, twice)
 
 -- an object is kept unchanged
 pub kept_refl : (inside : ℕ → Bool) (o : Object) → IsKept inside o o
-kept_refl inside o = ((λ c. false), (λ c e. cc), ap (λ (c : Content Capability). record { owner = o.owner; content = c }) (content_same o.content))
+kept_refl inside o = (
+  (λ c. false),
+  (λ c e. cc),
+  ap (λ (c : Content Capability). record { owner = o.owner; content = c })
+      (content_same o.content),
+)
 
 -- kept twice is kept
 kept_trans : (inside : ℕ → Bool) (o p q : Object) → IsKept inside o p → IsKept inside p q → IsKept inside o q
@@ -63,8 +68,8 @@ stays_trans z os us vs a b = record {
 }
 
 -- what a bank owns that is a member, is one, also where an object may change
-owned_here : (z : Zone) (os : List Object) (n b : ℕ) → Encloses z os → IsTrue (z.members b) → IsTrue (is_bank (content_at os b)) → owner_at os n ≡ b
-    → IsTrue (z.members n)
+owned_here : (z : Zone) (os : List Object) (n b : ℕ) → Encloses z os → IsTrue (z.members b) → IsTrue (is_bank (content_at os b)) →
+    owner_at os n ≡ b → IsTrue (z.members n)
 owned_here z os n b h in_b bank own = go (is_free (content_at os n)) refl
   where
     go : (gone : Bool) → is_free (content_at os n) ≡ gone → IsTrue (z.members n)
@@ -196,12 +201,14 @@ stays_state z os p s h in_p is = stays_root z os p (record (root_at os p) { stat
 stays_void : (z : Zone) (goes : Capability → Bool) (c : Capability) → Stays z c → Stays z (void_where goes c)
 stays_void z goes c stays = one_of (Stays z) (goes c) Void c (inl (inl tt)) stays
 
-annex_without : (z : Zone) (goes : Capability → Bool) (o : Object) → (IsTrue (is_root o.content) → IsTrue (z.members (root_in o.content).annex))
-    → IsTrue (is_root (without goes o).content) → IsTrue (z.members (root_in (without goes o).content).annex)
+annex_without : (z : Zone) (goes : Capability → Bool) (o : Object) → (IsTrue (is_root o.content) →
+    IsTrue (z.members (root_in o.content).annex)) → IsTrue (is_root (without goes o).content) →
+    IsTrue (z.members (root_in (without goes o).content).annex)
 annex_without z goes o h is = grind (arith, nat_tests)
 
-receives_without : (z : Zone) (goes : Capability → Bool) (p : ℕ) (o : Object) → (IsTrue (is_root o.content) → IsReceiver z p (root_in o.content).annex)
-    → IsTrue (is_root (without goes o).content) → IsReceiver z p (root_in (without goes o).content).annex
+receives_without : (z : Zone) (goes : Capability → Bool) (p : ℕ) (o : Object) →
+    (IsTrue (is_root o.content) → IsReceiver z p (root_in o.content).annex) → IsTrue (is_root (without goes o).content) →
+    IsReceiver z p (root_in (without goes o).content).annex
 receives_without z goes p o h is = grind (arith, nat_tests)
 
 -- members are freed, and capabilities that name members put void
@@ -223,7 +230,8 @@ stays_without z os us goes set h members names at = record {
           (stays_void z goes (slice_index_or (slots_in (content_at os n)) i Void) (h.closed.slots n i in_n)));
       spaces = λ p in_p.
           at_us (λ o. Stays z (root_in o.content).space) p (λ m. inl (inl tt))
-          (rw ((without_mapped goes (object_at os p)).space (void_void goes)) (stays_void z goes (root_at os p).space (h.closed.spaces p in_p)));
+          (rw ((without_mapped goes (object_at os p)).space (void_void goes))
+          (stays_void z goes (root_at os p).space (h.closed.spaces p in_p)));
     };
     free = λ n.
         at_us (λ o. is_free o.content ≡ true → IsTrue (z.members n)) n (λ m e. members n m)

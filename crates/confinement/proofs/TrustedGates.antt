@@ -19,8 +19,8 @@ annex_changes : (z : Zone) (os : List Object) (p : ℕ) → Encloses z os → Is
 annex_changes z os p h root (inl member) = (inl member, inl (h.closed.annexes p member root))
 annex_changes z os p h root (inr port) = (inr port.0, inr port.1)
 
-deliver_stays : (z : Zone) (os : List Object) (p : ℕ) (m : Message) → Encloses z os → IsReceiver z p (annex_at os p) → IsTrue (is_process os p)
-    → ((j : ℕ) → Stays z (slice_index_or m.capabilities j Void)) → StaysWithin z os (deliver os p m)
+deliver_stays : (z : Zone) (os : List Object) (p : ℕ) (m : Message) → Encloses z os → IsReceiver z p (annex_at os p) →
+    IsTrue (is_process os p) → ((j : ℕ) → Stays z (slice_index_or m.capabilities j Void)) → StaysWithin z os (deliver os p m)
 unfolding deliver
 deliver_stays z os p m h receives root sent =
     let old = root_at os p in
@@ -59,7 +59,8 @@ gate_sent_stays : (z : Zone) (os : List Object) (i : Invocation) (j : ℕ) → I
     → Stays z (slice_index_or (sent_to_gate os i) j Void)
 gate_sent_stays z os i j by = go i.operation
   where
-    go : (o : Operation) → Stays z (slice_index_or (elim o [ Call ↦ slice_set (sent_by os i) 3 (Resume i.process) | _ ↦ sent_by os i ]) j Void)
+    go : (o : Operation) → Stays z (slice_index_or (elim o [ Call ↦ slice_set (sent_by os i) 3 (Resume i.process) | _ ↦ sent_by os i ]) j
+        Void)
     go Call = at_set (λ m c. Stays z c) (sent_by os i) 3 j (Resume i.process) Void (inl (inr by.member)) (sent_stays z os i j by)
     go o = sent_stays z os i j by
 

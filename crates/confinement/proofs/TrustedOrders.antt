@@ -29,8 +29,8 @@ refused_stays z os h = still z os Void h (void_stays z)
 writes : (z : Zone) (o : ℕ) (a : Access) → ((a.0 ≡ 3) ⊎ IsTrue (z.members o)) ⊎ ⊥ → not (a.0 == 0) ≡ false → IsTrue (z.members o)
 writes z o a is e = grind (arith, nat_tests)
 
-fetched_stays : (z : Zone) (o : ℕ) (a : Access) (c : Capability) → ((a.0 ≡ 3) ⊎ IsTrue (z.members o)) ⊎ ⊥ → (IsTrue (z.members o) → Stays z c)
-    → Stays z (fetched a c)
+fetched_stays : (z : Zone) (o : ℕ) (a : Access) (c : Capability) → ((a.0 ≡ 3) ⊎ IsTrue (z.members o)) ⊎ ⊥ →
+    (IsTrue (z.members o) → Stays z c) → Stays z (fetched a c)
 fetched_stays z o a c named held = grind (arith, nat_tests)
 
 -- orders

@@ -25,13 +25,14 @@ names_inside inside c = elim (named c) [ None ↦ false | Some n ↦ inside n ]
 names_from : (inside : ℕ → Bool) (c : Capability) → names_inside inside c ≡ true → NamesInside inside c
 names_from inside c e = grind (arith, nat_tests)
 
-map_alike : (f k : Capability → Capability) (cs : List Capability) → ((i : ℕ) → f (slice_index_or cs i Void) ≡ k (slice_index_or cs i Void)) →
-    map f cs ≡ map k cs
+map_alike : (f k : Capability → Capability) (cs : List Capability) → ((i : ℕ) → f (slice_index_or cs i Void) ≡ k (slice_index_or cs i Void))
+    → map f cs ≡ map k cs
 map_alike f k [] same = refl
 map_alike f k (c ∷ cs) same = rw (same 0, map_alike f k cs (λ i. same (suc i))) refl
 
 content_alike : (f k : Capability → Capability) (c : Content Capability)
-    → ((i : ℕ) → f (slice_index_or (slots_in c) i Void) ≡ k (slice_index_or (slots_in c) i Void)) → f (root_in c).space ≡ k (root_in c).space
+    → ((i : ℕ) → f (slice_index_or (slots_in c) i Void) ≡ k (slice_index_or (slots_in c) i Void)) →
+    f (root_in c).space ≡ k (root_in c).space
     → map_content f c ≡ map_content k c
 content_alike f k (content.Node cs) slots space = ap content.Node (map_alike f k cs slots)
 content_alike f k (content.Root r) slots space = grind (arith, nat_tests)
@@ -39,8 +40,8 @@ content_alike f k (content.Annex cs) slots space = ap content.Annex (map_alike f
 content_alike f k c slots space = refl
 
 -- in a sound world no capability that goes names what was free
-kept_inside : (g : Geometry) (os : List Object) (age : ℕ) (inside : ℕ → Bool) (n : ℕ) (new : Object) → IsSound g (record { objects = os; age = age })
-    → IsKept (with_free os inside) (object_at os n) new → IsKept inside (object_at os n) new
+kept_inside : (g : Geometry) (os : List Object) (age : ℕ) (inside : ℕ → Bool) (n : ℕ) (new : Object) →
+    IsSound g (record { objects = os; age = age }) → IsKept (with_free os inside) (object_at os n) new → IsKept inside (object_at os n) new
 kept_inside g os age inside n new sound k = (
   goes,
   λ c e. names_from inside c (and_parts (k.0 c) (names_inside inside c) e).1,
@@ -87,7 +88,8 @@ along_inside z os h (Space o k a) (slot ∷ slots) found stays e full =
 along_inside z os h c slots found stays e full = cc
 
 -- a test that is passed on the way to what is found
-if_found : (b : Bool) (r : Result (ℕ × Access) MemoryFault) (why : MemoryFault) (found : ℕ × Access) → (if b then r else Err why) ≡ Ok found → r ≡ Ok found
+if_found : (b : Bool) (r : Result (ℕ × Access) MemoryFault) (why : MemoryFault) (found : ℕ × Access) →
+    (if b then r else Err why) ≡ Ok found → r ≡ Ok found
 if_found b r why found e = grind (arith, nat_tests)
 
 -- a walk from what stays inside to a writable page ends at a member
@@ -126,7 +128,8 @@ MachineWithin g z os (Down saved) = Unit {0}
 abbrev invoked : Running → Option Effect → Outcome
 invoked s found = elim found [
   | None ↦ outcome answer.Done s
-  | Some effect ↦ outcome answer.Done (writing s effect.objects (s.now.age + 1) effect.written (renewing s.renewed s.now.objects effect.objects))
+  | Some effect ↦ outcome answer.Done (writing s effect.objects (s.now.age + 1) effect.written
+      (renewing s.renewed s.now.objects effect.objects))
 ]
 
 abbrev loaded : Running → ℕ → Result (ℕ × Access) MemoryFault → Outcome
@@ -147,7 +150,8 @@ word_sound : (g : Geometry) (os : List Object) (age n i w : ℕ) → IsSound g (
 word_sound g os age n i w sound fits =
     let us = with_word os n i w in
     let e = edited_word g (Waits os) os n i w (nearly_from g (record { objects = os; age = age }) sound) fits in
-    nearly_to g us age (nearly_weaken g (Waits os) (Waits us) us (λ q waits. subst (λ s. IsTrue (is_waiting s)) (sym (e.states q)) waits) e.sound) sound.age
+    nearly_to g us age (nearly_weaken g (Waits os) (Waits us) us (λ q waits. subst (λ s. IsTrue (is_waiting s)) (sym (e.states q)) waits)
+    e.sound) sound.age
 
 load_keeps : (g : Geometry) (z : Zone) (os : List Object) (s : Running) (address : ℕ) (found : Result (ℕ × Access) MemoryFault)
     → IsWithin g z os s → IsWithin g z os (loaded s address found).after
@@ -188,7 +192,8 @@ invocation_stays : (g : Geometry) (w : World) (i : Invocation) (e : Effect) (z :
 invocation_stays g w i e z sound fits runs h is done = search (arith, nat_tests, invoked_stays, nearly_from)
 
 invoke_keeps : (g : Geometry) (z : Zone) (os : List Object) (s : Running) (i : Invocation) (found : Option Effect)
-    → invoke g s.now.objects i ≡ found → Fits (command.Invoke i) → IsTrue (z.members i.process) → IsTrue (is_running_process s.now.objects i.process)
+    → invoke g s.now.objects i ≡ found → Fits (command.Invoke i) → IsTrue (z.members i.process) →
+    IsTrue (is_running_process s.now.objects i.process)
     → s.now.age < 2 ^ 62 → IsWithin g z os s → IsWithin g z os (invoked s found).after
 invoke_keeps g z os s i None is fits in_p runs young h = h
 invoke_keeps g z os s i (Some e) is fits in_p runs young h = record {
@@ -198,8 +203,8 @@ invoke_keeps g z os s i (Some e) is fits in_p runs young h = record {
 }
 
 -- a command that isn't refused
-carried_keeps : (g : Geometry) (z : Zone) (os : List Object) (s : Running) (c : Command) → IsBy z.members c → Fits c → refusal_of g s c ≡ None
-    → IsWithin g z os s → IsWithin g z os (carried_out g s c).after
+carried_keeps : (g : Geometry) (z : Zone) (os : List Object) (s : Running) (c : Command) → IsBy z.members c → Fits c →
+    refusal_of g s c ≡ None → IsWithin g z os s → IsWithin g z os (carried_out g s c).after
 unfolding carried_out refusal_of
 carried_keeps g z os s (command.Invoke i) in_p fits e h =
     let first = unless_passes _ _ _ e in
@@ -211,16 +216,16 @@ carried_keeps g z os s (command.Store p address value) in_p fits e h =
     store_keeps g z os s p address value (writable (reached s.now.objects p address)) refl in_p fits.2 h
 carried_keeps g z os s c in_p fits e h = absurd in_p
 
-answer_keeps : (g : Geometry) (z : Zone) (os : List Object) (s : Running) (c : Command) (a : Answer) (after : Machine) → IsBy z.members c → Fits c
-    → IsWithin g z os s → Answers g s c a after → MachineWithin g z os after
+answer_keeps : (g : Geometry) (z : Zone) (os : List Object) (s : Running) (c : Command) (a : Answer) (after : Machine) → IsBy z.members c →
+    Fits c → IsWithin g z os s → Answers g s c a after → MachineWithin g z os after
 answer_keeps g z os s c a after by fits h answers = cases (refusal_of g s c) refl answers
   where
     cases : (refused : Option Refusal) → refusal_of g s c ≡ refused → IsAnswer g s c a after refused → MachineWithin g z os after
     cases (Some why) is replying = subst (λ m. MachineWithin g z os m) (sym replying.1) h
     cases None is replying = subst (λ m. MachineWithin g z os m) (sym replying.1) (carried_keeps g z os s c by fits is h)
 
-step_keeps : (g : Geometry) (z : Zone) (os : List Object) (m : Machine) (c : Command) (a : Answer) (after : Machine) → IsBy z.members c → Fits c
-    → MachineWithin g z os m → Step g m c a after → MachineWithin g z os after
+step_keeps : (g : Geometry) (z : Zone) (os : List Object) (m : Machine) (c : Command) (a : Answer) (after : Machine) → IsBy z.members c →
+    Fits c → MachineWithin g z os m → Step g m c a after → MachineWithin g z os after
 step_keeps g z os (Up s) c a after by fits h (inl answers) = answer_keeps g z os s c a after by fits h answers
 step_keeps g z os (Up s) c a after by fits h (inr (inl wants)) = grind (arith, nat_tests)
 step_keeps g z os (Up s) c a after by fits h (inr (inr fails)) = subst (λ m. MachineWithin g z os m) (sym fails.2) tt
@@ -272,7 +277,8 @@ encloses_apart n os trusted inside closed free apart = record {
 }
 
 -- a closed set with what is free is closed
-with_free_closed : (os : List Object) (trusted inside : ℕ → Bool) → IsClosedBut trusted os inside → IsClosedBut trusted os (with_free os inside)
+with_free_closed : (os : List Object) (trusted inside : ℕ → Bool) → IsClosedBut trusted os inside →
+    IsClosedBut trusted os (with_free os inside)
 with_free_closed os trusted inside h = grind (arith, nat_tests)
 
 has_free : (os : List Object) (inside : ℕ → Bool) → HasFree os (with_free os inside)
@@ -315,8 +321,8 @@ run_confined g trusted inside s t turns sound closed run by =
     confined_by g s.now.objects t.now.objects s.now.age trusted inside sound closed (λ z same h.
     (run_within g z s t turns sound h run (subst (λ m. AreBy m turns) (sym same) by)).stays)
 
-run_sound : (g : Geometry) (trusted inside : ℕ → Bool) (s t : Running) (turns : List Turn) → IsSound g s.now → IsClosedBut trusted s.now.objects inside
-    → IsRun g (Up s) turns (Up t) → AreBy (with_free s.now.objects inside) turns → IsSound g t.now
+run_sound : (g : Geometry) (trusted inside : ℕ → Bool) (s t : Running) (turns : List Turn) → IsSound g s.now →
+    IsClosedBut trusted s.now.objects inside → IsRun g (Up s) turns (Up t) → AreBy (with_free s.now.objects inside) turns → IsSound g t.now
 run_sound g trusted inside s t turns sound closed run by =
     let os = s.now.objects in
     let all = with_free os inside in

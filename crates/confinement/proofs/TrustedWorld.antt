@@ -33,9 +33,11 @@ client_closed = (
   record {
     annexes = members (λ p. IsTrue (is_process d0.objects p) → IsTrue (client (annex_at d0.objects p))) (λ is. refl) (λ is. cc) (λ is. cc);
     owned = λ b n inside. members
-        (λ b. (n : ℕ) → IsTrue (is_bank (content_at d0.objects b)) → is_free (content_at d0.objects n) ≡ false → owner_at d0.objects n ≡ b → IsTrue (client n))
+        (λ b. (n : ℕ) → IsTrue (is_bank (content_at d0.objects b)) → is_free (content_at d0.objects n) ≡ false → owner_at d0.objects n ≡ b →
+        IsTrue (client n))
         (λ n bank held owner. cc) (λ n bank held owner. cc) (λ n bank held owner. cc) b inside n;
-    slots = λ n i inside. members (λ n. (i : ℕ) → StaysBut store client (slot_at d0.objects n i)) (λ i. inl (inl tt)) annex_inside node_inside n inside i;
+    slots = λ n i inside. members (λ n. (i : ℕ) → StaysBut store client (slot_at d0.objects n i)) (λ i. inl (inl tt)) annex_inside
+        node_inside n inside i;
     spaces = members (λ p. StaysBut store client (root_at d0.objects p).space) (inl (inl tt)) (inl (inl tt)) (inl (inl tt));
   },
   λ closed. ⊎_elim (λ weak. weak) (λ named. cc) (closed.slots 2 1 refl),

@@ -7,7 +7,7 @@ use Rattle.model.specs.declared.object.Content.TheVariants as content
 use Rattle.model.specs.declared.object.State.TheVariants as state
 use Rattle.confinement.specs.Trusted.{IsClosedBut}
 
--- World D0: process 1 with annex 2 runs, and holds the right to start process 3, and node 7. Process 3 with annex 4 is
+-- The world `d0`: process 1 with annex 2 runs, and holds the right to start process 3, and node 7. Process 3 with annex 4 is
 -- available, and holds page 16. Process 5 with annex 6 runs, and holds the right to start process 1, page 16 and node 7.
 unfoldable pub d0 : World
 d0 = record {

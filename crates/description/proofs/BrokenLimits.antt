@@ -20,7 +20,8 @@ module _ (g : Geometry) where
       let place : n + s.count + count_in (take i rs) ≡ n + (s.count + count_in (take i rs)) = omega arith in
       subst (λ m. GoesOn g r m) place (cover_at (n + s.count) rs i r covers.1 is)
 
-  ranges_refuted : (rs : List NumberRange) (l : Limit) → BreaksRanges g rs l → (1 ≤ length rs) × (length rs ≤ 8) → Cover g 0 (map (placed 0) rs) → ⊥
+  ranges_refuted : (rs : List NumberRange) (l : Limit) → BreaksRanges g rs l → (1 ≤ length rs) × (length rs ≤ 8) →
+      Cover g 0 (map (placed 0) rs) → ⊥
   ranges_refuted rs limit.RangeCount broken few covers = broken few
   ranges_refuted rs (limit.Range i n) broken few covers = grind (arith, nat_tests, cover_at, cover_count)
   ranges_refuted rs (limit.RangesEnd n) broken few covers = grind (arith, nat_tests, cover_at, cover_count)
@@ -32,11 +33,14 @@ limit_refuted d limit.Pages broken within = broken.1 (within.laid.geometry.least
 limit_refuted d limit.Log broken within = broken.2 (within.laid.geometry.least_log, within.laid.geometry.most_log)
 limit_refuted d limit.Age broken within = omega (arith, broken.1, within.age)
 limit_refuted d limit.Layout broken within = broken.2 within.layout.0 within.layout.1
-limit_refuted d limit.RangeCount broken within = ranges_refuted d.geometry d.ranges.items limit.RangeCount broken.3 (within.laid.some, within.laid.few)
+limit_refuted d limit.RangeCount broken within = ranges_refuted d.geometry d.ranges.items limit.RangeCount broken.3
+    (within.laid.some, within.laid.few)
     within.laid.cover
-limit_refuted d (limit.Range i n) broken within = ranges_refuted d.geometry d.ranges.items (limit.Range i n) broken.3 (within.laid.some, within.laid.few)
+limit_refuted d (limit.Range i n) broken within = ranges_refuted d.geometry d.ranges.items (limit.Range i n) broken.3
+    (within.laid.some, within.laid.few)
     within.laid.cover
-limit_refuted d (limit.RangesEnd n) broken within = ranges_refuted d.geometry d.ranges.items (limit.RangesEnd n) broken.3 (within.laid.some, within.laid.few)
+limit_refuted d (limit.RangesEnd n) broken within = ranges_refuted d.geometry d.ranges.items (limit.RangesEnd n) broken.3
+    (within.laid.some, within.laid.few)
     within.laid.cover
 
 pub count_broken : (d : Description) (l : Limit) → BreaksGeometry d.geometry l → BreaksLimit d l
@@ -53,9 +57,9 @@ ranges_broken d (limit.RangesEnd n) geometry age layout broken = (geometry, age,
 ranges_broken d other geometry age layout broken = absurd broken
 
 -- what the ranges decide where all else is within the limits
-pub ranges_decide : (d : Description) (rs : List NumberRange) (found : Option Limit) (v : Version) → IsGeometry d.geometry → rs ≡ d.ranges.items →
-    d.layout ≡ version_number v → d.age ≤ 2 ^ 62 → MatchOption found (MayBeLaid d.geometry rs) (λ l. BreaksRanges d.geometry rs l) →
-    MatchOption found (IsWithinLimits d) (λ l. BreaksLimit d l)
+pub ranges_decide : (d : Description) (rs : List NumberRange) (found : Option Limit) (v : Version) → IsGeometry d.geometry →
+    rs ≡ d.ranges.items → d.layout ≡ version_number v → d.age ≤ 2 ^ 62 → MatchOption found (MayBeLaid d.geometry rs)
+    (λ l. BreaksRanges d.geometry rs l) → MatchOption found (IsWithinLimits d) (λ l. BreaksLimit d l)
 ranges_decide d rs None v geometry same layout age laid =
     record { layout = (v, layout); laid = subst (λ ts. MayBeLaid d.geometry ts) same laid; age = age }
 ranges_decide d rs (Some l) v geometry same layout age broken =

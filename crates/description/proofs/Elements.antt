@@ -18,35 +18,36 @@ same_items ds es same = same_Some ds es (ap as_array same)
 pub items_length : (d : Data) (vs : List Value) (ds : Items) → d ≡ array (items_view vs) → d ≡ array ds → length vs ≡ item_count ds
 items_length d vs ds is at = sym (count_viewed vs) ∙ ap item_count (same_items (items_view vs) ds (sym is ∙ at))
 
-pub last_read : {A : Type 0} (P : Data → A → Type 0) (vs : List Value) (xs : List A) (v : Value) (x : A) → AreItems P (items_view vs) xs → P (view v) x →
-    AreItems P (items_view (vs ++ v ∷ [])) (xs ++ x ∷ [])
+pub last_read : {A : Type 0} (P : Data → A → Type 0) (vs : List Value) (xs : List A) (v : Value) (x : A) → AreItems P (items_view vs) xs →
+    P (view v) x → AreItems P (items_view (vs ++ v ∷ [])) (xs ++ x ∷ [])
 last_read P [] [] v x are is = (is, tt)
 last_read P (w ∷ ws) (y ∷ ys) v x are is = (are.0, last_read P ws ys v x are.1 is)
 last_read P vs xs v x are is = absurd are
 
 -- one more is read
-pub one_more : {A : Type 0} (P : Data → A → Type 0) (vs : List Value) (i : ℕ) (xs : List A) (v : Value) (x : A) → i < length vs → get_or vs i v ≡ v →
-    AreItems P (items_view (take i vs)) xs → P (view v) x → AreItems P (items_view (take (i + 1) vs)) (xs ++ x ∷ [])
+pub one_more : {A : Type 0} (P : Data → A → Type 0) (vs : List Value) (i : ℕ) (xs : List A) (v : Value) (x : A) → i < length vs →
+    get_or vs i v ≡ v → AreItems P (items_view (take i vs)) xs → P (view v) x → AreItems P (items_view (take (i + 1) vs)) (xs ++ x ∷ [])
 one_more P vs i xs v x within at are is = rw (take_more vs i v within, at) (last_read P (take i vs) xs v x are is)
 
-pub element : {A : Type 0} (P : Data → A → Type 0) (vs : List Value) (i : ℕ) (xs : List A) (v : Value) → i < length vs → AreItems P (items_view vs) xs →
-    (x : A) × P (view (get_or vs i v)) x
+pub element : {A : Type 0} (P : Data → A → Type 0) (vs : List Value) (i : ℕ) (xs : List A) (v : Value) → i < length vs →
+    AreItems P (items_view vs) xs → (x : A) × P (view (get_or vs i v)) x
 element P (w ∷ ws) zero (x ∷ xs) v within are = (x, are.0)
 element P (w ∷ ws) (suc i) (x ∷ xs) v within are = element P ws i xs v (omega arith) are.1
 element P vs i xs v within are = absurd (grind (arith, nat_tests))
 
-pub items_read : {A : Type 0} (P : Data → A → Type 0) (d : Data) (vs : List Value) (xs : List A) → d ≡ array (items_view vs) → IsList P d xs →
-    AreItems P (items_view vs) xs
+pub items_read : {A : Type 0} (P : Data → A → Type 0) (d : Data) (vs : List Value) (xs : List A) → d ≡ array (items_view vs) →
+    IsList P d xs → AreItems P (items_view vs) xs
 items_read P d vs xs is list = rw (← same_items (items_view vs) list.0 (sym is ∙ list.1)) at list.2
 
-pub count_read : {A : Type 0} (P : Data → A → Type 0) (vs : List Value) (xs : List A) → AreItems P (items_view vs) xs → length xs ≡ length vs
+pub count_read : {A : Type 0} (P : Data → A → Type 0) (vs : List Value) (xs : List A) → AreItems P (items_view vs) xs →
+    length xs ≡ length vs
 count_read P [] [] are = refl
 count_read P (v ∷ vs) (x ∷ xs) are = ap suc (count_read P vs xs are.1)
 count_read P vs xs are = absurd are
 
 -- each value of a list that is read is one that can be
-pub each_read : {A : Type 0} (P : Data → A → Type 0) (d : Data) (vs : List Value) (i : ℕ) (xs : List A) (v : Value) → d ≡ array (items_view vs) →
-    i < length vs → get_or vs i v ≡ v → IsList P d xs → (x : A) × P (view v) x
+pub each_read : {A : Type 0} (P : Data → A → Type 0) (d : Data) (vs : List Value) (i : ℕ) (xs : List A) (v : Value) →
+    d ≡ array (items_view vs) → i < length vs → get_or vs i v ≡ v → IsList P d xs → (x : A) × P (view v) x
 each_read P d vs i xs v is within at list =
     let found = element P vs i xs v within (items_read P d vs xs is list) in
     (found.0, rw at at found.1)

@@ -43,10 +43,11 @@ of_entries d (OfAnnex p) h = Contains-append_left (banks_of d ++ roots_of d ++ a
     (Contains-append_right (banks_of d ++ roots_of d) (annexes_of d) (OfAnnex p) (contains_map _ _ _ h)))
 of_entries d (OfNode n) h = Contains-append_left (banks_of d ++ roots_of d ++ annexes_of d ++ nodes_of d) (pages_of d) (OfNode n)
     (Contains-append_right (banks_of d ++ roots_of d ++ annexes_of d) (nodes_of d) (OfNode n) (contains_map _ _ _ h))
-of_entries d (OfPage p) h = Contains-append_right (banks_of d ++ roots_of d ++ annexes_of d ++ nodes_of d) (pages_of d) (OfPage p) (contains_map _ _ _ h)
+of_entries d (OfPage p) h = Contains-append_right (banks_of d ++ roots_of d ++ annexes_of d ++ nodes_of d) (pages_of d) (OfPage p)
+    (contains_map _ _ _ h)
 
-from_map : {X : Type 0} → (d : Description) (f : X → Entry) (xs : List X) (e : Entry) → ((x : X) → Contains xs x → IsOf d (f x)) → Contains (map f xs) e →
-    IsOf d e
+from_map : {X : Type 0} → (d : Description) (f : X → Entry) (xs : List X) (e : Entry) → ((x : X) → Contains xs x → IsOf d (f x)) →
+    Contains (map f xs) e → IsOf d e
 from_map d f xs e each h = let found = map_contains f e xs h in subst (IsOf d) found.2 (each found.0 found.1)
 
 pub entries_of : (d : Description) (e : Entry) → Contains (entries d) e → IsOf d e
@@ -101,9 +102,11 @@ in_range d (OfRoot p) has h = All-contains (λ n. n < d.geometry.nodes) (node_nu
     (Contains-append_right (bank_numbers d) (root_numbers d) p.root (contains_map (λ q. q.root) p d.processes.items h))))
 in_range d (OfAnnex p) has h = All-contains (λ n. n < d.geometry.nodes) (node_numbers d) p.annex has.nodes
     (Contains-append_left (bank_numbers d ++ root_numbers d ++ annex_numbers d) (plain_numbers d) p.annex
-    (Contains-append_right (bank_numbers d ++ root_numbers d) (annex_numbers d) p.annex (contains_map (λ q. q.annex) p d.processes.items h)))
+    (Contains-append_right (bank_numbers d ++ root_numbers d) (annex_numbers d) p.annex
+    (contains_map (λ q. q.annex) p d.processes.items h)))
 in_range d (OfNode n) has h = All-contains (λ n. n < d.geometry.nodes) (node_numbers d) n.number has.nodes
-    (Contains-append_right (bank_numbers d ++ root_numbers d ++ annex_numbers d) (plain_numbers d) n.number (contains_map (λ m. m.number) n d.nodes.items h))
+    (Contains-append_right (bank_numbers d ++ root_numbers d ++ annex_numbers d) (plain_numbers d) n.number
+    (contains_map (λ m. m.number) n d.nodes.items h))
 in_range d (OfPage p) has h = All-contains (λ n. (d.geometry.nodes ≤ n) × (n < object_count d.geometry)) (page_numbers d) p.number has.pages
     (contains_map (λ q. q.number) p d.pages.items h)
 
@@ -116,7 +119,8 @@ IsFrameOf (OfNode n) f = IsDescribedNode n f
 IsFrameOf (OfPage p) f = IsDescribedPage p f
 
 pub described_of : (d : Description) (fs : List Frame) (e : Entry) → IsDescribed d fs → IsOf d e → IsFrameOf e (frame_at fs (number_of e))
-described_of d fs (OfBank b) is h = All-contains (λ b. frame_at fs b.number ≡ first_frame b.owner (content.Bank b.limit)) d.banks.items b is.banks h
+described_of d fs (OfBank b) is h = All-contains (λ b. frame_at fs b.number ≡ first_frame b.owner (content.Bank b.limit)) d.banks.items b
+    is.banks h
 described_of d fs (OfRoot p) is h = All-contains (λ p. IsDescribedRoot p (frame_at fs p.root)) d.processes.items p is.roots h
 described_of d fs (OfAnnex p) is h = All-contains (λ p. IsDescribedAnnex p (frame_at fs p.annex)) d.processes.items p is.annexes h
 described_of d fs (OfNode n) is h = All-contains (λ n. IsDescribedNode n (frame_at fs n.number)) d.nodes.items n is.nodes h

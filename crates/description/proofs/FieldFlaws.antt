@@ -12,9 +12,11 @@ use Rattle.description.specs.declared.flaw.SlotFlaw.TheVariants as slot
 use Rattle.description.proofs.Lists.{all_got, contains_cases, contains_here, contains_none, contains_there}
 
 -- one more number, which differs
-pub one_more_other : (ns : List ℕ) (i n : ℕ) → i < length ns → (Contains (take i ns) n → ⊥) → (slice_index ns i ≢ n) → Contains (take (i + 1) ns) n → ⊥
+pub one_more_other : (ns : List ℕ) (i n : ℕ) → i < length ns → (Contains (take i ns) n → ⊥) → (slice_index ns i ≢ n) →
+    Contains (take (i + 1) ns) n → ⊥
 one_more_other ns i n within none other there =
-    elim (Contains-append_cases (take i ns) (slice_index ns i ∷ []) n (subst (λ (ms : List ℕ). Contains ms n) (take_more ns i 0 within) there)) [
+    elim (Contains-append_cases (take i ns) (slice_index ns i ∷ []) n (subst (λ (ms : List ℕ). Contains ms n) (take_more ns i 0 within)
+    there)) [
       | inl before ↦ none before
       | inr last ↦ elim (contains_cases n (slice_index ns i) [] last) [ inl is ↦ other is | inr nowhere ↦ contains_none n nowhere ]
     ]
@@ -33,9 +35,10 @@ distinct_last (m ∷ ns) n distinct none = (
 )
 
 -- one more number that comes first
-pub distinct_more : (ns : List ℕ) (j n : ℕ) → j < length ns → n ≡ slice_index ns j → (Contains (take j ns) n → ⊥) → AreDistinct (take j ns) →
-    AreDistinct (take (j + 1) ns)
-distinct_more ns j n within is none distinct = rw (take_more ns j 0 within) (distinct_last (take j ns) (slice_index ns j) distinct (rw is at none))
+pub distinct_more : (ns : List ℕ) (j n : ℕ) → j < length ns → n ≡ slice_index ns j → (Contains (take j ns) n → ⊥) →
+    AreDistinct (take j ns) → AreDistinct (take (j + 1) ns)
+distinct_more ns j n within is none distinct = rw (take_more ns j 0 within)
+    (distinct_last (take j ns) (slice_index ns j) distinct (rw is at none))
 
 pub twice_at : (ns : List ℕ) (i j n : ℕ) → j < length ns → n ≡ slice_index ns j → (i < j) × (slice_index ns i ≡ n) → IsTwice ns i j
 twice_at ns i j n within is at =
@@ -44,24 +47,27 @@ twice_at ns i j n within is at =
 -- what holds of what is made of each holds of each so made
 pub all_unmapped : {A B : Type 0} (P : B → Type 0) (f : A → B) (xs : List A) → All P (map f xs) → All (λ x. P (f x)) xs
 all_unmapped P f [] all = λ k d lt. absurd (omega arith)
-all_unmapped P f (x ∷ xs) all = All-cons (λ y. P (f y)) x xs (All-head P (f x) (map f xs) all) (all_unmapped P f xs (All-tail P (f x) (map f xs) all))
+all_unmapped P f (x ∷ xs) all = All-cons (λ y. P (f y)) x xs (All-head P (f x) (map f xs) all)
+    (all_unmapped P f xs (All-tail P (f x) (map f xs) all))
 
-pub are_slots : (first : ℕ) (slots : List SlotEntry) → All (λ n. (first ≤ n) × (n < 32)) (map (λ s. s.index) slots) × AreDistinct (map (λ s. s.index) slots) →
-    All (λ s. IsSomeCapability s.capability) slots → AreSlots first slots
+pub are_slots : (first : ℕ) (slots : List SlotEntry) → All (λ n. (first ≤ n) × (n < 32)) (map (λ s. s.index) slots)
+    × AreDistinct (map (λ s. s.index) slots) → All (λ s. IsSomeCapability s.capability) slots → AreSlots first slots
 are_slots first slots indexed held = record {
   places = all_unmapped (λ n. (first ≤ n) × (n < 32)) (λ s. s.index) slots indexed.0;
   distinct = indexed.1;
   held = held;
 }
 
-pub are_words : (words : List WordEntry) → All (λ n. (0 ≤ n) × (n < 512)) (map (λ w. w.index) words) × AreDistinct (map (λ w. w.index) words) → AreWords words
+pub are_words : (words : List WordEntry) → All (λ n. (0 ≤ n) × (n < 512)) (map (λ w. w.index) words)
+    × AreDistinct (map (λ w. w.index) words) → AreWords words
 are_words words indexed = record {
   places = λ k d lt. (all_unmapped (λ n. (0 ≤ n) × (n < 512)) (λ w. w.index) words indexed.0 k d lt).1;
   distinct = indexed.1;
 }
 
 -- an element that breaks what all keep
-pub all_refuted : {A : Type 0} (P Q : A → Type 0) (xs : List A) (i : ℕ) → IsSomeAnd (slice_get xs i) Q → ((x : A) → P x → Q x → ⊥) → All P xs → ⊥
+pub all_refuted : {A : Type 0} (P Q : A → Type 0) (xs : List A) (i : ℕ) → IsSomeAnd (slice_get xs i) Q → ((x : A) → P x → Q x → ⊥) →
+    All P xs → ⊥
 all_refuted {A = A} P Q xs i broken against all = go (slice_get xs i) refl broken
   where
     go : (o : Option A) → slice_get xs i ≡ o → IsSomeAnd o Q → ⊥
@@ -83,7 +89,8 @@ twice_refuted (m ∷ ns) zero (suc j) twice distinct =
 twice_refuted (m ∷ ns) (suc i) zero twice distinct = omega (arith, twice.0)
 twice_refuted (m ∷ ns) (suc i) (suc j) twice distinct = twice_refuted ns i j (omega (arith, twice.0), twice.1, twice.2, twice.3) distinct.1
 
-indexed_refuted : (first end : ℕ) (ns : List ℕ) (flaw : Indexed) → BreaksIndexed first end ns flaw → All (λ n. (first ≤ n) × (n < end)) ns → AreDistinct ns → ⊥
+indexed_refuted : (first end : ℕ) (ns : List ℕ) (flaw : Indexed) → BreaksIndexed first end ns flaw → All (λ n. (first ≤ n) × (n < end)) ns →
+    AreDistinct ns → ⊥
 unfolding BreaksIndexed
 indexed_refuted first end ns (indexed.OutOfRange i) broken within distinct =
     all_refuted (λ n. (first ≤ n) × (n < end)) _ ns i broken.1 (λ x is out. out is) within
@@ -92,8 +99,10 @@ indexed_refuted first end ns (indexed.Twice i j) broken within distinct = twice_
 slots_refuted : (first : ℕ) (slots : List SlotEntry) (flaw : SlotFlaw) → BreaksSlots first slots flaw → AreSlots first slots → ⊥
 unfolding BreaksSlots
 slots_refuted first slots (slot.Index flaw) broken are =
-    indexed_refuted first 32 (map (λ s. s.index) slots) flaw broken (All-map (λ n. (first ≤ n) × (n < 32)) (λ s. s.index) slots are.places) are.distinct
-slots_refuted first slots (slot.Text i) broken are = all_refuted (λ s. IsSomeCapability s.capability) _ slots i broken.1.1 (λ s is out. out is) are.held
+    indexed_refuted first 32 (map (λ s. s.index) slots) flaw broken (All-map (λ n. (first ≤ n) × (n < 32)) (λ s. s.index) slots are.places)
+    are.distinct
+slots_refuted first slots (slot.Text i) broken are = all_refuted (λ s. IsSomeCapability s.capability) _ slots i broken.1.1
+    (λ s is out. out is) are.held
 
 process_refuted : (p : ProcessEntry) (which : Part) → BreaksProcess p which → IsProcessEntry p → ⊥
 unfolding BreaksProcess
@@ -103,14 +112,15 @@ process_refuted p (part.Space k) out is = out.2 is.space
 process_refuted p (part.Registers k flaw) out is = slots_refuted 1 p.registers.items flaw out.3 is.registers
 process_refuted p which out is = out
 
-process_part_refuted : (d : Description) (which : Part) → IsFirst IsProcessEntry (λ p. BreaksProcess p which) d.processes.items (process_of which) →
-    HasFields d → ⊥
+process_part_refuted : (d : Description) (which : Part) → IsFirst IsProcessEntry (λ p. BreaksProcess p which) d.processes.items
+    (process_of which) → HasFields d → ⊥
 process_part_refuted d which broken has =
     all_refuted IsProcessEntry _ d.processes.items (process_of which) broken.1 (λ p is out. process_refuted p which out is) has.processes
 
 pub field_refuted : (d : Description) (which : Part) → BreaksField d which → HasFields d → ⊥
 field_refuted d (part.Slots k flaw) broken has =
-    all_refuted (λ (n : NodeEntry). AreSlots 0 n.slots.items) _ _ k broken.1.1 (λ n is out. slots_refuted 0 n.slots.items flaw out is) has.nodes
+    all_refuted (λ (n : NodeEntry). AreSlots 0 n.slots.items) _ _ k broken.1.1 (λ n is out. slots_refuted 0 n.slots.items flaw out is)
+    has.nodes
 field_refuted d (part.Words k flaw) broken has = all_refuted (λ (p : PageEntry). AreWords p.words.items) _ _ k broken.2.1
     (λ p is out. indexed_refuted 0 512 (map (λ w. w.index) p.words.items) flaw out
     (All-map (λ n. (0 ≤ n) × (n < 512)) (λ w. w.index) p.words.items (λ i e lt. (omega arith, is.places i e lt))) is.distinct) has.pages
@@ -121,8 +131,8 @@ never_there None is = is
 never_there (Some x) is = is
 
 -- the first bad field of a process is that of a description
-pub process_broken : (d : Description) (which : Part) → IsFirst IsProcessEntry (λ p. BreaksProcess p which) d.processes.items (process_of which) →
-    BreaksField d which
+pub process_broken : (d : Description) (which : Part) → IsFirst IsProcessEntry (λ p. BreaksProcess p which) d.processes.items
+    (process_of which) → BreaksField d which
 unfolding BreaksProcess
 process_broken d (part.Slots k flaw) first = absurd (never_there _ first.1)
 process_broken d (part.Words k flaw) first = absurd (never_there _ first.1)

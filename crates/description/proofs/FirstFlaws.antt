@@ -29,8 +29,9 @@ module _ (Good So : Data → Type 0) where
   first_as Better Other good so (suc i) (item d ds) first = (good d first.0, first_as Better Other good so i ds first.1)
 
   -- the item of an index after some that are read
-  pub first_item : {A : Type 0} (P : Data → A → Type 0) → ((d : Data) (x : A) → P d x → Good d) → (vs : List Value) (i : ℕ) (xs : List A) (v : Value) →
-      i < length vs → get_or vs i v ≡ v → AreItems P (items_view (take i vs)) xs → So (view v) → IsFirstItem Good So i (items_view vs)
+  pub first_item : {A : Type 0} (P : Data → A → Type 0) → ((d : Data) (x : A) → P d x → Good d) →
+      (vs : List Value) (i : ℕ) (xs : List A) (v : Value) → i < length vs → get_or vs i v ≡ v → AreItems P (items_view (take i vs)) xs →
+      So (view v) → IsFirstItem Good So i (items_view vs)
   first_item P good [] i xs v within at are so = absurd (omega arith)
   first_item P good (w ∷ ws) zero xs v within at are so = subst (λ (u : Value). So (view u)) (sym at) so
   first_item P good (w ∷ ws) (suc i) [] v within at are so = absurd are
@@ -49,7 +50,8 @@ passed At Other Q (Ok x) e same misses turn = absurd same
 passed At Other Q (Err y) e same misses turn = subst (Misses Other) (sym same) (turned At Other e turn misses)
 
 -- a key that is none of the table's
-pub stranger_in : (which : TableName) (ms : Members) (place : ShapePlace) → IsStranger which (map key_name (keys_of which)) ms place → IsIn which ms place
+pub stranger_in : (which : TableName) (ms : Members) (place : ShapePlace) → IsStranger which (map key_name (keys_of which)) ms place →
+    IsIn which ms place
 stranger_in which ms place is = (is.0, unknown (keys_of which) ms place.flaw is.1)
   where
     unknown : (keys : List Key) (ns : Members) (flaw : Flaw) → IsUnknown (map key_name keys) ns flaw → IsFirstFlaw keys ns flaw
@@ -59,15 +61,16 @@ stranger_in which ms place is = (is.0, unknown (keys_of which) ms place.flaw is.
 
 module _ (which : TableName) (key : Key) (ms : Members) (before : FitsBefore (keys_of which) ms key) where
   -- a value of another type
-  pub value_in : {A : Type 0} (P : A → Type 0) → is_list key ≡ false → (FitsAt key ms → (x : A) × P x) → (place : ShapePlace) → IsMisfit which key P place →
-      IsIn which ms place
+  pub value_in : {A : Type 0} (P : A → Type 0) → is_list key ≡ false → (FitsAt key ms → (x : A) × P x) → (place : ShapePlace) →
+      IsMisfit which key P place → IsIn which ms place
   value_in P single fits place is =
       rw is.0 (refl, (before, λ fit. let x = fits fit in is.1 x.0 x.1, λ list. absurd (true≢false (sym list ∙ single))))
 
   -- a list
-  list_flaw : {A : Type 0} (P : Data → A → Type 0) (So : Data → Type 0) → IsTrue (is_list key) → (FitsAt key ms → HasList P (key_name key) ms) →
-      ((d : Data) → (x : A) × P d x → IsItem key d) → ((d : Data) → So d → IsFormless key d) → (d : Data) → get_member (key_name key) ms ≡ Some d →
-      (flaw : Flaw) → IsBadList (λ e. (x : A) × P e x) So key d flaw → IsFirstFlaw (keys_of which) ms flaw
+  list_flaw : {A : Type 0} (P : Data → A → Type 0) (So : Data → Type 0) → IsTrue (is_list key) →
+      (FitsAt key ms → HasList P (key_name key) ms) → ((d : Data) → (x : A) × P d x → IsItem key d) →
+      ((d : Data) → So d → IsFormless key d) → (d : Data) → get_member (key_name key) ms ≡ Some d → (flaw : Flaw) →
+      IsBadList (λ e. (x : A) × P e x) So key d flaw → IsFirstFlaw (keys_of which) ms flaw
   list_flaw P So list fits good so d at (Unknown k) bad = absurd bad
   list_flaw {A = A} P So list fits good so d at (Misfit k) bad = rw bad.0 (
     before,
@@ -97,7 +100,8 @@ module _ (ms : Members) (key : Key) (before : FitsBefore (keys_of name.Whole) ms
       ((i : ℕ) (flaw : Flaw) → IsFirstInside key i (keys_of (named i)) ms flaw → BreaksAt ms (named i) flaw) → (place : ShapePlace) →
       AtKey key (AreBadTables P named key) ms place → BreaksShape ms place
   tables_break {A = A} P named list fits good formless inside place is = elim is.2 [
-    | inl none ↦ rw none.0 (list_flaw name.Whole key ms before (IsTable P) (λ e. (t : Members) → e ≡ table t → ⊥) list fits good formless is.0 is.1 (Misfit key)
+    | inl none ↦ rw none.0 (list_flaw name.Whole key ms before (IsTable P) (λ e. (t : Members) → e ≡ table t → ⊥) list fits good formless
+        is.0 is.1 (Misfit key)
         (refl, none.1))
     | inr one ↦ elim one.3 [
       | inl bare ↦ subst (BreaksShape ms) (sym bare.0) (
@@ -112,15 +116,22 @@ module _ (ms : Members) (key : Key) (before : FitsBefore (keys_of name.Whole) ms
       )
       | inr flawed ↦
           let Flawed : Data → Type 0 = λ e. (t : Members) × (e ≡ table t) × IsFirstFlaw (keys_of (named one.0)) t place.flaw in
-          subst (λ (t : TableName). BreaksAt ms t place.flaw) (sym flawed.0) (inside one.0 place.flaw
-          (before, (one.1, is.1 ∙ ap Some one.2, first_as (λ e. (x : A) × IsTable P e x) Flawed (IsItem key) Flawed good (λ d so. so) one.0 one.1 flawed.1)))
+          subst (λ (t : TableName). BreaksAt ms t place.flaw) (sym flawed.0) (inside one.0 place.flaw (
+            before,
+            (
+              one.1,
+              is.1 ∙ ap Some one.2,
+              first_as (λ e. (x : A) × IsTable P e x) Flawed (IsItem key) Flawed good (λ d so. so) one.0
+                  one.1 flawed.1,
+            ),
+          ))
     ]
   ]
 
 -- a table of a list that isn't read
-pub first_bad : {A : Type 0} (P : Members → A → Type 0) (named : ℕ → TableName) (key : Key) (d : Data) (place : ShapePlace) (vs : List Value) (i : ℕ) (xs : List A)
-    (v : Value) → d ≡ array (items_view vs) → i < length vs → get_or vs i v ≡ v → AreItems (IsTable P) (items_view (take i vs)) xs →
-    IsBadTable named key i (view v) place → AreBadTables P named key d place
+pub first_bad : {A : Type 0} (P : Members → A → Type 0) (named : ℕ → TableName) (key : Key) (d : Data) (place : ShapePlace)
+    (vs : List Value) (i : ℕ) (xs : List A) (v : Value) → d ≡ array (items_view vs) → i < length vs → get_or vs i v ≡ v →
+    AreItems (IsTable P) (items_view (take i vs)) xs → IsBadTable named key i (view v) place → AreBadTables P named key d place
 first_bad {A = A} P named key d place vs i xs v is within at are bad =
     let Said : Data → Type 0 = λ e. (x : A) × IsTable P e x in
     inr (
@@ -128,7 +139,11 @@ first_bad {A = A} P named key d place vs i xs v is within at are bad =
       items_view vs,
       is,
       elim bad [
-        | inl bare ↦ inl (bare.0, first_item Said (λ e. (t : Members) → e ≡ table t → ⊥) (IsTable P) (λ e x so. (x, so)) vs i xs v within at are bare.1)
+        | inl bare ↦ inl (
+          bare.0,
+          first_item Said (λ e. (t : Members) → e ≡ table t → ⊥) (IsTable P) (λ e x so. (x, so)) vs i xs v within at
+              are bare.1,
+        )
         | inr flawed ↦ inr (
           flawed.0,
           first_item Said (λ e. (t : Members) × (e ≡ table t) × IsFirstFlaw (keys_of (named i)) t place.flaw) (IsTable P)
@@ -139,18 +154,20 @@ first_bad {A = A} P named key d place vs i xs v is within at are bad =
 
 -- the table of an object with a number and an owner
 module _ (which : TableName) (other : Key) (ms : Members) (keys : keys_of which ≡ ObjectNumber ∷ ObjectOwner ∷ other ∷ []) where
-  pub before_number : IsTrue (has_only (codes "number" ∷ codes "owner" ∷ key_name other ∷ []) ms) → FitsBefore (keys_of which) ms ObjectNumber
+  pub before_number : IsTrue (has_only (codes "number" ∷ codes "owner" ∷ key_name other ∷ []) ms) →
+      FitsBefore (keys_of which) ms ObjectNumber
   before_number known = rw keys (known, 0, refl, tt)
 
-  pub before_owner : IsTrue (has_only (codes "number" ∷ codes "owner" ∷ key_name other ∷ []) ms) → (n : ℕ) → At (codes "number") IsNumber ms n →
-      FitsBefore (keys_of which) ms ObjectOwner
+  pub before_owner : IsTrue (has_only (codes "number" ∷ codes "owner" ∷ key_name other ∷ []) ms) → (n : ℕ) →
+      At (codes "number") IsNumber ms n → FitsBefore (keys_of which) ms ObjectOwner
   before_owner known n is = rw keys (known, 1, refl, ((n, is), tt))
 
   pub before_other : (numbers : ℕ × ℕ) → HasNumberAndOwner (key_name other) ms numbers → FitsBefore (keys_of which) ms other
   before_other numbers has = rw keys (has.known, 2, refl, ((numbers.0, has.number), ((numbers.1, has.owner), tt)))
 
 -- and that of a process
-pub before_registers : (i : ℕ) (ms : Members) (fields : ProcessFields) → HasProcessFields ms fields → FitsBefore (keys_of (name.Process i)) ms ProcessRegisters
+pub before_registers : (i : ℕ) (ms : Members) (fields : ProcessFields) → HasProcessFields ms fields →
+    FitsBefore (keys_of (name.Process i)) ms ProcessRegisters
 before_registers i ms fields has = (
   has.known,
   7,

@@ -41,7 +41,8 @@ holds_words es are = record {
   each = λ i lt.
       let size : length (words_of es) ≡ 512 = length_each (λ w. w.index) (λ w. w.word) es zeros ∙ length-replicate {A = ℕ} 512 0 in
       slice_get-get_or (words_of es) i 0 (rw size lt)
-      ∙ ap Some (each_at (λ w. w.index) (λ w. w.word) es zeros i 0 are.distinct (λ k d inside. rw (length-replicate {A = ℕ} 512 0) (are.places k d inside))
+      ∙ ap Some (each_at (λ w. w.index) (λ w. w.word) es zeros i 0 are.distinct
+      (λ k d inside. rw (length-replicate {A = ℕ} 512 0) (are.places k d inside))
       ∙ ap (λ v. first_named (λ w. w.index) (λ w. w.word) v es i) (same_at 512 i 0));
 }
 
@@ -75,7 +76,8 @@ space_kept : (g : Geometry) (o : Option Capability) → IsGeometry g → IsSpace
     IsKeptCap g 0 (fresh_cap (unwrap_or o Void)) × IsSpace (unwrap_or o Void)
 space_kept g o is formed target = search (arith, follows)
 
-pub slots_kept : (g : Geometry) (first : ℕ) (es : List SlotEntry) → IsGeometry g → AreSlots first es → AllIn (IsTarget g) es → AreKeptSlots g 0 (slots_of es)
+pub slots_kept : (g : Geometry) (first : ℕ) (es : List SlotEntry) → IsGeometry g → AreSlots first es → AllIn (IsTarget g) es →
+    AreKeptSlots g 0 (slots_of es)
 unfolding slots_of
 slots_kept g first es is are targets = record {
   count = length_each (λ s. s.index) slot_held es void_slots ∙ length-replicate 32 void_held;
@@ -85,8 +87,8 @@ slots_kept g first es is are targets = record {
 
 -- The frame of an object.
 
-kept_entry : (d : Description) (e : Entry) → IsGeometry d.geometry → HasNumbers d → HasFields d → AllHave (IsTarget d.geometry) d → IsOf d e → Fits e →
-    IsKept d.geometry 0 (frame_of e)
+kept_entry : (d : Description) (e : Entry) → IsGeometry d.geometry → HasNumbers d → HasFields d → AllHave (IsTarget d.geometry) d →
+    IsOf d e → Fits e → IsKept d.geometry 0 (frame_of e)
 kept_entry d (OfBank b) is numbers fields targets of fits = record {
   role = refl;
   allocations = no_count;
@@ -133,7 +135,10 @@ kept_entry d (OfPage p) is numbers fields targets of fits = record {
   calls = no_count;
   owner = fits.0;
   unowned = λ free. absurd cc;
-  content = record { count_is = (holds_words _ (All-contains (λ q. AreWords q.words.items) d.pages.items p fields.pages of)).count; each = fits.1 };
+  content = record {
+    count_is = (holds_words _ (All-contains (λ q. AreWords q.words.items) d.pages.items p fields.pages of)).count;
+    each = fits.1;
+  };
 }
 
 kind_entry : (d : Description) (e : Entry) → HasNumbers d → IsOf d e → IsOfKind d.geometry (number_of e) (frame_of e).content
@@ -151,8 +156,17 @@ is_frame d (OfRoot p) fields of =
 is_frame d (OfAnnex p) fields of =
     let good : IsProcessEntry p = All-contains IsProcessEntry _ p fields.processes of in
     (slots_of p.registers.items, holds_named 1 _ good.registers, refl)
-is_frame d (OfNode n) fields of = (slots_of n.slots.items, holds_named 0 _ (All-contains (λ m. AreSlots 0 m.slots.items) _ n fields.nodes of), refl)
-is_frame d (OfPage p) fields of = (words_of p.words.items, holds_words _ (All-contains (λ q. AreWords q.words.items) _ p fields.pages of), refl)
+is_frame d (OfNode n) fields of = (
+  slots_of n.slots.items,
+  holds_named 0 _ (All-contains (λ m. AreSlots 0 m.slots.items) _ n fields.nodes
+      of),
+  refl,
+)
+is_frame d (OfPage p) fields of = (
+  words_of p.words.items,
+  holds_words _ (All-contains (λ q. AreWords q.words.items) _ p fields.pages of),
+  refl,
+)
 
 -- All frames.
 
@@ -164,18 +178,22 @@ below d e numbers of = grind (arith, nat_tests, in_range)
 
 pub laid_entry : (d : Description) (e : Entry) → HasNumbers d → IsOf d e → frame_at (laid (entries d) (blanks d)) (number_of e) ≡ frame_of e
 unfolding laid
-laid_entry d e numbers of = each_of number_of frame_of _ _ e _ (entries_distinct d numbers) (all_from (λ f. number_of f < length (blanks d)) _
+laid_entry d e numbers of = each_of number_of frame_of _ _ e _ (entries_distinct d numbers)
+    (all_from (λ f. number_of f < length (blanks d)) _
     (λ f h. subst (λ n. number_of f < n) (sym (length-replicate _ _)) (below d f numbers (entries_of d f h)))) (of_entries d e of)
 
-pub laid_free : (d : Description) (n : ℕ) → (Contains (map number_of (entries d)) n → ⊥) → frame_at (laid (entries d) (blanks d)) n ≡ blank_frame
+pub laid_free : (d : Description) (n : ℕ) → (Contains (map number_of (entries d)) n → ⊥) →
+    frame_at (laid (entries d) (blanks d)) n ≡ blank_frame
 unfolding laid
-laid_free d n none = each_other number_of frame_of (entries d) (blanks d) n blank_frame none ∙ same_at (object_count d.geometry) n blank_frame
+laid_free d n none = each_other number_of frame_of (entries d) (blanks d) n blank_frame none
+    ∙ same_at (object_count d.geometry) n blank_frame
 
 pub laid_count : (d : Description) → length (laid (entries d) (blanks d)) ≡ object_count d.geometry
 unfolding laid
 laid_count d = length_each number_of frame_of (entries d) (blanks d) ∙ length-replicate (object_count d.geometry) blank_frame
 
-laid_is : (d : Description) (e : Entry) → HasNumbers d → HasFields d → IsOf d e → IsFrameOf e (frame_at (laid (entries d) (blanks d)) (number_of e))
+laid_is : (d : Description) (e : Entry) → HasNumbers d → HasFields d → IsOf d e →
+    IsFrameOf e (frame_at (laid (entries d) (blanks d)) (number_of e))
 laid_is d e numbers fields of = subst (IsFrameOf e) (sym (laid_entry d e numbers of)) (is_frame d e fields of)
 
 pub laid_described : (d : Description) → HasNumbers d → HasFields d → IsDescribed d (laid (entries d) (blanks d))
@@ -192,8 +210,8 @@ laid_described d numbers fields = record {
 blank_kept : (g : Geometry) (n : ℕ) → IsKeepable g 0 n blank_frame
 blank_kept g n = grind (arith, nat_tests, no_count)
 
-pub laid_keepable : (d : Description) → IsGeometry d.geometry → HasNumbers d → HasFields d → AllHave (IsTarget d.geometry) d → All Fits (entries d)
-    → AreKeepable d.geometry 0 (laid (entries d) (blanks d))
+pub laid_keepable : (d : Description) → IsGeometry d.geometry → HasNumbers d → HasFields d → AllHave (IsTarget d.geometry) d →
+    All Fits (entries d) → AreKeepable d.geometry 0 (laid (entries d) (blanks d))
 laid_keepable d is numbers fields targets fits = record {
   count = laid_count d;
   each = λ n lt. elim (contains_either (map number_of (entries d)) n) [
@@ -211,15 +229,18 @@ laid_keepable d is numbers fields targets fits = record {
 
 -- The worlds on the way.
 
-pub all_within : {E : Type 0} → (d : Description) (entry : E → Entry) (es xs : List E) (n : ℕ) → HasNumbers d → ((e : E) → Contains es e → IsOf d (entry e))
-    → xs ≡ es → n ≡ object_count d.geometry → All (λ e. number_of (entry e) < n) xs
-all_within d entry es xs n numbers each same size = rw same (all_from (λ e. number_of (entry e) < n) es (λ e h. rw size (below d (entry e) numbers (each e h))))
+pub all_within : {E : Type 0} → (d : Description) (entry : E → Entry) (es xs : List E) (n : ℕ) → HasNumbers d →
+    ((e : E) → Contains es e → IsOf d (entry e)) → xs ≡ es → n ≡ object_count d.geometry → All (λ e. number_of (entry e) < n) xs
+all_within d entry es xs n numbers each same size = rw same (all_from (λ e. number_of (entry e) < n) es
+    (λ e h. rw size (below d (entry e) numbers (each e h))))
 
-laid_same : {E : Type 0} → (entry : E → Entry) (xs ys : List E) (old new : World) → xs ≡ ys → IsLaid (map entry xs) old new → IsLaid (map entry ys) old new
+laid_same : {E : Type 0} → (entry : E → Entry) (xs ys : List E) (old new : World) → xs ≡ ys → IsLaid (map entry xs) old new →
+    IsLaid (map entry ys) old new
 laid_same entry xs ys old new same is = subst (λ zs. IsLaid (map entry zs) old new) same is
 
-pub laid_five : (d : Description) (bs : List BankEntry) (rs annexes : List ProcessEntry) (ns : List NodeEntry) (ps : List PageEntry) (w0 w1 w2 w3 w4 w5 : World)
-    → bs ≡ d.banks.items → rs ≡ d.processes.items → annexes ≡ d.processes.items → ns ≡ d.nodes.items → ps ≡ d.pages.items
+pub laid_five : (d : Description) (bs : List BankEntry) (rs annexes : List ProcessEntry) (ns : List NodeEntry) (ps : List PageEntry)
+    (w0 w1 w2 w3 w4 w5 : World) → bs ≡ d.banks.items → rs ≡ d.processes.items → annexes ≡ d.processes.items → ns ≡ d.nodes.items →
+    ps ≡ d.pages.items
     → IsLaid (map OfBank bs) w0 w1 → IsLaid (map OfRoot rs) w1 w2 → IsLaid (map OfAnnex annexes) w2 w3 → IsLaid (map OfNode ns) w3 w4 →
     IsLaid (map OfPage ps) w4 w5
     → IsLaid (entries d) w0 w5

@@ -8,8 +8,8 @@ pub defaulted : {A : Type 0} (P : Data → A → Type 0) (o : Option Data) → N
 defaulted P o is x = search (arith, none-some)
 
 -- a list at a key
-pub list_held : {A : Type 0} (P : Data → List A → Type 0) (Bad : Data → ShapePlace → Type 0) (default : List A) (key : Key) (ms : Members) (d : Data)
-    (r : Result (Vec A Global) Misread) → Some d ≡ get_member (key_name key) ms → Reads (λ v. P d v.items) (Bad d) r →
+pub list_held : {A : Type 0} (P : Data → List A → Type 0) (Bad : Data → ShapePlace → Type 0) (default : List A) (key : Key) (ms : Members)
+    (d : Data) (r : Result (Vec A Global) Misread) → Some d ≡ get_member (key_name key) ms → Reads (λ v. P d v.items) (Bad d) r →
     Reads (λ v. AtOr default (key_name key) P ms v.items) (AtKey key Bad ms) r
 list_held P Bad default key ms d (Ok v) is reads = rw (← is) reads
 list_held P Bad default key ms d (Err (misread.Misshapen place)) is reads = (d, sym is, reads)

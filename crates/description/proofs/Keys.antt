@@ -8,7 +8,8 @@ same_text a b = sym (same_from_slice_cmp nat_cmp is_eq (λ y x. pointwise nat_eq
     (λ x y xs ys o h. grind (arith, nat_tests)) b a (slice_cmp nat_cmp b a) refl)
 
 -- the key is the text of one of these
-pub among : (names : List (Bor (List ℕ))) (key : List ℕ) → list_any (λ y. pointwise nat_eq y.now key) names ≡ list_any (same_key key) (map (λ k. k.now) names)
+pub among : (names : List (Bor (List ℕ))) (key : List ℕ) → list_any (λ y. pointwise nat_eq y.now key) names
+    ≡ list_any (same_key key) (map (λ k. k.now) names)
 among [] key = refl
 among (n ∷ ns) key = rw (same_text n.now key, among ns key)
 

@@ -23,8 +23,9 @@ pub record IsLaying {E : Type 0} (entry : E → Entry) (es : List E) (old now : 
 pub none_laid : {E : Type 0} → (entry : E → Entry) (es : List E) (old : World) → IsLaying entry es old old 0
 none_laid entry es old = record { frames = refl; fits = λ h. h; headers = refl; contents = refl }
 
-pub more_laid : {E : Type 0} → (entry : E → Entry) (es : List E) (old now next : World) (i : ℕ) (e : E) → drop i es ≡ e ∷ drop (i + 1) es → Fits (entry e)
-    → IsPut (number_of (entry e)) (frame_of (entry e)) now next → IsLaying entry es old now i → IsLaying entry es old next (i + 1)
+pub more_laid : {E : Type 0} → (entry : E → Entry) (es : List E) (old now next : World) (i : ℕ) (e : E) → drop i es ≡ e ∷ drop (i + 1) es →
+    Fits (entry e) → IsPut (number_of (entry e)) (frame_of (entry e)) now next → IsLaying entry es old now i →
+    IsLaying entry es old next (i + 1)
 unfolding laid
 more_laid {E} entry es old now next i e split fits put was = grind (arith, nat_tests, All-cons)
 

@@ -41,24 +41,33 @@ module _ {E V : Type 0} (index : E → ℕ) (value : E → V) where
   pub first_there : (default : V) (e : E) (es : List E) (i : ℕ) → index e ≡ i → first_named index value default (e ∷ es) i ≡ value e
   first_there default e es i is = grind (arith, nat_tests)
 
-  pub first_beyond : (default : V) (e : E) (es : List E) (i : ℕ) → index e ≢ i → first_named index value default (e ∷ es) i ≡ first_named index value default es
-      i
+  pub first_beyond : (default : V) (e : E) (es : List E) (i : ℕ) → index e ≢ i →
+      first_named index value default (e ∷ es) i ≡ first_named index value default es i
   first_beyond default e es i differ = grind (arith, nat_tests)
 
   -- nothing is named for an index that isn't there
   pub first_none : (default : V) (es : List E) (i : ℕ) → (Contains (map index es) i → ⊥) → first_named index value default es i ≡ default
   first_none default [] i none = refl
   first_none default (e ∷ es) i none =
-      grind (arith, nat_tests, first_none default es i (λ h. none (contains_there i (index e) (map index es) h)), contains_here, first_beyond, contains_there)
+      grind (
+        arith,
+        nat_tests,
+        first_none default es i (λ h. none (contains_there i (index e) (map index es) h)),
+        contains_here,
+        first_beyond,
+        contains_there,
+      )
 
   -- and what is there is named, where no index comes twice
-  pub first_of : (default : V) (es : List E) (e : E) → AreDistinct (map index es) → Contains es e → first_named index value default es (index e) ≡ value e
+  pub first_of : (default : V) (es : List E) (e : E) → AreDistinct (map index es) → Contains es e →
+      first_named index value default es (index e) ≡ value e
   first_of default [] e distinct h = absurd (contains_none e h)
   first_of default (f ∷ es) e distinct h = elim (contains_cases e f es h) [
     | inl is ↦ first_there default f es (index e) (ap index is) ∙ ap value is
     | inr r ↦
         let there : Contains (map index es) (index e) = contains_map index e es r in
-        first_beyond default f es (index e) (λ same. distinct.0 (subst (Contains (map index es)) (sym same) there)) ∙ first_of default es e distinct.1 r
+        first_beyond default f es (index e) (λ same. distinct.0 (subst (Contains (map index es)) (sym same) there))
+        ∙ first_of default es e distinct.1 r
   ]
 
   pub length_each : (es : List E) (xs : List V) → length (set_each index value es xs) ≡ length xs
@@ -90,7 +99,8 @@ module _ {E V : Type 0} (index : E → ℕ) (value : E → V) where
             ∙ sym (first_beyond (slice_index_or xs i d) e es i differ)
       ]
 
-  pub each_append : (es fs : List E) (xs : List V) → set_each index value (es ++ fs) xs ≡ set_each index value fs (set_each index value es xs)
+  pub each_append : (es fs : List E) (xs : List V) → set_each index value (es ++ fs) xs
+      ≡ set_each index value fs (set_each index value es xs)
   each_append [] fs xs = refl
   each_append (e ∷ es) fs xs = each_append es fs (slice_set xs (index e) (value e))
 
@@ -108,7 +118,8 @@ module _ {E V : Type 0} (index : E → ℕ) (value : E → V) where
   -- what holds of all that was there and of all that is written holds of all
   pub each_holds : (P : V → Type 0) (es : List E) (xs : List V) → All P xs → All (λ e. P (value e)) es → All P (set_each index value es xs)
   each_holds P [] xs old new = old
-  each_holds P (e ∷ es) xs old new = each_holds P es _ (All-set P xs _ _ (All-head (λ f. P (value f)) e es new) old) (All-tail (λ f. P (value f)) e es new)
+  each_holds P (e ∷ es) xs old new = each_holds P es _ (All-set P xs _ _ (All-head (λ f. P (value f)) e es new) old)
+      (All-tail (λ f. P (value f)) e es new)
 
 module _ {E : Type 0} (index : E → ℕ) where
   -- where the entries differ, those with the same index are the same
@@ -126,8 +137,8 @@ module _ {E : Type 0} (index : E → ℕ) where
   ]
 
 -- one more is written
-pub each_wrote : {E V : Type 0} → (index : E → ℕ) (value : E → V) (es : List E) (now next all : List V) (i : ℕ) (d : E) (v : V) → i < length es
-    → next ≡ slice_set now (index (slice_index_or es i d)) v → v ≡ value (slice_index_or es i d)
+pub each_wrote : {E V : Type 0} → (index : E → ℕ) (value : E → V) (es : List E) (now next all : List V) (i : ℕ) (d : E) (v : V) →
+    i < length es → next ≡ slice_set now (index (slice_index_or es i d)) v → v ≡ value (slice_index_or es i d)
     → set_each index value (drop i es) now ≡ all → set_each index value (drop (i + 1) es) next ≡ all
 each_wrote index value es now next all i d v lt made is was =
     ap (set_each index value (drop (i + 1) es)) (made ∙ ap (slice_set now (index (slice_index_or es i d))) is) ∙ (search (arith, drop_more))
@@ -135,7 +146,8 @@ each_wrote index value es now next all i d v lt made is was =
 -- what an entry names is there in the end
 pub each_of : {E V : Type 0} → (index : E → ℕ) (value : E → V) (es : List E) (xs : List V) (e : E) (d : V) → AreDistinct (map index es)
     → All (λ f. index f < length xs) es → Contains es e → slice_index_or (set_each index value es xs) (index e) d ≡ value e
-each_of index value es xs e d distinct within there = each_at index value es xs _ d distinct within ∙ first_of index value _ es e distinct there
+each_of index value es xs e d distinct within there = each_at index value es xs _ d distinct within
+    ∙ first_of index value _ es e distinct there
 
 -- a fact of each member, and of one at a place
 pub all_from : {X : Type 0} → (P : X → Type 0) (xs : List X) → ((x : X) → Contains xs x → P x) → All P xs
@@ -170,4 +182,10 @@ distinct_right (n ∷ ns) ms distinct = distinct_right ns ms distinct.1
 
 pub distinct_apart : (ns ms : List ℕ) → AreDistinct (ns ++ ms) → (n : ℕ) → Contains ns n → Contains ms n → ⊥
 distinct_apart [] ms distinct n one two = contains_none n one
-distinct_apart (k ∷ ns) ms distinct n one two = grind (arith, nat_tests, distinct_apart ns ms distinct.1 n, contains_cases, Contains-append_right)
+distinct_apart (k ∷ ns) ms distinct n one two = grind (
+  arith,
+  nat_tests,
+  distinct_apart ns ms distinct.1 n,
+  contains_cases,
+  Contains-append_right,
+)

@@ -37,7 +37,8 @@ module _ (d : Description) (fs : List Frame) (is : IsDescribed d fs) where
   named_fresh c names = record { current = omega arith; live = λ _. names }
 
   slots_named : (es : List SlotEntry) (slots : List Cap) → HoldsNamed es slots → AllIn (NamesItsRole fs) es → All (IsNamed fs) slots
-  slots_named es slots holds all k e lt = subst (IsNamed fs) (sym (get_or_from_slice_get slots k _ e (holds.each k (omega (arith, lt, holds.count)))))
+  slots_named es slots holds all k e lt = subst (IsNamed fs) (sym (get_or_from_slice_get slots k _ e
+      (holds.each k (omega (arith, lt, holds.count)))))
       (named_fresh _ (first_has (NamesItsRole fs) es k tt all))
 
   none_named : All (IsNamed fs) []
@@ -48,7 +49,8 @@ module _ (d : Description) (fs : List Frame) (is : IsDescribed d fs) where
     entry_named (OfBank b) f of frame = subst (λ (g : Frame). All (IsNamed fs) (caps_in g.content)) (sym frame) none_named
     entry_named (OfRoot p) f of frame =
         let have = All-contains (AllOfProcess (NamesItsRole fs)) d.processes.items p all.processes of in
-        rw frame.4 (All-cons (IsNamed fs) (fresh_cap frame.1) [] (named_fresh frame.1 (of_some (NamesItsRole fs) p.space frame.1 frame.3 have.0)) none_named)
+        rw frame.4 (All-cons (IsNamed fs) (fresh_cap frame.1) [] (named_fresh frame.1
+        (of_some (NamesItsRole fs) p.space frame.1 frame.3 have.0)) none_named)
     entry_named (OfAnnex p) f of frame =
         let have = All-contains (AllOfProcess (NamesItsRole fs)) d.processes.items p all.processes of in
         rw frame.2 (slots_named p.registers.items frame.0 frame.1 have.1)
@@ -88,7 +90,8 @@ module _ (d : Description) (fs : List Frame) (is : IsDescribed d fs) where
           ));
       nodes = all_from (λ (m : NodeEntry). AllIn (NamesItsRole fs) m.slots.items) d.nodes.items (λ n of.
           let node = described_of d fs (OfNode n) is of in
-          slots_roles 0 n.slots.items node.0 (All-contains (λ (m : NodeEntry). AreSlots 0 m.slots.items) d.nodes.items n fields.nodes of) node.1
+          slots_roles 0 n.slots.items node.0 (All-contains (λ (m : NodeEntry). AreSlots 0 m.slots.items) d.nodes.items n fields.nodes of)
+          node.1
           (named_in n.number _ node.2));
     }
 
@@ -101,7 +104,8 @@ lacks_refuted P d (held.Register k i) all lacks =
     (λ p have there. all_refuted (λ (s : SlotEntry). IfNamed P s.capability) (λ s. s.capability ≡ Some lacks.0) p.registers.items i there
     (λ s held is. lacks.2 (of_some P _ _ is held)) have.1) all.processes
 lacks_refuted P d (held.Slot k i) all lacks =
-    all_refuted (λ (n : NodeEntry). AllIn P n.slots.items) (λ n. IsSomeAnd (slice_get n.slots.items i) (λ s. s.capability ≡ Some lacks.0)) _ k lacks.1
+    all_refuted (λ (n : NodeEntry). AllIn P n.slots.items) (λ n. IsSomeAnd (slice_get n.slots.items i) (λ s. s.capability ≡ Some lacks.0)) _
+    k lacks.1
     (λ n have there. all_refuted (λ (s : SlotEntry). IfNamed P s.capability) (λ s. s.capability ≡ Some lacks.0) n.slots.items i there
     (λ s held is. lacks.2 (of_some P _ _ is held)) have) all.nodes
 
@@ -114,8 +118,8 @@ some_turned P Q turn (Some x) is = turn x is
 all_turned : {A : Type 0} (P Q : A → Type 0) → ((x : A) → P x → Q x) → (xs : List A) → All P xs → All Q xs
 all_turned P Q turn xs all k e lt = turn _ (all k e lt)
 
-first_turned : {A : Type 0} (P Q B C : A → Type 0) → ((x : A) → P x → Q x) → ((x : A) → B x → C x) → (xs : List A) (i : ℕ) → IsFirst P B xs i →
-    IsFirst Q C xs i
+first_turned : {A : Type 0} (P Q B C : A → Type 0) → ((x : A) → P x → Q x) → ((x : A) → B x → C x) → (xs : List A) (i : ℕ) →
+    IsFirst P B xs i → IsFirst Q C xs i
 first_turned P Q B C good bad xs i first = (all_turned P Q good (take i xs) first.0, some_turned B C bad (slice_get xs i) first.1)
 
 -- one that lacks it is named
@@ -131,12 +135,14 @@ some_lacked P Bad Holds find (Some x) is = find x is
 
 slot_lacked : (P : Capability → Type 0) (slots : List SlotEntry) (i : ℕ) → OneOf P slots i →
     (c : Capability) × IsSomeAnd (slice_get slots i) (λ s. s.capability ≡ Some c) × (P c → ⊥)
-slot_lacked P slots i one = some_lacked P (λ s. LacksIt P s.capability) (λ s c. s.capability ≡ Some c) (λ s lacks. lacked P s.capability lacks)
+slot_lacked P slots i one = some_lacked P (λ s. LacksIt P s.capability) (λ s c. s.capability ≡ Some c)
+    (λ s lacks. lacked P s.capability lacks)
     (slice_get slots i) one.1
 
 lacks_at : (P : Capability → Type 0) (d : Description) (at : Held) → FirstLacks P d at → OneLacks P d at
 lacks_at P d (held.Space k) first =
-    some_lacked P (λ p. LacksIt P p.space) (λ p c. p.space ≡ Some c) (λ p lacks. lacked P p.space lacks) (slice_get d.processes.items k) first.1
+    some_lacked P (λ p. LacksIt P p.space) (λ p c. p.space ≡ Some c) (λ p lacks. lacked P p.space lacks) (slice_get d.processes.items k)
+    first.1
 lacks_at P d (held.Register k i) first = some_lacked P (λ p. IfNamed P p.space × OneOf P p.registers.items i)
     (λ p c. IsSomeAnd (slice_get p.registers.items i) (λ s. s.capability ≡ Some c)) (λ p one. slot_lacked P p.registers.items i one.1)
     (slice_get d.processes.items k) first.1
@@ -153,14 +159,16 @@ pub process_lacks : (P : Capability → Type 0) (d : Description) (k : ℕ) (at 
     IsFirst (AllOfProcess P) (λ p. OneOfProcess P k p at) d.processes.items k → FirstLacks P d at
 unfolding OneOfProcess
 process_lacks P d k (held.Space j) first =
-    let there = some_both (j ≡ k) (λ p. OneOfProcess P k p (held.Space j)) (λ p. LacksIt P p.space) (λ p one. one) (slice_get d.processes.items k) first.1 in
+    let there = some_both (j ≡ k) (λ p. OneOfProcess P k p (held.Space j)) (λ p. LacksIt P p.space) (λ p one. one)
+    (slice_get d.processes.items k) first.1 in
     rw there.0 (first.0, there.1)
 process_lacks P d k (held.Register j i) first =
     let there = some_both (j ≡ k) (λ p. OneOfProcess P k p (held.Register j i)) (λ p. IfNamed P p.space × OneOf P p.registers.items i)
     (λ p one. (one.0, (one.1, one.2))) (slice_get d.processes.items k) first.1 in
     rw there.0 (first.0, there.1)
 process_lacks P d k (held.Slot j i) first =
-    absurd (some_both ⊥ (λ p. OneOfProcess P k p (held.Slot j i)) (λ p. Unit {0}) (λ p one. absurd one) (slice_get d.processes.items k) first.1).0
+    absurd (some_both ⊥ (λ p. OneOfProcess P k p (held.Slot j i)) (λ p. Unit {0}) (λ p one. absurd one) (slice_get d.processes.items k)
+    first.1).0
 
 -- the same of another property that the same capabilities have
 module _ (P Q : Capability → Type 0) (good : (c : Capability) → P c → Q c) (bad : (c : Capability) → (P c → ⊥) → Q c → ⊥) where
@@ -179,13 +187,16 @@ module _ (P Q : Capability → Type 0) (good : (c : Capability) → P c → Q c)
   process_turned p all = (named_turned p.space all.0, in_turned p.registers.items all.1)
 
   one_turned : (slots : List SlotEntry) (i : ℕ) → OneOf P slots i → OneOf Q slots i
-  one_turned slots i = first_turned (λ s. IfNamed P s.capability) (λ s. IfNamed Q s.capability) (λ s. LacksIt P s.capability) (λ s. LacksIt Q s.capability)
+  one_turned slots i = first_turned (λ s. IfNamed P s.capability) (λ s. IfNamed Q s.capability) (λ s. LacksIt P s.capability)
+      (λ s. LacksIt Q s.capability)
       (λ s. named_turned s.capability) (λ s. lacks_turned s.capability) slots i
 
   first_lacks : (d : Description) (at : Held) → FirstLacks P d at → FirstLacks Q d at
-  first_lacks d (held.Space k) first = first_turned (AllOfProcess P) (AllOfProcess Q) (λ p. LacksIt P p.space) (λ p. LacksIt Q p.space) process_turned
+  first_lacks d (held.Space k) first = first_turned (AllOfProcess P) (AllOfProcess Q) (λ p. LacksIt P p.space) (λ p. LacksIt Q p.space)
+      process_turned
       (λ p. lacks_turned p.space) d.processes.items k first
-  first_lacks d (held.Register k i) first = first_turned (AllOfProcess P) (AllOfProcess Q) (λ p. IfNamed P p.space × OneOf P p.registers.items i)
+  first_lacks d (held.Register k i) first = first_turned (AllOfProcess P) (AllOfProcess Q)
+      (λ p. IfNamed P p.space × OneOf P p.registers.items i)
       (λ p. IfNamed Q p.space × OneOf Q p.registers.items i) process_turned
       (λ p one. (named_turned p.space one.0, one_turned p.registers.items i one.1)) d.processes.items k first
   first_lacks d (held.Slot k i) first = (
@@ -215,6 +226,7 @@ role_broken d at fs described kinds first =
       ),
     )
 
-pub target_refuted : (d : Description) (at : Held) → HasNumbers d → HasFields d → BreaksTarget d at → (fs : List Frame) → IsDescribed d fs → AreNamed fs → ⊥
+pub target_refuted : (d : Description) (at : Held) → HasNumbers d → HasFields d → BreaksTarget d at → (fs : List Frame) → IsDescribed d fs →
+    AreNamed fs → ⊥
 target_refuted d at numbers fields broken fs is named = lacks_refuted (NamesItsRole fs) d at (all_roles d fs is numbers fields named)
     (broken.0, broken.1, broken.2 fs is)

@@ -24,7 +24,8 @@ blank_first g n = record { role = refl; allocations = refl; calls = refl; kind =
 
 pub first_at : (d : Description) (fs : List Frame) (n : ℕ) → HasNumbers d → IsDescribed d fs → IsFirst d.geometry n (frame_at fs n)
 first_at d fs n numbers is = elim (described_cases d fs n is) [
-  | inl c ↦ subst (λ m. IsFirst d.geometry m (frame_at fs n)) c.2 (first_entry d.geometry c.0 (frame_at fs n) (in_range d c.0 numbers c.1) c.3)
+  | inl c ↦ subst (λ m. IsFirst d.geometry m (frame_at fs n)) c.2 (first_entry d.geometry c.0 (frame_at fs n) (in_range d c.0 numbers c.1)
+      c.3)
   | inr blank ↦ subst (IsFirst d.geometry n) (sym blank) (blank_first d.geometry n)
 ]
 
@@ -33,7 +34,8 @@ header_in fs n = get_or-map (λ (f : Frame). f.header) fs n blank_frame
 
 -- no count was ever raised
 no_allocations : (d : Description) (fs : List Frame) (n : ℕ) → HasNumbers d → IsDescribed d fs → 0 ≡ (header_at (headers fs) n).allocations
-no_allocations d fs n numbers is = sym (ap (λ (h : ObjectHeader). h.allocations) (header_in fs n) ∙ (first_at d fs n numbers is).allocations)
+no_allocations d fs n numbers is = sym (ap (λ (h : ObjectHeader). h.allocations) (header_in fs n)
+    ∙ (first_at d fs n numbers is).allocations)
 
 no_calls : (d : Description) (fs : List Frame) (n : ℕ) → HasNumbers d → IsDescribed d fs → 0 ≡ (header_at (headers fs) n).calls
 no_calls d fs n numbers is = sym (ap (λ (h : ObjectHeader). h.calls) (header_in fs n) ∙ (first_at d fs n numbers is).calls)

@@ -50,7 +50,8 @@ number_spelled_once = grind (arith, nat_tests)
 
 abbrev state_found : List ℕ → Option State
 state_found text =
-    if bytes_eq text (codes "available") then Some Available else if bytes_eq text (codes "running") then Some Running else if bytes_eq text (codes "waiting")
+    if bytes_eq text (codes "available") then Some Available else if bytes_eq text (codes "running") then Some Running else if bytes_eq text
+    (codes "waiting")
     then Some Waiting else None
 
 state_again : (s : State) → state_found (state_text s) ≡ Some s
@@ -83,7 +84,8 @@ module _ {A : Type 0} (P : Data → A → Type 0) (R : A → A → Type 0) (once
   items_once ds xs ys one other = absurd (grind (arith, nat_tests))
 
   list_once : Once (IsList P) (Each R)
-  list_once d xs ys one other = items_once _ xs ys (subst (λ (ds : Items). AreItems P ds xs) (same_array one.0 _ (sym one.1 ∙ other.1)) one.2) other.2
+  list_once d xs ys one other = items_once _ xs ys (subst (λ (ds : Items). AreItems P ds xs) (same_array one.0 _ (sym one.1 ∙ other.1))
+      one.2) other.2
 
 list_same : {A : Type 0} (P : Data → A → Type 0) → Once P ◌≡◌ → Once (IsList P) ◌≡◌
 list_same P once d xs ys one other = each_same xs ys (list_once P ◌≡◌ once d xs ys one other)
@@ -107,8 +109,8 @@ module _ {A : Type 0} (P : Data → A → Type 0) (R : A → A → Type 0) (once
 number_at : (ms : Members) (key : List ℕ) (m n : ℕ) → At key IsNumber ms m → At key IsNumber ms n → m ≡ n
 number_at ms = at_once IsNumber ◌≡◌ number_once ms
 
-list_at : {A : Type 0} (P : Data → A → Type 0) → Once P ◌≡◌ → (ms : Members) (key : List ℕ) (xs ys : List A) → AtOr [] key (IsList P) ms xs →
-    AtOr [] key (IsList P) ms ys → xs ≡ ys
+list_at : {A : Type 0} (P : Data → A → Type 0) → Once P ◌≡◌ → (ms : Members) (key : List ℕ) (xs ys : List A) →
+    AtOr [] key (IsList P) ms xs → AtOr [] key (IsList P) ms ys → xs ≡ ys
 list_at P once ms = or_once (IsList P) ◌≡◌ (list_same P once) ms [] refl
 
 tables_at : {A : Type 0} (P : Members → A → Type 0) (R : A → A → Type 0) → Once P R → (ms : Members) (key : List ℕ) (xs ys : List A) →
@@ -156,12 +158,16 @@ description_once ms d e one other =
       geometry = same;
       layout = or_once IsNumber ◌≡◌ number_once ms 1 refl (codes "layout") d.layout e.layout one.layout other.layout;
       age = or_once IsNumber ◌≡◌ number_once ms 0 refl (codes "age") d.age e.age one.age other.age;
-      ranges = or_once (IsList IsRange) ◌≡◌ (list_same IsRange (search (arith, pair_once, number_once))) ms (whole_ranges e.geometry) refl (codes "ranges")
-          d.ranges.items e.ranges.items (subst (λ (g : Geometry). AtOr (whole_ranges g) (codes "ranges") (IsList IsRange) ms d.ranges.items) same one.ranges)
+      ranges = or_once (IsList IsRange) ◌≡◌ (list_same IsRange (search (arith, pair_once, number_once))) ms (whole_ranges e.geometry) refl
+          (codes "ranges")
+          d.ranges.items e.ranges.items (subst (λ (g : Geometry). AtOr (whole_ranges g) (codes "ranges") (IsList IsRange) ms d.ranges.items)
+          same one.ranges)
           other.ranges;
-      banks = or_once (IsList (IsTable IsBank)) ◌≡◌ (list_same (IsTable IsBank) (table_once IsBank ◌≡◌ bank_once)) ms [] refl (codes "bank") d.banks.items
+      banks = or_once (IsList (IsTable IsBank)) ◌≡◌ (list_same (IsTable IsBank) (table_once IsBank ◌≡◌ bank_once)) ms [] refl (codes "bank")
+          d.banks.items
           e.banks.items one.banks other.banks;
-      processes = tables_at IsProcess IsSameProcess process_once ms (codes "process") d.processes.items e.processes.items one.processes other.processes;
+      processes = tables_at IsProcess IsSameProcess process_once ms (codes "process") d.processes.items e.processes.items one.processes
+          other.processes;
       nodes = tables_at IsNode IsSameNode node_once ms (codes "node") d.nodes.items e.nodes.items one.nodes other.nodes;
       pages = tables_at IsPage IsSamePage page_once ms (codes "page") d.pages.items e.pages.items one.pages other.pages;
     }

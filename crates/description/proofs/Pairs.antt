@@ -12,13 +12,15 @@ ZipBelow R (suc i) (x ∷ xs) [] = ⊥
 ZipBelow R (suc i) (x ∷ xs) (y ∷ ys) = R x y × ZipBelow R i xs ys
 
 module _ {A : Type 0} (R : A → A → Type 0) where
-  set_below : (i : ℕ) (xs ys : List A) (d v : A) → i < length ys → R (slice_index_or ys i d) v → ZipBelow R i xs ys → ZipBelow R (suc i) xs (slice_set ys i v)
+  set_below : (i : ℕ) (xs ys : List A) (d v : A) → i < length ys → R (slice_index_or ys i d) v → ZipBelow R i xs ys →
+      ZipBelow R (suc i) xs (slice_set ys i v)
   set_below zero xs (y ∷ ys) d v inside is below = subst (λ (zs : List A). ZipBelow R 1 zs (v ∷ ys)) (sym below) (is, refl)
   set_below (suc i) (x ∷ xs) (y ∷ ys) d v inside is below = (below.0, set_below i xs ys d v (omega (arith, inside)) is below.1)
   set_below i xs ys d v inside is below = absurd (grind (arith, nat_tests))
 
   -- one more item is rewritten
-  pub zip_set : (i : ℕ) (xs ys : List A) (d v : A) → i < length ys → R (slice_index_or ys i d) v → ZipBelow R i xs ys → ZipBelow R (i + 1) xs (slice_set ys i v)
+  pub zip_set : (i : ℕ) (xs ys : List A) (d v : A) → i < length ys → R (slice_index_or ys i d) v → ZipBelow R i xs ys →
+      ZipBelow R (i + 1) xs (slice_set ys i v)
   zip_set i xs ys d v inside is below =
       let more : suc i ≡ i + 1 = omega arith in
       subst (λ (n : ℕ). ZipBelow R n xs (slice_set ys i v)) more (set_below i xs ys d v inside is below)
@@ -40,7 +42,8 @@ module _ {A : Type 0} (R : A → A → Type 0) where
   zip_map f g on [] [] zip = refl
   zip_map f g on [] (y ∷ ys) zip = absurd zip
   zip_map f g on (x ∷ xs) [] zip = absurd zip
-  zip_map {B} f g on (x ∷ xs) (y ∷ ys) zip = ap (λ (b : B). b ∷ map g ys) (on x y zip.0) ∙ ap (λ (bs : List B). f x ∷ bs) (zip_map f g on xs ys zip.1)
+  zip_map {B} f g on (x ∷ xs) (y ∷ ys) zip = ap (λ (b : B). b ∷ map g ys) (on x y zip.0)
+      ∙ ap (λ (bs : List B). f x ∷ bs) (zip_map f g on xs ys zip.1)
 
 -- items that are each a function of the other's
 pub zip_mapped : {A : Type 0} → (f : A → A) (xs ys : List A) → AllZip (λ x y. y ≡ f x) xs ys → ys ≡ map f xs

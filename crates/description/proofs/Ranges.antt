@@ -16,8 +16,8 @@ pub record GoneTo (g : Geometry) (rs : List NumberRange) (i next : ℕ) : Type 0
   pub goes_on : Cover g next (map (placed 0) (drop i rs)) → Cover g 0 (map (placed 0) rs)
 
 -- the range of an index, whatever stands for those that aren't there
-pub gone_on : (g : Geometry) (rs : List NumberRange) (i next : ℕ) (d : NumberRange) → i < length rs → GoneTo g rs i next → GoesOn g (get_or rs i d) next →
-    GoneTo g rs (i + 1) (next + (get_or rs i d).count)
+pub gone_on : (g : Geometry) (rs : List NumberRange) (i next : ℕ) (d : NumberRange) → i < length rs → GoneTo g rs i next →
+    GoesOn g (get_or rs i d) next → GoneTo g rs (i + 1) (next + (get_or rs i d).count)
 gone_on g rs i next d lt gone on = record {
   count = ap (λ n. n + (get_or rs i d).count) gone.count ∙ sym (count_more (take i rs) (get_or rs i d))
       ∙ ap count_in (sym (take_more rs i (get_or rs i d) lt ∙ ap (λ s. take i rs ++ s ∷ []) (get_or_default rs i (get_or rs i d) d lt)));
@@ -27,6 +27,7 @@ gone_on g rs i next d lt gone on = record {
         (rw (slice_get-get_or rs i d lt) (subst (λ n. GoesOn g (get_or rs i d) n) gone.count on))
     | inr differ ↦ gone.before j (omega (arith, less, differ))
   ];
-  goes_on = λ covers. gone.goes_on (rw (drop_more rs i (get_or rs i d) lt ∙ ap (λ s. s ∷ drop (i + 1) rs) (get_or_default rs i (get_or rs i d) d lt))
+  goes_on = λ covers. gone.goes_on (rw (drop_more rs i (get_or rs i d) lt ∙ ap (λ s. s ∷ drop (i + 1) rs)
+      (get_or_default rs i (get_or rs i d) d lt))
       (on.0, covers));
 }

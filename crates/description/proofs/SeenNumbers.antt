@@ -15,17 +15,20 @@ pub one_seen : (marks : List Bool) (ns : List ℕ) (i : ℕ) → i < length ns �
     (Contains (take i ns) (slice_index ns i) → ⊥) → AreSeen marks ns i → AreSeen (slice_set marks (slice_index ns i) true) ns (i + 1)
 one_seen marks ns i within inside none seen = record {
   distinct = distinct_more ns i (slice_index ns i) within refl none seen.distinct;
-  marked = λ n there. elim (Contains-append_cases (take i ns) (slice_index ns i ∷ []) n (subst (λ (ms : List ℕ). Contains ms n) (take_more ns i 0 within) there)) [
-    | inl before ↦ get_or-set_other marks (slice_index ns i) n true false (λ (is : n ≡ slice_index ns i). none (subst (Contains (take i ns)) is before))
-        ∙ seen.marked n before
-    | inr last ↦ elim (contains_cases n (slice_index ns i) [] last) [
-      | inl is ↦ subst (λ (m : ℕ). is_marked (slice_set marks (slice_index ns i) true) m ≡ true) is (get_or-set_same marks (slice_index ns i) true false inside)
-      | inr nowhere ↦ absurd (contains_none n nowhere)
-    ]
-  ];
+  marked = λ n there. elim (Contains-append_cases (take i ns) (slice_index ns i ∷ []) n
+      (subst (λ (ms : List ℕ). Contains ms n) (take_more ns i 0 within) there)) [
+        | inl before ↦ get_or-set_other marks (slice_index ns i) n true false (λ (is : n ≡ slice_index ns i). none
+            (subst (Contains (take i ns)) is before))
+            ∙ seen.marked n before
+        | inr last ↦ elim (contains_cases n (slice_index ns i) [] last) [
+          | inl is ↦ subst (λ (m : ℕ). is_marked (slice_set marks (slice_index ns i) true) m ≡ true) is
+              (get_or-set_same marks (slice_index ns i) true false inside)
+          | inr nowhere ↦ absurd (contains_none n nowhere)
+        ]
+      ];
 }
 
 -- a number that isn't marked doesn't come before
-pub unseen : (marks : List Bool) (before : List ℕ) (n : ℕ) → ((m : ℕ) → Contains before m → is_marked marks m ≡ true) → is_marked marks n ≡ false →
-    Contains before n → ⊥
+pub unseen : (marks : List Bool) (before : List ℕ) (n : ℕ) → ((m : ℕ) → Contains before m → is_marked marks m ≡ true) →
+    is_marked marks n ≡ false → Contains before n → ⊥
 unseen marks before n marked un there = true≢false (sym (marked n there) ∙ un)

@@ -17,15 +17,15 @@ fit_at ms [] n key at all = absurd (none-some key at)
 fit_at ms (k ∷ ks) zero key at all = subst (λ (j : Key). FitsAt j ms) (same_Some k key at) all.0
 fit_at ms (k ∷ ks) (suc n) key at all = fit_at ms ks n key at all.1
 
-item_refuted : {A : Type 0} (P : Data → A → Type 0) (Good So : Data → Type 0) → ((d : Data) (x : A) → P d x → So d → ⊥) → (i : ℕ) (ds : Items) (xs : List A) →
-    IsFirstItem Good So i ds → AreItems P ds xs → ⊥
+item_refuted : {A : Type 0} (P : Data → A → Type 0) (Good So : Data → Type 0) → ((d : Data) (x : A) → P d x → So d → ⊥) →
+    (i : ℕ) (ds : Items) (xs : List A) → IsFirstItem Good So i ds → AreItems P ds xs → ⊥
 item_refuted P Good So against i no_items xs first are = first
 item_refuted P Good So against i (item d ds) [] first are = are
 item_refuted P Good So against zero (item d ds) (x ∷ xs) first are = against d x are.0 first
 item_refuted P Good So against (suc i) (item d ds) (x ∷ xs) first are = item_refuted P Good So against i ds xs first.1 are.1
 
-list_refuted : {A : Type 0} (P : Data → A → Type 0) (key : Key) (So : Data → Type 0) (i : ℕ) (ms : Members) → ((d : Data) (x : A) → P d x → So d → ⊥) →
-    HasFirstItem key So i ms → HasList P (key_name key) ms → ⊥
+list_refuted : {A : Type 0} (P : Data → A → Type 0) (key : Key) (So : Data → Type 0) (i : ℕ) (ms : Members) →
+    ((d : Data) (x : A) → P d x → So d → ⊥) → HasFirstItem key So i ms → HasList P (key_name key) ms → ⊥
 list_refuted P key So i ms against first has =
     let list : IsList P (array first.0) has.0 = rw first.1 at has.1 in
     item_refuted P (IsItem key) So against i first.0 has.0 first.2 (rw (← same_items first.0 list.0 list.1) at list.2)
@@ -35,10 +35,12 @@ item_of : (key : Key) (So : Data → Type 0) (i : ℕ) (ms : Members) → ((d : 
     HasFirstItem key So i ms → FitsAt key ms → ⊥
 item_of Ranges So i ms against list first fits = list_refuted IsRange Ranges So i ms (λ d x is. against d (x, is)) first fits
 item_of Banks So i ms against list first fits = list_refuted (IsTable IsBank) Banks So i ms (λ d x is. against d (x, is)) first fits
-item_of Processes So i ms against list first fits = list_refuted (IsTable IsProcess) Processes So i ms (λ d x is. against d (x, is)) first fits
+item_of Processes So i ms against list first fits = list_refuted (IsTable IsProcess) Processes So i ms (λ d x is. against d (x, is)) first
+    fits
 item_of NodeList So i ms against list first fits = list_refuted (IsTable IsNode) NodeList So i ms (λ d x is. against d (x, is)) first fits
 item_of PageList So i ms against list first fits = list_refuted (IsTable IsPage) PageList So i ms (λ d x is. against d (x, is)) first fits
-item_of ProcessRegisters So i ms against list first fits = list_refuted IsSlot ProcessRegisters So i ms (λ d x is. against d (x, is)) first fits
+item_of ProcessRegisters So i ms against list first fits = list_refuted IsSlot ProcessRegisters So i ms (λ d x is. against d (x, is)) first
+    fits
 item_of NodeSlots So i ms against list first fits = list_refuted IsSlot NodeSlots So i ms (λ d x is. against d (x, is)) first fits
 item_of PageWords So i ms against list first fits = list_refuted IsWord PageWords So i ms (λ d x is. against d (x, is)) first fits
 item_of key So i ms against list first fits = absurd (false≢true list)
@@ -51,14 +53,16 @@ formless_refuted PageList d it none = none it.1.0 it.1.1
 formless_refuted key d it none = none it
 
 -- a table with all its keys, and no others, has no flaw
-flaw_refuted : (keys : List Key) (ms : Members) (flaw : Flaw) → IsFirstFlaw keys ms flaw → IsTrue (has_only (map key_name keys) ms) → FitAll ms keys → ⊥
+flaw_refuted : (keys : List Key) (ms : Members) (flaw : Flaw) → IsFirstFlaw keys ms flaw → IsTrue (has_only (map key_name keys) ms) →
+    FitAll ms keys → ⊥
 flaw_refuted keys ms (Unknown key) is known all = not_known (map key_name keys) ms key.now is known
 flaw_refuted keys ms (Misfit key) is known all = is.1 (fit_at ms keys is.0.1 key is.0.2 all)
 flaw_refuted keys ms (Item key i) is known all =
     item_of key (IsFormless key) i ms (formless_refuted key) is.1 is.2 (fit_at ms keys is.0.1 key is.0.2 all)
 
 inside_refuted : (key : Key) (i : ℕ) (keys : List Key) (ms : Members) (flaw : Flaw) → IsTrue (is_list key) →
-    ((d : Data) (t : Members) → IsItem key d → d ≡ table t → IsFirstFlaw keys t flaw → ⊥) → IsFirstInside key i keys ms flaw → FitAll ms (keys_of name.Whole) → ⊥
+    ((d : Data) (t : Members) → IsItem key d → d ≡ table t → IsFirstFlaw keys t flaw → ⊥) → IsFirstInside key i keys ms flaw →
+    FitAll ms (keys_of name.Whole) → ⊥
 inside_refuted key i keys ms flaw list against is all = item_of key (λ d. (t : Members) × (d ≡ table t) × IsFirstFlaw keys t flaw) i ms
     (λ d it so. against d so.0 it so.1 so.2) list is.1 (fit_at ms (keys_of name.Whole) is.0.1 key is.0.2 all)
 

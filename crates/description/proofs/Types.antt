@@ -28,14 +28,15 @@ unfolding IsWideNumber
 wide_text d n large text = inr (large, text)
 
 -- a value that says another capability, or none, or no text, says no number
-pub other_text : (d : Data) (r : Option Capability) → as_integer d ≡ None → IsCapability d r → ((n : ℕ) → 2 ^ 63 ≤ n → r ≢ Some (Number n)) → (n : ℕ) →
-    IsWideNumber d n → ⊥
+pub other_text : (d : Data) (r : Option Capability) → as_integer d ≡ None → IsCapability d r →
+    ((n : ℕ) → 2 ^ 63 ≤ n → r ≢ Some (Number n)) → (n : ℕ) → IsWideNumber d n → ⊥
 other_text d r none said other n number =
     let text = no_integer d none n number in other n text.0 (capability_once d r (Some (Number n)) said text.1)
 
 -- what a text says
 pub text_number : (d : Data) (r : Option Capability) (found : Option ℕ) → as_integer d ≡ None → IsCapability d r →
-    IfSome found (λ n. (2 ^ 63 ≤ n) × (r ≡ Some (Number n))) → IfNone found ((n : ℕ) → 2 ^ 63 ≤ n → r ≢ Some (Number n)) → Finds (IsWideNumber d) found
+    IfSome found (λ n. (2 ^ 63 ≤ n) × (r ≡ Some (Number n))) → IfNone found ((n : ℕ) → 2 ^ 63 ≤ n → r ≢ Some (Number n)) →
+    Finds (IsWideNumber d) found
 text_number d r None none said is other = other_text d r none said other
 text_number d r (Some n) none said is other = wide_text d n is.0 (subst (IsCapability d) is.1 said)
 

@@ -41,7 +41,8 @@ annexed d (OfAnnex q) f a of is frame annex = (q, record { of = of; root = refl;
 annexed d (OfNode n) f a of is frame annex = let other : role.Node ≡ role.Annex = sym (ap role_in frame.2) ∙ annex in absurd cc
 annexed d (OfPage q) f a of is frame annex = let other : role.Page ≡ role.Annex = sym (ap role_in frame.2) ∙ annex in absurd cc
 
-pub annex_is : (d : Description) (fs : List Frame) (a : ℕ) → IsDescribed d fs → role_at fs a ≡ role.Annex → (q : ProcessEntry) × IsProcess d q q.root a
+pub annex_is : (d : Description) (fs : List Frame) (a : ℕ) → IsDescribed d fs → role_at fs a ≡ role.Annex →
+    (q : ProcessEntry) × IsProcess d q q.root a
 annex_is d fs a is annex = elim (described_cases d fs a is) [
   | inl c ↦ annexed d c.0 (frame_at fs a) a c.1 c.2 c.3 annex
   | inr blank ↦ let other : role.Free ≡ role.Annex = sym (ap role_in blank) ∙ annex in absurd cc

@@ -11,8 +11,8 @@ unfolding frames_in
 blank_frames zero = refl
 blank_frames (suc n) = ap (λ (fs : List Frame). blank_frame ∷ fs) (blank_frames n)
 
-pub free_frames : (hs : List ObjectHeader) (cs : List (Content Cap)) (n : ℕ) → hs ≡ replicate n blank_header → cs ≡ replicate n content.Free →
-    frames_in hs cs ≡ replicate n blank_frame
+pub free_frames : (hs : List ObjectHeader) (cs : List (Content Cap)) (n : ℕ) → hs ≡ replicate n blank_header →
+    cs ≡ replicate n content.Free → frames_in hs cs ≡ replicate n blank_frame
 free_frames hs cs n headers contents = rw (headers, contents) (blank_frames n)
 
 -- a header with a role, never rescinded
@@ -22,7 +22,10 @@ first_header role owner = record { role = role; allocations = 0; calls = 0; owne
 -- a header and a content at a number are a frame put there
 pub put_there : (w : World) (n owner : ℕ) (held : Content Cap) (role : Role) → role ≡ role_of held → n < vec_len w.headers →
     vec_len w.contents ≡ vec_len w.headers
-    → IsPut n (first_frame owner held) w (record { headers = with_item w.headers n (first_header role owner); contents = with_item w.contents n held })
+    → IsPut n (first_frame owner held) w (record {
+      headers = with_item w.headers n (first_header role owner);
+      contents = with_item w.contents n held;
+    })
 put_there w n owner held role is within even = grind (arith, nat_tests, set_in)
 
 -- the frames of a world that is laid

@@ -27,8 +27,11 @@ module _ (d : Description) where
 
       module _ (fields : HasFields d) where
         explains_target : (at : Held) → BreaksTarget d at → ExplainsDescription d (Some (rule.Target at))
-        explains_target at broken =
-            (broken, λ sectors. target_broken d sectors limits numbers fields (λ rule. target_refuted d at numbers fields broken rule.0 rule.1 rule.2))
+        explains_target at broken = (
+          broken,
+          λ sectors. target_broken d sectors limits numbers fields
+              (λ rule. target_refuted d at numbers fields broken rule.0 rule.1 rule.2),
+        )
 
         explains_kind : (at : Held) → FirstLacks (IsTarget d.geometry) d at → ExplainsDescription d (Some (rule.Target at))
         explains_kind at lacks = explains_target at (kind_broken d at numbers lacks)
@@ -38,11 +41,13 @@ module _ (d : Description) where
               ExplainsDescription d (Some (rule.Target at))
           explains_role kinds at lacks = explains_target at (role_broken d at fs is kinds lacks)
 
-          pub explains_owner : (unbanked : Unbanked) → AreNamed fs → IsUnbanked fs unbanked → ExplainsDescription d (Some (rule.Owner unbanked))
+          pub explains_owner : (unbanked : Unbanked) → AreNamed fs → IsUnbanked fs unbanked →
+              ExplainsDescription d (Some (rule.Owner unbanked))
           explains_owner unbanked named why = (
             λ gs described. subst (λ (hs : List Frame). IsUnbanked hs unbanked) (described_once d fs gs is described) why,
             λ sectors. owner_broken d sectors limits numbers fields (fs, is, named)
-                (λ rule. unbanked_refuted rule.0 unbanked (subst (λ (hs : List Frame). IsUnbanked hs unbanked) (described_once d fs rule.0 is rule.1) why)
+                (λ rule. unbanked_refuted rule.0 unbanked (subst (λ (hs : List Frame). IsUnbanked hs unbanked)
+                (described_once d fs rule.0 is rule.1) why)
                 rule.2),
           )
 
@@ -85,8 +90,8 @@ refused_rule ms d sectors (rule.Limit l) is first = (d, is, first)
 refused_rule ms d sectors other is first = (d, is, first)
 
 -- a table that isn't read is refused at the place where it isn't
-pub misshapen_explained : (ms : Members) (why : Misread) (shape : ShapePlace) → why ≡ misread.Misshapen shape → Misses (BreaksShape ms) why →
-    Explains ms (Some (place.Shape shape))
+pub misshapen_explained : (ms : Members) (why : Misread) (shape : ShapePlace) → why ≡ misread.Misshapen shape →
+    Misses (BreaksShape ms) why → Explains ms (Some (place.Shape shape))
 misshapen_explained ms why shape is misses =
     let broken : BreaksShape ms shape = subst (λ (w : Misread). Misses (BreaksShape ms) w) is misses in
     (broken, λ sectors. shape_refuted ms shape broken)

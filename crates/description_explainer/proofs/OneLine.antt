@@ -169,8 +169,10 @@ module _ (d : Description) where
   owner_line : (u : Unbanked) → breaks (owner_text d u) ≡ false
   owner_line unbanked.Prime = refl
   owner_line (unbanked.Owner n owner) = both (object_text d n) (codes ", owner") (object_line n) refl
-  owner_line (unbanked.Chain bank) = both (codes "bank ") (decimal bank ++ codes ", owner") refl (both (decimal bank) (codes ", owner") (decimal_line bank) refl)
-  owner_line (unbanked.Limit bank used most) = both (codes "bank ") (decimal bank ++ codes ", limit") refl (both (decimal bank) (codes ", limit") (decimal_line bank) refl)
+  owner_line (unbanked.Chain bank) = both (codes "bank ") (decimal bank ++ codes ", owner") refl
+      (both (decimal bank) (codes ", owner") (decimal_line bank) refl)
+  owner_line (unbanked.Limit bank used most) = both (codes "bank ") (decimal bank ++ codes ", limit") refl
+      (both (decimal bank) (codes ", limit") (decimal_line bank) refl)
 
   rule_line : (r : Rule) → breaks (rule_text d r) ≡ false
   rule_line (rule.Limit l) = limit_line l

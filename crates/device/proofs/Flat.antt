@@ -39,7 +39,8 @@ module _ (bytes from : List ℕ) (at n : ℕ) (size : length from ≡ 512 * n) (
       sym (behind (take (512 * at) bytes) _ at i length_front ∙ front from _ i (omega (arith, size, lt)))
 
 -- the same, where the part is given as the code finds it
-module _ (bytes from now : List ℕ) (at a k : ℕ) (same : now ≡ from) (a_is : a ≡ 512 * at) (k_is : k ≡ length from) (whole : length from % 512 ≡ 0)
+module _ (bytes from now : List ℕ) (at a k : ℕ) (same : now ≡ from) (a_is : a ≡ 512 * at) (k_is : k ≡ length from)
+    (whole : length from % 512 ≡ 0)
     (inside : 512 * (at + sectors_of from) ≤ length bytes) where
   size : length from ≡ 512 * sectors_of from
   size = omega (arith, whole)
@@ -51,7 +52,8 @@ module _ (bytes from now : List ℕ) (at a k : ℕ) (same : now ≡ from) (a_is 
       ∙ ap (λ (n : ℕ). put_mid (512 * at) n bytes from) (k_is ∙ size)
 
   pub put_written : AreSectors (image_of (put_mid a k bytes now)) at from
-  put_written = subst (λ (all : List ℕ). AreSectors (image_of all) at from) (sym put_is) (put_inside bytes from at (sectors_of from) size inside)
+  put_written = subst (λ (all : List ℕ). AreSectors (image_of all) at from) (sym put_is)
+      (put_inside bytes from at (sectors_of from) size inside)
 
   pub put_elsewhere : Elsewhere at (sectors_of from) (image_of bytes) (image_of (put_mid a k bytes now))
   put_elsewhere = subst (λ (all : List ℕ). Elsewhere at (sectors_of from) (image_of bytes) (image_of all)) (sym put_is) (record {
@@ -82,7 +84,8 @@ got_inside bytes got at a k is a_is k_is whole inside i lt =
     ∙ ap (λ (n : ℕ). take 512 (drop n bytes)) (omega (arith, place))
 
 -- a sector of zeros alone
-pub zeros_are : (bytes : List ℕ) (n sectors i : ℕ) → bytes ≡ replicate n 0 → n ≡ 512 * sectors → i < sectors → image_of bytes i ≡ replicate 512 0
+pub zeros_are : (bytes : List ℕ) (n sectors i : ℕ) → bytes ≡ replicate n 0 → n ≡ 512 * sectors → i < sectors →
+    image_of bytes i ≡ replicate 512 0
 zeros_are bytes n sectors i is n_is lt =
     ap (λ (l : List ℕ). image_of l i) is
     ∙ ap (λ (l : List ℕ). take 512 l) (drop-replicate (512 * i) n 0)

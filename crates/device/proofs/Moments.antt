@@ -24,16 +24,19 @@ started disk P only_now here = record {
 }
 
 -- one call more, after which a crash leaves what has P
-pub goes_on : {old mid new : Disk} {P : Image → Type 0} → LeavesOnly old mid P → Elapses mid new → ((c : Image) → new.may_leave c → P c) → LeavesOnly old new P
+pub goes_on : {old mid new : Disk} {P : Image → Type 0} → LeavesOnly old mid P → Elapses mid new → ((c : Image) → new.may_leave c → P c) →
+    LeavesOnly old new P
 goes_on {old} {mid} {new} {P} so_far time here = record {
   later = omega (arith, so_far.later, time.later);
   each = λ c left. ⊎_elim (so_far.each c) (here c) (time.nothing_else old.moment c so_far.later left);
-  before = λ t c le left. ⊎_elim (so_far.before t c le) (λ now. inr (here c now)) (time.nothing_else t c (omega (arith, le, so_far.later)) left);
+  before = λ t c le left. ⊎_elim (so_far.before t c le) (λ now. inr (here c now))
+      (time.nothing_else t c (omega (arith, le, so_far.later)) left);
   keeps = λ t c le left. time.keeps t c (omega (arith, le, so_far.later)) (so_far.keeps t c le left);
 }
 
 -- the same run, with a weaker statement
-pub leaves_weaker : {old new : Disk} {P : Image → Type 0} (Q : Image → Type 0) → ((c : Image) → P c → Q c) → LeavesOnly old new P → LeavesOnly old new Q
+pub leaves_weaker : {old new : Disk} {P : Image → Type 0} (Q : Image → Type 0) → ((c : Image) → P c → Q c) → LeavesOnly old new P →
+    LeavesOnly old new Q
 leaves_weaker Q weaker run = record {
   later = run.later;
   each = λ c left. weaker c (run.each c left);
@@ -55,13 +58,14 @@ pub ends : {old new : Disk} {P : Image → Type 0} → LeavesOnly old new P → 
 ends {old} {new} run counts_now c left = run.each c (counts_now old.moment c run.later left)
 
 -- a call more after which a crash leaves nothing new, as a read or a sync
-pub narrowed : {old mid new : Disk} {P : Image → Type 0} → LeavesOnly old mid P → CountsNow mid → Elapses mid new → Narrows mid new → LeavesOnly old new P
+pub narrowed : {old mid new : Disk} {P : Image → Type 0} → LeavesOnly old mid P → CountsNow mid → Elapses mid new → Narrows mid new →
+    LeavesOnly old new P
 narrowed {old} {mid} {new} {P} so_far counts_now time narrows = goes_on {old = old} {mid = mid} {new = new} {P = P} so_far time
     (λ c left. ends so_far counts_now c (narrows c left))
 
 -- a power cut more: what it left could have been left before
-pub goes_on_cut : {old mid new : Disk} {P : Image → Type 0} → LeavesOnly old mid P → CountsNow mid → Elapses mid new → mid.may_leave new.seen →
-    Only new.seen new → LeavesOnly old new P
+pub goes_on_cut : {old mid new : Disk} {P : Image → Type 0} → LeavesOnly old mid P → CountsNow mid → Elapses mid new →
+    mid.may_leave new.seen → Only new.seen new → LeavesOnly old new P
 goes_on_cut {old} {mid} {new} {P} so_far counts_now time left only =
     goes_on {old = old} {mid = mid} {new = new} {P = P} so_far time
     (λ c now. subst P (sym (agrees_is c new.seen (only c now))) (ends so_far counts_now new.seen left))
@@ -73,10 +77,12 @@ peeks_started disk only_now = started disk disk.may_leave only_now (λ c left. l
 -- a call that succeeds leaves the count of failures
 pub counted_ok : {T E : Type 0} {old new : Disk} {value : T} → Counts {T = T} {E = E} old new (Ok value) → new.failures ≡ old.failures
 counted_ok {old = old} {new = new} counts =
-    ⊎_elim (λ rose. let never : false ≡ true = counts.cause.1 rose in cc) (λ le. omega (arith, le, counts.never_falls)) (cases_lt old.failures new.failures)
+    ⊎_elim (λ rose. let never : false ≡ true = counts.cause.1 rose in cc) (λ le. omega (arith, le, counts.never_falls))
+    (cases_lt old.failures new.failures)
 
 -- the failures of a run whose calls before the last one succeeded
-pub counts_on : {T E : Type 0} {old mid new : Disk} {result : Result T E} → mid.failures ≡ old.failures → Counts mid new result → Counts old new result
+pub counts_on : {T E : Type 0} {old mid new : Disk} {result : Result T E} → mid.failures ≡ old.failures → Counts mid new result →
+    Counts old new result
 counts_on {old = old} {mid = mid} {new = new} same counts = record {
   never_falls = omega (arith, same, counts.never_falls);
   cause = (

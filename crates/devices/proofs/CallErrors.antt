@@ -18,7 +18,8 @@ pub interrupted_more : (a b c : Option CallErrors) (n : ℕ) → b ≡ option_ma
 interrupted_more a b c n was is = is ∙ ap (option_map (more_errors 0 1)) was ∙ more_twice a 0 n 0 1
 
 -- a call failed after some were interrupted
-pub failed_after : (a b c : Option CallErrors) (n : ℕ) → b ≡ option_map (more_errors 0 n) a → c ≡ option_map (more_errors 1 0) b → OneFailed a c
+pub failed_after : (a b c : Option CallErrors) (n : ℕ) → b ≡ option_map (more_errors 0 n) a → c ≡ option_map (more_errors 1 0) b →
+    OneFailed a c
 failed_after a b c n was is = (n + 0, inl (is ∙ ap (option_map (more_errors 1 0)) was ∙ more_twice a 0 n 1 0))
 
 -- too many were interrupted
@@ -26,11 +27,22 @@ pub gave_up : (a b : Option CallErrors) (n : ℕ) → 2 ^ 64 - 1 ≤ n → b ≡
 gave_up a b n many is = (n, inr (many, is))
 
 pub none_trans : (a b c : Option CallErrors) → NoneFailed a b → NoneFailed b c → NoneFailed a c
-none_trans a b c first second = (first.0 + second.0, second.1 ∙ ap (option_map (more_errors 0 second.0)) first.1 ∙ more_twice a 0 first.0 0 second.0)
+none_trans a b c first second = (
+  first.0 + second.0,
+  second.1 ∙ ap (option_map (more_errors 0 second.0)) first.1
+      ∙ more_twice a 0 first.0 0 second.0,
+)
 
 pub one_after : (a b c : Option CallErrors) → NoneFailed a b → OneFailed b c → OneFailed a c
 one_after a b c first (n, inl is) = (first.0 + n, inl (is ∙ ap (option_map (more_errors 1 n)) first.1 ∙ more_twice a 0 first.0 1 n))
-one_after a b c first (n, inr is) = (first.0 + n, inr (omega (arith, is.0), is.1 ∙ ap (option_map (more_errors 0 n)) first.1 ∙ more_twice a 0 first.0 0 n))
+one_after a b c first (n, inr is) = (
+  first.0 + n,
+  inr (
+    omega (arith, is.0),
+    is.1 ∙ ap (option_map (more_errors 0 n)) first.1
+        ∙ more_twice a 0 first.0 0 n,
+  ),
+)
 
 abbrev failed_of : Option CallErrors → ℕ
 failed_of None = 0

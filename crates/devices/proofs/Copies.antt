@@ -9,8 +9,8 @@ use Rattle.devices.proofs.Past.{elapses_one, elapses_still, replay-append, repla
 use Rattle.devices.proofs.Disks as Disks
 
 -- a file to which nothing has been done
-pub copy_fresh : (sectors : ℕ) (copy first : List ℕ) (events : List Event) → sectors ≤ 131072 → length copy ≡ 512 * sectors → All (λ b. b < 256) copy →
-    first ≡ copy → events ≡ [] → IsCopy sectors copy first events
+pub copy_fresh : (sectors : ℕ) (copy first : List ℕ) (events : List Event) → sectors ≤ 131072 → length copy ≡ 512 * sectors →
+    All (λ b. b < 256) copy → first ≡ copy → events ≡ [] → IsCopy sectors copy first events
 copy_fresh sectors copy first events few size fits first_is events_is =
     subst (λ (f : List ℕ). IsCopy sectors copy f events) (sym first_is)
     (subst (λ (es : List Event). IsCopy sectors copy copy es) (sym events_is) (record {
@@ -26,7 +26,8 @@ pub fresh_only : (sectors : ℕ) (first : List ℕ) (events : List Event) (failu
     Only (now_of first events).present (disk_of sectors (image_of first) events failures)
 fresh_only sectors first events failures is = grind (arith, nat_tests)
 
-module _ (sectors : ℕ) (copy first : List ℕ) (events : List Event) (sound : IsCopy sectors copy first events) (again : List ℕ) (again_is : again ≡ first)
+module _ (sectors : ℕ) (copy first : List ℕ) (events : List Event) (sound : IsCopy sectors copy first events) (again : List ℕ)
+    (again_is : again ≡ first)
     (more : List Event) where
   abbrev old : State
   old = now_of first events
@@ -65,9 +66,11 @@ module _ (sectors : ℕ) (copy first : List ℕ) (events : List Event) (sound : 
 
     pub copy_tears : (failures risen : ℕ) → Tears at (sectors_of from) (disk_of sectors (image_of first) events failures)
         (disk_of sectors (image_of again) more risen)
-    copy_tears failures risen = rw again_is (Disks.write_crash sectors (image_of first) events more at from is sound.durable_whole failures risen)
+    copy_tears failures risen = rw again_is (Disks.write_crash sectors (image_of first) events more at from is sound.durable_whole failures
+        risen)
 
-    pub write_elapses : (failures risen : ℕ) → Elapses (disk_of sectors (image_of first) events failures) (disk_of sectors (image_of again) more risen)
+    pub write_elapses : (failures risen : ℕ) → Elapses (disk_of sectors (image_of first) events failures)
+        (disk_of sectors (image_of again) more risen)
     write_elapses failures risen = rw again_is (Disks.write_time sectors (image_of first) events more at from is failures risen)
 
   -- after a sync that went well
@@ -81,24 +84,29 @@ module _ (sectors : ℕ) (copy first : List ℕ) (events : List Event) (sound : 
       size = sound.size;
       fits = sound.fits;
       present_is = λ i. sound.present_is i ∙ sym (ap (λ (s : State). s.present i) now_synced);
-      durable_whole = subst (IsWhole sectors) (sym (ap (λ (s : State). s.durable) now_synced)) (present_whole sectors copy first events sound);
+      durable_whole = subst (IsWhole sectors) (sym (ap (λ (s : State). s.durable) now_synced))
+          (present_whole sectors copy first events sound);
     })
 
     only_ok : (risen : ℕ) → Only (now_of again more).present (disk_of sectors (image_of again) more risen)
     only_ok risen = rw again_is (Disks.sync_durable sectors (image_of first) events more is risen)
 
-    narrows_ok : (failures risen : ℕ) → Narrows (disk_of sectors (image_of first) events failures) (disk_of sectors (image_of again) more risen)
-    narrows_ok failures risen = rw again_is (Disks.sync_crash sectors (image_of first) events more is (unwritten_same (image_of first) events) failures risen)
+    narrows_ok : (failures risen : ℕ) → Narrows (disk_of sectors (image_of first) events failures)
+        (disk_of sectors (image_of again) more risen)
+    narrows_ok failures risen = rw again_is (Disks.sync_crash sectors (image_of first) events more is
+        (unwritten_same (image_of first) events) failures risen)
 
   -- after a sync that failed
   module _ (is : more ≡ events) where
     copy_err : IsCopy sectors copy again more
     copy_err = rw (again_is, is) sound
 
-    narrows_err : (failures risen : ℕ) → Narrows (disk_of sectors (image_of first) events failures) (disk_of sectors (image_of again) more risen)
+    narrows_err : (failures risen : ℕ) → Narrows (disk_of sectors (image_of first) events failures)
+        (disk_of sectors (image_of again) more risen)
     narrows_err failures risen c left = rw (again_is, is) at left
 
-  pub copy_synced : {T E : Type 0} (r : Result T E) → OnOk r (more ≡ events ++ synced ∷ []) → OnErr r (more ≡ events) → IsCopy sectors copy again more
+  pub copy_synced : {T E : Type 0} (r : Result T E) → OnOk r (more ≡ events ++ synced ∷ []) → OnErr r (more ≡ events) →
+      IsCopy sectors copy again more
   copy_synced {T} {E} r ok err = grind (arith, nat_tests, copy_ok, copy_err)
 
   pub synced_only : {T E : Type 0} (r : Result T E) (risen : ℕ) → OnOk r (more ≡ events ++ synced ∷ []) →
@@ -106,8 +114,8 @@ module _ (sectors : ℕ) (copy first : List ℕ) (events : List Event) (sound : 
   synced_only (Ok x) risen ok = only_ok ok risen
   synced_only (Err e) risen ok = tt
 
-  pub synced_narrows : {T E : Type 0} (r : Result T E) (failures risen : ℕ) → OnOk r (more ≡ events ++ synced ∷ []) → OnErr r (more ≡ events)
-      → Narrows (disk_of sectors (image_of first) events failures) (disk_of sectors (image_of again) more risen)
+  pub synced_narrows : {T E : Type 0} (r : Result T E) (failures risen : ℕ) → OnOk r (more ≡ events ++ synced ∷ []) →
+      OnErr r (more ≡ events) → Narrows (disk_of sectors (image_of first) events failures) (disk_of sectors (image_of again) more risen)
   synced_narrows (Ok x) failures risen ok err = narrows_ok ok failures risen
   synced_narrows (Err e) failures risen ok err = narrows_err err failures risen
 
@@ -116,14 +124,15 @@ module _ (sectors : ℕ) (copy first : List ℕ) (events : List Event) (sound : 
   synced_back (Ok x) failures risen err = tt
   synced_back (Err e) failures risen err = λ c left. rw (again_is, err) left
 
-  pub synced_elapses : {T E : Type 0} (r : Result T E) (failures risen : ℕ) → OnOk r (more ≡ events ++ synced ∷ []) → OnErr r (more ≡ events)
-      → Elapses (disk_of sectors (image_of first) events failures) (disk_of sectors (image_of again) more risen)
+  pub synced_elapses : {T E : Type 0} (r : Result T E) (failures risen : ℕ) → OnOk r (more ≡ events ++ synced ∷ []) →
+      OnErr r (more ≡ events) → Elapses (disk_of sectors (image_of first) events failures) (disk_of sectors (image_of again) more risen)
   synced_elapses (Ok x) failures risen ok err = rw (again_is, ok) (elapses_one sectors (image_of first) events synced failures risen)
   synced_elapses (Err e) failures risen ok err = rw (again_is, err) (elapses_still sectors (image_of first) events failures risen)
 
   -- after a power cut
   module _ (is : more ≡ events ++ cut Keep ∷ []) where
-    pub cut_elapses : (failures risen : ℕ) → Elapses (disk_of sectors (image_of first) events failures) (disk_of sectors (image_of again) more risen)
+    pub cut_elapses : (failures risen : ℕ) → Elapses (disk_of sectors (image_of first) events failures)
+        (disk_of sectors (image_of again) more risen)
     cut_elapses failures risen = rw (again_is, is) (elapses_one sectors (image_of first) events (cut Keep) failures risen)
 
     now_cut : now_of first more ≡ at_first old.present
@@ -147,4 +156,5 @@ module _ (sectors : ℕ) (copy first : List ℕ) (events : List Event) (sound : 
         (λ i. ap (λ (s : State). s.present i) now_cut))
 
     pub cut_only : (risen : ℕ) → Only (now_of again more).present (disk_of sectors (image_of again) more risen)
-    cut_only risen = rw again_is (Disks.cut_durable sectors (image_of first) events more Keep (inl is) (unwritten_same (image_of first) more) risen)
+    cut_only risen = rw again_is (Disks.cut_durable sectors (image_of first) events more Keep (inl is)
+        (unwritten_same (image_of first) more) risen)

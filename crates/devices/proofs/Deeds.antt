@@ -15,7 +15,8 @@ pub adds_none : {X : Type 0} (a : Option (List X)) → Adds a a []
 adds_none {X} a = grind (arith, nat_tests, append-nil)
 
 -- one more piece
-taken_one : (byte : ℕ) (ps : List (List ℕ)) (y : List ℕ) → taken byte (ps ++ y ∷ []) ≡ taken byte ps ++ took (byte + length (concat ps)) y ∷ []
+taken_one : (byte : ℕ) (ps : List (List ℕ)) (y : List ℕ) → taken byte (ps ++ y ∷ [])
+    ≡ taken byte ps ++ took (byte + length (concat ps)) y ∷ []
 taken_one byte [] y = ap (λ (n : ℕ). took n y ∷ []) (omega arith)
 taken_one byte (p ∷ ps) y =
     ap (λ (l : List Call). took byte p ∷ l) (taken_one (byte + length p) ps y
@@ -27,10 +28,12 @@ takes_none byte a = grind (arith, nat_tests, append-nil)
 takes_more : (byte : ℕ) (a b c : Option (List Call)) (xs ys : List ℕ) → Takes byte a b xs → Adds b c (took (byte + length xs) ys ∷ []) →
     Takes byte a c (xs ++ ys)
 takes_more byte a b c xs ys t adds =
-    let behind : Adds b c (took (byte + length (concat t.0)) ys ∷ []) = subst (λ (l : List ℕ). Adds b c (took (byte + length l) ys ∷ [])) (sym t.1) adds in (
+    let behind : Adds b c (took (byte + length (concat t.0)) ys ∷ []) = subst (λ (l : List ℕ). Adds b c (took (byte + length l) ys ∷ []))
+    (sym t.1) adds in (
       t.0 ++ ys ∷ [],
       concat-append t.0 (ys ∷ []) ∙ ap (λ (l : List ℕ). concat t.0 ++ l) (append-nil ys) ∙ ap (λ (l : List ℕ). l ++ ys) t.1,
-      subst (Adds a c) (sym (taken_one byte t.0 ys)) (adds_more a b c (taken byte t.0) (took (byte + length (concat t.0)) ys ∷ []) t.2 behind),
+      subst (Adds a c) (sym (taken_one byte t.0 ys)) (adds_more a b c (taken byte t.0) (took (byte + length (concat t.0)) ys ∷ []) t.2
+          behind),
     )
 
 -- a call took n bytes of the rest
@@ -61,13 +64,15 @@ takes_then byte a b c bytes i within t f =
       t.0 ++ f.0,
       f.1,
       ap (λ (l : List ℕ). l ++ f.1) (concat-append t.0 f.0) ∙ append_assoc (concat t.0) (concat f.0) f.1
-          ∙ ap (λ (l : List ℕ). concat t.0 ++ l) (f.2 ∙ take_rest bytes i) ∙ ap (λ (l : List ℕ). l ++ drop i bytes) t.1 ∙ take-append-drop i bytes,
+          ∙ ap (λ (l : List ℕ). concat t.0 ++ l) (f.2 ∙ take_rest bytes i) ∙ ap (λ (l : List ℕ). l ++ drop i bytes) t.1
+          ∙ take-append-drop i bytes,
       subst (Adds a c) (ap (λ (n : ℕ). taken byte t.0 ++ taken n f.0) place ∙ sym (taken_append byte t.0 f.0))
           (adds_more a b c (taken byte t.0) (taken (byte + i) f.0) t.2 f.3),
     )
 
 -- a call took none
-pub takes_zero : (byte : ℕ) (a b : Option (List Call)) (bytes : List ℕ) → Adds a b (took byte (take 0 bytes) ∷ []) → TakesFront byte a b bytes
+pub takes_zero : (byte : ℕ) (a b : Option (List Call)) (bytes : List ℕ) → Adds a b (took byte (take 0 bytes) ∷ []) →
+    TakesFront byte a b bytes
 takes_zero byte a b bytes adds = ([] ∷ [], bytes, refl, adds)
 
 -- no call was made
@@ -79,8 +84,8 @@ pub takes_still : (byte : ℕ) (a b : Option (List Call)) (bytes : List ℕ) →
 takes_still byte a b bytes same = subst (λ (o : Option (List Call)). TakesFront byte a o bytes) (sym same) (takes_nothing byte a bytes)
 
 -- one more deed
-tells_known : (events : List Event) (failures : ℕ) (old new : Option (List Call)) (d : Deed) → Tells events failures old → Adds old new (calls_of d)
-    → Tells (events ++ events_by d) (failures + failures_by d) new
+tells_known : (events : List Event) (failures : ℕ) (old new : Option (List Call)) (d : Deed) → Tells events failures old →
+    Adds old new (calls_of d) → Tells (events ++ events_by d) (failures + failures_by d) new
 tells_known events failures None None d tells adds = tt
 tells_known events failures None (Some now) d tells adds = cc
 tells_known events failures (Some calls) None d tells adds = absurd adds
@@ -95,8 +100,9 @@ pub tells_more : (events : List Event) (failures : ℕ) (old new : Option (List 
     → Adds old new (calls_of d) → ∥ Tells (events ++ events_by d) (failures + failures_by d) new ∥₁
 tells_more events failures old new d tells adds = ∥∥₁_map tells (λ t. tells_known events failures old new d t adds)
 
-pub tells_write : (events : List Event) (failures : ℕ) (old new : Option (List Call)) (at : ℕ) (bytes : List ℕ) → ∥ Tells events failures old ∥₁
-    → Takes (512 * at) old new bytes → ∥ Tells (events ++ writes_of at (sectors_of bytes) bytes) (failures + 0) new ∥₁
+pub tells_write : (events : List Event) (failures : ℕ) (old new : Option (List Call)) (at : ℕ) (bytes : List ℕ) →
+    ∥ Tells events failures old ∥₁ → Takes (512 * at) old new bytes → ∥ Tells (events ++ writes_of at (sectors_of bytes) bytes)
+    (failures + 0) new ∥₁
 tells_write events failures old new at bytes tells w =
     subst (λ (b : List ℕ). ∥ Tells (events ++ writes_of at (sectors_of b) b) (failures + 0) new ∥₁) w.1
     (tells_more events failures old new (writes at w.0) tells w.2)
@@ -109,7 +115,8 @@ tells_failed_sync h old new tells same =
 
 -- a write that failed
 pub tells_failed_write : (h : History) (old new : Option (List Call)) (at : ℕ) (bytes : Bor (List ℕ)) → ∥ Tells h.events h.failures old ∥₁
-    → TakesFront (512 * at) old new bytes.now → (let then = stepped (stepped h (Wrote at bytes)) Failed in ∥ Tells then.events then.failures new ∥₁)
+    → TakesFront (512 * at) old new bytes.now → (let then = stepped (stepped h (Wrote at bytes)) Failed in
+    ∥ Tells then.events then.failures new ∥₁)
 tells_failed_write h old new at bytes tells w =
     let written : List Event = h.events ++ writes_of at (sectors_of bytes.now) bytes.now in
     let once : ∥ Tells written (h.failures + 1) new ∥₁ =

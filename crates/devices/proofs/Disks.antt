@@ -23,9 +23,11 @@ module _ (sectors : ℕ) (first : Image) (past : List Event) where
   elapses_writes at (suc n) bytes failures risen =
       let e = wrote (at + n) (image_of bytes n) in
       let before = past ++ writes_of at n bytes in
-      let last : Elapses (disk_of sectors first before failures) (disk_of sectors first (before ++ e ∷ []) risen) = elapses_one sectors first before e failures
+      let last : Elapses (disk_of sectors first before failures) (disk_of sectors first (before ++ e ∷ []) risen) =
+      elapses_one sectors first before e failures
       risen in
-      let grows : (c : Image) → MayLeave sectors (replay (at_first first) before) c → MayLeave sectors (replay (at_first first) (before ++ e ∷ [])) c =
+      let grows : (c : Image) → MayLeave sectors (replay (at_first first) before) c →
+      MayLeave sectors (replay (at_first first) (before ++ e ∷ [])) c =
       λ c left. subst (λ (s : State). MayLeave sectors s c) (sym (replay-one (at_first first) before e)) (record {
         whole = left.whole;
         untouched = λ i none. left.untouched i ((or_parts _ _ none).0);
@@ -37,10 +39,12 @@ module _ (sectors : ℕ) (first : Image) (past : List Event) where
   -- after a write
   module _ (more : List Event) (at : ℕ) (bytes : List ℕ) (is : more ≡ past ++ writes_of at (sectors_of bytes) bytes) where
     state_written : replay (at_first first) more ≡ replay state (writes_of at (sectors_of bytes) bytes)
-    state_written = ap (λ (l : List Event). replay (at_first first) l) is ∙ replay-append (at_first first) past (writes_of at (sectors_of bytes) bytes)
+    state_written = ap (λ (l : List Event). replay (at_first first) l) is ∙ replay-append (at_first first) past
+        (writes_of at (sectors_of bytes) bytes)
 
     pub write_written : AreSectors (replay (at_first first) more).present at bytes
-    write_written i lt = sym (ap (λ (s : State). s.present (at + i)) state_written ∙ written-present_inside state at (sectors_of bytes) bytes i lt)
+    write_written i lt = sym (ap (λ (s : State). s.present (at + i)) state_written
+        ∙ written-present_inside state at (sectors_of bytes) bytes i lt)
 
     pub write_elsewhere : Elsewhere at (sectors_of bytes) state.present (replay (at_first first) more).present
     write_elsewhere = grind (arith, nat_tests, state_written, written-present_before, written-present_after)
@@ -56,7 +60,8 @@ module _ (sectors : ℕ) (first : Image) (past : List Event) where
 
     untorn_before : (c : Image) (i : ℕ) → i < at → untorn c i ≡ c i
     unfolding untorn
-    untorn_before c i lt = ap (λ (b : Bool). if b then c i else (if nat_lt i (at + sectors_of bytes) then state.durable i else c i)) (lt-ltb i at lt)
+    untorn_before c i lt = ap (λ (b : Bool). if b then c i else (if nat_lt i (at + sectors_of bytes) then state.durable i else c i))
+        (lt-ltb i at lt)
 
     untorn_after : (c : Image) (i : ℕ) → at + sectors_of bytes ≤ i → untorn c i ≡ c i
     unfolding untorn
@@ -80,13 +85,15 @@ module _ (sectors : ℕ) (first : Image) (past : List Event) where
     outside_unsynced i out none = grind (arith, nat_tests, names-entries_of, state_written, written-unsynced)
 
     durable_kept : (i : ℕ) → (replay (at_first first) more).durable i ≡ state.durable i
-    durable_kept i = ap (λ (s : State). s.durable i) state_written ∙ ap (λ (f : Image). f i) (written-durable state at (sectors_of bytes) bytes)
+    durable_kept i = ap (λ (s : State). s.durable i) state_written ∙ ap (λ (f : Image). f i)
+        (written-durable state at (sectors_of bytes) bytes)
 
-    untorn_left : IsWhole sectors state.durable → (c : Image) → MayLeave sectors (replay (at_first first) more) c → MayLeave sectors state (untorn c)
+    untorn_left : IsWhole sectors state.durable → (c : Image) → MayLeave sectors (replay (at_first first) more) c →
+        MayLeave sectors state (untorn c)
     untorn_left whole c left = grind (arith, nat_tests, untorn_inside, untorn_outside, inside_or_not, outside_unsynced, durable_kept)
 
-    pub write_crash : IsWhole sectors state.durable → (failures risen : ℕ) → Tears at (sectors_of bytes) (disk_of sectors first past failures)
-        (disk_of sectors first more risen)
+    pub write_crash : IsWhole sectors state.durable → (failures risen : ℕ) →
+        Tears at (sectors_of bytes) (disk_of sectors first past failures) (disk_of sectors first more risen)
     write_crash whole failures risen c left = (
       untorn c,
       untorn_left whole c left,
@@ -136,12 +143,15 @@ module _ (sectors : ℕ) (first : Image) (past : List Event) where
     cut_durable same risen c left i = grind (arith, nat_tests, quiet-unsynced, cut_quiet)
 
 -- what a power cut leaves of what is not unsynced
-left_untouched : (outcome : Outcome) (s : State) → ((i : ℕ) → s.unsynced i ≡ false → s.present i ≡ s.durable i) → (i : ℕ) → s.unsynced i ≡ false →
-    left_by outcome s i ≡ s.durable i
+left_untouched : (outcome : Outcome) (s : State) → ((i : ℕ) → s.unsynced i ≡ false → s.present i ≡ s.durable i) → (i : ℕ) →
+    s.unsynced i ≡ false → left_by outcome s i ≡ s.durable i
 left_untouched outcome s same i none = grind (arith, nat_tests)
 
 -- what a read gives after a power cut is one of the things that might have been left
 pub cut_may_leave : (sectors : ℕ) (outcome : Outcome) (s : State) (seen : Image) → IsWhole sectors seen →
     ((i : ℕ) → s.unsynced i ≡ false → s.present i ≡ s.durable i)
     → Agrees seen (left_by outcome s) → MayLeave sectors s seen
-cut_may_leave sectors outcome s seen whole same left = record { whole = whole; untouched = λ i none. left i ∙ left_untouched outcome s same i none }
+cut_may_leave sectors outcome s seen whole same left = record {
+  whole = whole;
+  untouched = λ i none. left i ∙ left_untouched outcome s same i none;
+}

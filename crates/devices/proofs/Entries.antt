@@ -11,7 +11,8 @@ marked_set outcome [] k e size is = cc
 marked_set outcome (x ∷ []) zero e size is = ap (λ (y : RecordEntry). mark_after outcome y ∷ []) is
 marked_set outcome (x ∷ []) (suc k) e size is = absurd (omega arith)
 marked_set outcome (x ∷ (y ∷ es)) zero e size is = absurd (omega arith)
-marked_set outcome (x ∷ (y ∷ es)) (suc k) e size is = ap (λ (l : List RecordEntry). x ∷ l) (marked_set outcome (y ∷ es) k e (omega arith) is)
+marked_set outcome (x ∷ (y ∷ es)) (suc k) e size is = ap (λ (l : List RecordEntry). x ∷ l)
+    (marked_set outcome (y ∷ es) k e (omega arith) is)
 
 -- the events of entries after others
 pub events_of-append : (xs ys : List RecordEntry) → events_of (xs ++ ys) ≡ events_of xs ++ events_of ys
@@ -28,16 +29,25 @@ events_of-entries_of at (suc n) bytes =
 
 pub length-entries_of : (at n : ℕ) (bytes : List ℕ) → length (entries_of at n bytes) ≡ n
 length-entries_of at zero bytes = refl
-length-entries_of at (suc n) bytes = omega
-    (arith, length-append (entries_of at n bytes) (record { action = Wrote (at + n) (image_of bytes n); cut = None } ∷ []), length-entries_of at n bytes)
+length-entries_of at (suc n) bytes = omega (
+  arith,
+  length-append (entries_of at n bytes) (record { action = Wrote (at + n) (image_of bytes n); cut = None } ∷ []),
+  length-entries_of at n bytes,
+)
 
 -- the record after a write
 pub past_written : (entries more : List RecordEntry) (at n : ℕ) (bytes : List ℕ) → more ≡ entries ++ entries_of at n bytes →
     events_of more ≡ events_of entries ++ writes_of at n bytes
 past_written entries more at n bytes is = grind (arith, nat_tests, events_of-append, events_of-entries_of)
 
-pub length_written : (entries more : List RecordEntry) (at n : ℕ) (bytes : List ℕ) → more ≡ entries ++ entries_of at n bytes → length more ≡ length entries + n
-length_written entries more at n bytes is = omega (arith, ap length is, length-append entries (entries_of at n bytes), length-entries_of at n bytes)
+pub length_written : (entries more : List RecordEntry) (at n : ℕ) (bytes : List ℕ) → more ≡ entries ++ entries_of at n bytes →
+    length more ≡ length entries + n
+length_written entries more at n bytes is = omega (
+  arith,
+  ap length is,
+  length-append entries (entries_of at n bytes),
+  length-entries_of at n bytes,
+)
 
 -- the record after a sync
 pub past_synced : (entries more : List RecordEntry) → more ≡ entries ++ record { action = Synced; cut = None } ∷ [] →
@@ -63,7 +73,12 @@ quiet_one outcome e (Some o) = inr (refl, inr (e ∷ [], o, refl))
 
 quiet_behind : (xs ys : List Event) (y : Event) → IsQuiet (y ∷ ys) → IsQuiet (xs ++ y ∷ ys)
 quiet_behind xs ys y (inl never) = cc
-quiet_behind xs ys y (inr last) = inr (xs ++ last.0, last.1, ap (λ (l : List Event). xs ++ l) last.2 ∙ sym (append_assoc xs last.0 (cut last.1 ∷ [])))
+quiet_behind xs ys y (inr last) = inr (
+  xs ++ last.0,
+  last.1,
+  ap (λ (l : List Event). xs ++ l) last.2
+      ∙ sym (append_assoc xs last.0 (cut last.1 ∷ [])),
+)
 
 -- a mark is one event more, unless nothing has happened since the last cut
 pub events_of-marked : (outcome : Outcome) (es : List RecordEntry) → EndsCut outcome (events_of es) (events_of (marked outcome es))
@@ -71,7 +86,8 @@ events_of-marked outcome [] = inr (refl, inl refl)
 events_of-marked outcome (x ∷ []) = quiet_one outcome (event_of x.action) x.cut
 events_of-marked outcome (x ∷ (y ∷ es)) =
     ⊎_elim
-    (λ more. inl (ap (λ (l : List Event). entry_events x ++ l) more ∙ sym (append_assoc (entry_events x) (events_of (y ∷ es)) (cut outcome ∷ []))))
+    (λ more. inl (ap (λ (l : List Event). entry_events x ++ l) more ∙ sym (append_assoc (entry_events x) (events_of (y ∷ es))
+    (cut outcome ∷ []))))
     (λ same. inr (
       ap (λ (l : List Event). entry_events x ++ l) same.0,
       quiet_behind (entry_events x) (mark_of y.cut ++ events_of es) (event_of y.action)
@@ -80,5 +96,6 @@ events_of-marked outcome (x ∷ (y ∷ es)) =
     (events_of-marked outcome (y ∷ es))
 
 -- the record after a power cut
-pub past_cut : (outcome : Outcome) (entries more : List RecordEntry) → more ≡ marked outcome entries → EndsCut outcome (events_of entries) (events_of more)
+pub past_cut : (outcome : Outcome) (entries more : List RecordEntry) → more ≡ marked outcome entries →
+    EndsCut outcome (events_of entries) (events_of more)
 past_cut outcome entries more is = grind (arith, nat_tests, events_of-marked)

@@ -2,8 +2,8 @@
 use Rattle.devices.proofs.Names.{ℕ, List, take, length, ap, sym, arith, Bor, fresh, stepped, image_of, take-add, take_all, History, Held}
 use Rattle.std.proofs.Common.{◌≡◌, ◌+◌, ◌*◌, ◌≤◌, ◌++◌, ◌∙◌}
 
-pub held_more : (old new : History) (copy : List ℕ) (at : ℕ) (bytes : Bor (List ℕ)) → old ≡ fresh (take (512 * at) copy) → bytes.now ≡ image_of copy at
-    → new ≡ stepped old (Held bytes) → new ≡ fresh (take (512 * (at + 1)) copy)
+pub held_more : (old new : History) (copy : List ℕ) (at : ℕ) (bytes : Bor (List ℕ)) → old ≡ fresh (take (512 * at) copy) →
+    bytes.now ≡ image_of copy at → new ≡ stepped old (Held bytes) → new ≡ fresh (take (512 * (at + 1)) copy)
 held_more old new copy at bytes was is more =
     more ∙ ap (λ (h : History). stepped h (Held bytes)) was
     ∙ ap (λ (l : List ℕ). fresh (take (512 * at) copy ++ l)) is

@@ -23,7 +23,8 @@ names-outside at zero bytes i miss = ⊎_elim inl (λ le. inr (omega (arith, le)
 names-outside at (suc n) bytes i miss =
     let both = or_parts (names (entries_of at n bytes) i) _ (sym (names-append (entries_of at n bytes) _ i) ∙ miss) in
     let apart : i ≡ at + n → ⊥ = eqb-false i (at + n) (sym (or-false _) ∙ both.1) in
-    ⊎_elim inl (λ le. ⊎_elim (λ e. absurd (apart e)) (⊎_elim (λ lt. absurd (omega (arith, lt, le))) (λ gt. inr (omega (arith, gt)))) (cases_order i (at + n)))
+    ⊎_elim inl (λ le. ⊎_elim (λ e. absurd (apart e)) (⊎_elim (λ lt. absurd (omega (arith, lt, le))) (λ gt. inr (omega (arith, gt))))
+    (cases_order i (at + n)))
     (names-outside at n bytes i both.0)
 
 pub written-unsynced : (s : State) (at n : ℕ) (bytes : List ℕ) (i : ℕ) →
@@ -47,13 +48,15 @@ module _ (sectors : ℕ) (first present durable : List ℕ) (entries : List Reco
     now_written = ap (λ (l : List Event). replay (at_first (image_of first)) l) (past_written entries more at (sectors_of from) from is) ∙
         replay-append (at_first (image_of first)) (events_of entries) _
 
-    names_written : (i : ℕ) → names (drop settled more) i ≡ (names (drop settled entries) i || names (entries_of at (sectors_of from) from) i)
+    names_written : (i : ℕ) → names (drop settled more) i ≡ (names (drop settled entries) i || names (entries_of at (sectors_of from) from)
+        i)
     names_written i = grind (arith, nat_tests, drop-append-le, names-append)
 
     present_written : (i : ℕ) → image_of put i ≡ (now_of first more).present i
     present_written i =
         ⊎_elim
-        (λ lt. elsewhere.before i lt ∙ sound.present_is i ∙ sym (written-present_before (now_of first entries) at (sectors_of from) from i lt))
+        (λ lt. elsewhere.before i lt ∙ sound.present_is i ∙ sym (written-present_before (now_of first entries) at (sectors_of from) from i
+        lt))
         (λ le. ⊎_elim
         (λ far.
         let j = i - at in
@@ -62,7 +65,8 @@ module _ (sectors : ℕ) (first present durable : List ℕ) (entries : List Reco
         ∙ sym (has j (omega (arith, far, le)))
         ∙ sym (written-present_inside (now_of first entries) at (sectors_of from) from j (omega (arith, far, le)))
         ∙ ap (λ (k : ℕ). (replay (now_of first entries) (writes_of at (sectors_of from) from)).present k) place)
-        (λ beyond. elsewhere.after i beyond ∙ sound.present_is i ∙ sym (written-present_after (now_of first entries) at (sectors_of from) from i beyond))
+        (λ beyond. elsewhere.after i beyond ∙ sound.present_is i ∙ sym (written-present_after (now_of first entries) at (sectors_of from)
+        from i beyond))
         (cases_lt i (at + sectors_of from)))
         (cases_lt i at)
         ∙ sym (ap (λ (t : State). t.present i) now_written)
@@ -92,7 +96,8 @@ module _ (sectors : ℕ) (first present durable : List ℕ) (entries : List Reco
         replay-one (at_first (image_of first)) (events_of entries) synced
 
     copied_is : (i : ℕ) → image_of copied i ≡ image_of present i
-    copied_is i = ⊎_elim (has.named i) (λ miss. has.others i miss ∙ sym (sound.same_elsewhere i miss)) (cases_Bool (names (drop settled entries) i))
+    copied_is i = ⊎_elim (has.named i) (λ miss. has.others i miss ∙ sym (sound.same_elsewhere i miss))
+        (cases_Bool (names (drop settled entries) i))
 
     nothing_left : (i : ℕ) → names (drop (length more) more) i ≡ false
     nothing_left i = ap (λ (l : List RecordEntry). names l i) (drop_all (length more) more (omega arith))
@@ -148,5 +153,6 @@ module _ (sectors : ℕ) (first present durable : List ℕ) (entries : List Reco
     cut_left i = sym (now_cut i).present_is ∙ left i
 
   -- what a power cut leaves of the bytes
-  pub left_sound : (outcome : Outcome) → Agrees (left_by outcome (state_with present durable (drop settled entries))) (left_by outcome (now_of first entries))
+  pub left_sound : (outcome : Outcome) → Agrees (left_by outcome (state_with present durable (drop settled entries)))
+      (left_by outcome (now_of first entries))
   left_sound outcome = grind (arith, nat_tests)

@@ -33,7 +33,8 @@ module _ (disk : Disk) where
       let inside : 512 * (0 + sectors_of (concat is.pieces)) ≤ length now = omega (arith, is.whole, length_is) in (
         is.size ∙ ap (λ (n : ℕ). n / 512) length_is,
         λ i lt. is.seen i
-            ∙ got_inside now (concat is.pieces) 0 0 size got (omega arith) refl (omega (arith, is.whole)) inside i (omega (arith, is.whole, is.size, lt))
+            ∙ got_inside now (concat is.pieces) 0 0 size got (omega arith) refl (omega (arith, is.whole)) inside i
+            (omega (arith, is.whole, is.size, lt))
             ∙ ap (λ (n : ℕ). image_of now n) (omega arith),
       )
 
@@ -55,7 +56,7 @@ module _ (disk : Disk) where
   opened_mirrors path access lock None is = tt
   opened_mirrors path access lock (Some calls) is = opened_calls path access lock calls is
 
-  pub made_mirrors : (path : List ℕ) (access : Access) (sectors : ℕ) (calls : Option (List OpeningCall)) → disk.sectors ≡ sectors → AreZeros sectors
-      → IfSome calls (λ calls. IsMade path access sectors calls) → IfSome calls (λ calls. Mirrors calls disk)
+  pub made_mirrors : (path : List ℕ) (access : Access) (sectors : ℕ) (calls : Option (List OpeningCall)) → disk.sectors ≡ sectors →
+      AreZeros sectors → IfSome calls (λ calls. IsMade path access sectors calls) → IfSome calls (λ calls. Mirrors calls disk)
   made_mirrors path access sectors None size zeros is = tt
   made_mirrors path access sectors (Some calls) size zeros is = made_calls path access sectors calls size zeros is

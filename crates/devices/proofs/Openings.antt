@@ -50,35 +50,36 @@ gets_join byte next a b c xs ys next_is first second =
 pub gets_none : (byte : ℕ) (a : Calls) → GetsFrom byte a a []
 gets_none byte a = ([], refl, adds_none a)
 
-module _ (byte : ℕ) (a b : Calls) (old part : List ℕ) (done k : ℕ) (within : done ≤ length old) (gets : GetsFrom byte a b (take done old)) where
-  size : length (take done old) ≡ done
-  size = length-take-le done old within
+module _ (byte : ℕ) (a b : Calls) (old part : List ℕ) (done k : ℕ) (within : done ≤ length old) (gets : GetsFrom byte a b (take done old))
+  where
+    size : length (take done old) ≡ done
+    size = length-take-le done old within
 
-  pub fits_within : (n : ℕ) → n ≤ length part → done + n ≤ length (put_mid done k old part)
-  fits_within n fits = grind (arith, nat_tests, size, length-append)
+    pub fits_within : (n : ℕ) → n ≤ length part → done + n ≤ length (put_mid done k old part)
+    fits_within n fits = grind (arith, nat_tests, size, length-append)
 
-  -- a call got n bytes after the first ones of a buffer
-  pub gets_on : (c : Calls) (n : ℕ) → n ≤ length part → Adds b c (got (byte + done) (take n part) ∷ [])
-      → GetsFrom byte a c (take (done + n) (put_mid done k old part))
-  gets_on c n fits adds =
-      let tail : List ℕ = drop k (drop done old) in
-      let more : take (done + n) (put_mid done k old part) ≡ take done old ++ take n part =
-      ap (λ (m : ℕ). take (m + n) (take done old ++ (part ++ tail))) (sym size) ∙ take-append-add (take done old) (part ++ tail) n
-      ∙ ap (λ (l : List ℕ). take done old ++ l) (take-append-le n part tail fits) in
-      subst (GetsFrom byte a c) (sym more)
-      (gets_join byte (byte + done) a b c (take done old) (take n part) (ap (λ (m : ℕ). byte + m) (sym size)) gets
-      (take n part ∷ [], append-nil (take n part), adds))
+    -- a call got n bytes after the first ones of a buffer
+    pub gets_on : (c : Calls) (n : ℕ) → n ≤ length part → Adds b c (got (byte + done) (take n part) ∷ [])
+        → GetsFrom byte a c (take (done + n) (put_mid done k old part))
+    gets_on c n fits adds =
+        let tail : List ℕ = drop k (drop done old) in
+        let more : take (done + n) (put_mid done k old part) ≡ take done old ++ take n part =
+        ap (λ (m : ℕ). take (m + n) (take done old ++ (part ++ tail))) (sym size) ∙ take-append-add (take done old) (part ++ tail) n
+        ∙ ap (λ (l : List ℕ). take done old ++ l) (take-append-le n part tail fits) in
+        subst (GetsFrom byte a c) (sym more)
+        (gets_join byte (byte + done) a b c (take done old) (take n part) (ap (λ (m : ℕ). byte + m) (sym size)) gets
+        (take n part ∷ [], append-nil (take n part), adds))
 
-  -- an interrupted call leaves them
-  pub still_within : done ≤ length (put_mid done k old part)
-  still_within = omega (arith, fits_within 0 (omega arith))
+    -- an interrupted call leaves them
+    pub still_within : done ≤ length (put_mid done k old part)
+    still_within = omega (arith, fits_within 0 (omega arith))
 
-  pub gets_still : GetsFrom byte a b (take done (put_mid done k old part))
-  gets_still = subst (GetsFrom byte a b) (sym (take-put_mid_below done k old part done (omega arith) within)) gets
+    pub gets_still : GetsFrom byte a b (take done (put_mid done k old part))
+    gets_still = subst (GetsFrom byte a b) (sym (take-put_mid_below done k old part done (omega arith) within)) gets
 
 -- sectors were got after the first ones of a copy, up to a byte or all that it has
-pub sectors_on : (a b c : Calls) (old new part : List ℕ) (at byte next : ℕ) → byte ≡ 512 * at → length new ≡ length old → length part % 512 ≡ 0
-    → 512 * at ≤ length old → byte + length part ≡ min next (length old)
+pub sectors_on : (a b c : Calls) (old new part : List ℕ) (at byte next : ℕ) → byte ≡ 512 * at → length new ≡ length old →
+    length part % 512 ≡ 0 → 512 * at ≤ length old → byte + length part ≡ min next (length old)
     → AreSectors (image_of new) at part → Elsewhere at (sectors_of part) (image_of old) (image_of new)
     → Gets a b (take byte old) → GetsFrom byte b c part → Gets a c (take next new)
 sectors_on a b c old new part at byte next byte_is same whole inside end written others gets more =
@@ -88,8 +89,9 @@ sectors_on a b c old new part at byte next byte_is same whole inside end written
     subst (Gets a c) (all ∙ reaches) (gets_join 0 byte a b c (take byte old) part (omega (arith, size)) gets more)
 
 -- a file that is emptied, lengthened and synced, and then its folder
-pub filled : {T E : Type 0} (r : Result T E) (path : List ℕ) (n : ℕ) (a b c d e : Calls) → Adds a b (resized 0 ∷ []) → Adds b c (resized n ∷ []) →
-    Adds c d (synced ∷ []) → OnOk r (Adds d e (listed path ∷ [])) → OnOk r (Adds a e (resized 0 ∷ resized n ∷ synced ∷ listed path ∷ []))
+pub filled : {T E : Type 0} (r : Result T E) (path : List ℕ) (n : ℕ) (a b c d e : Calls) → Adds a b (resized 0 ∷ []) →
+    Adds b c (resized n ∷ []) → Adds c d (synced ∷ []) → OnOk r (Adds d e (listed path ∷ [])) →
+    OnOk r (Adds a e (resized 0 ∷ resized n ∷ synced ∷ listed path ∷ []))
 filled (Err x) path n a b c d e emptied extended kept seen = tt
 filled (Ok x) path n a b c d e emptied extended kept seen =
     adds_more a b e (resized 0 ∷ []) (resized n ∷ synced ∷ listed path ∷ []) emptied
@@ -98,7 +100,12 @@ filled (Ok x) path n a b c d e emptied extended kept seen =
 -- the same, of a file that is locked before
 pub fills : (path : List ℕ) (n : ℕ) (a b c : Calls) → TakesLock Exclusive a b → Adds b c (resized 0 ∷ resized n ∷ synced ∷ listed path ∷ [])
     → MakesZeros path n a c
-fills path n a b c took more = (took.0, took.1, adds_more a b c (locked Exclusive took.0 ∷ []) (resized 0 ∷ resized n ∷ synced ∷ listed path ∷ []) took.2 more)
+fills path n a b c took more = (
+  took.0,
+  took.1,
+  adds_more a b c (locked Exclusive took.0 ∷ [])
+      (resized 0 ∷ resized n ∷ synced ∷ listed path ∷ []) took.2 more,
+)
 
 -- a file that is locked, synced and read
 pub loads_locked : (r : Result (List ℕ) FileFault) (lock : Lock) (a b c d : Calls) → TakesLock lock a b → Adds b c (synced ∷ []) →
@@ -123,8 +130,8 @@ pub opens : (path : List ℕ) (access : Access) (lock : Lock) (a b : Calls) (cop
 opens path access lock a b copy disk is loads size seen = grind (arith, nat_tests)
 
 -- a file that was just opened, and then filled with zeros
-pub makes : (path : List ℕ) (access : Access) (sectors n : ℕ) (a b : Calls) → IfSome a (λ calls. calls ≡ opened path access ∷ []) → n ≡ 512 * sectors
-    → MakesZeros path n a b → IfSome b (λ calls. IsMade path access sectors calls)
+pub makes : (path : List ℕ) (access : Access) (sectors n : ℕ) (a b : Calls) → IfSome a (λ calls. calls ≡ opened path access ∷ []) →
+    n ≡ 512 * sectors → MakesZeros path n a b → IfSome b (λ calls. IsMade path access sectors calls)
 makes path access sectors n a b is size zeros = grind (arith, nat_tests)
 
 -- the calls that follow the lock
@@ -142,14 +149,16 @@ pub stops_on : (x : OpeningCall) (xs : List OpeningCall) (a b c : Calls) → Add
 stops_on x xs a b c first stops =
     (x ∷ stops.0, stops.1, ap (λ (l : List OpeningCall). x ∷ l) stops.2, stops.3, adds_more a b c (x ∷ []) stops.0 first stops.4)
 
-pub last_stops : {T E : Type 0} (r : Result T E) (path : List ℕ) (n : ℕ) (a b c d e : Calls) → Adds a b (resized 0 ∷ []) → Adds b c (resized n ∷ []) →
-    Adds c d (synced ∷ []) → OnErr r (e ≡ d) → OnErr r (StopsWithin (zero_calls path n) a e)
+pub last_stops : {T E : Type 0} (r : Result T E) (path : List ℕ) (n : ℕ) (a b c d e : Calls) → Adds a b (resized 0 ∷ []) →
+    Adds b c (resized n ∷ []) → Adds c d (synced ∷ []) → OnErr r (e ≡ d) → OnErr r (StopsWithin (zero_calls path n) a e)
 last_stops (Ok x) path n a b c d e emptied extended kept same = tt
 last_stops (Err x) path n a b c d e emptied extended kept same =
     stops_on (resized 0) (resized n ∷ synced ∷ listed path ∷ []) a b e emptied
-    (stops_on (resized n) (synced ∷ listed path ∷ []) b c e extended (stops_on synced (listed path ∷ []) c d e kept (stops_at (listed path) [] d e same)))
+    (stops_on (resized n) (synced ∷ listed path ∷ []) b c e extended (stops_on synced (listed path ∷ []) c d e kept
+    (stops_at (listed path) [] d e same)))
 
-pub fails_later : (path : List ℕ) (n : ℕ) (a b c : Calls) → TakesLock Exclusive a b → StopsWithin (zero_calls path n) b c → FailsToMake path n a c
+pub fails_later : (path : List ℕ) (n : ℕ) (a b c : Calls) → TakesLock Exclusive a b → StopsWithin (zero_calls path n) b c →
+    FailsToMake path n a c
 fails_later path n a b c took stops = (took.0, took.1, stops_on (locked Exclusive took.0) (zero_calls path n) a b c took.2 stops)
 
 -- a fault that is passed on

@@ -15,7 +15,8 @@ module _ (sectors : ℕ) (first : Image) where
   state_at past k = replay (at_first first) (take k past)
 
   -- where nothing happens
-  pub elapses_still : (past : List Event) (failures risen : ℕ) → Elapses (disk_of sectors first past failures) (disk_of sectors first past risen)
+  pub elapses_still : (past : List Event) (failures risen : ℕ) → Elapses (disk_of sectors first past failures)
+      (disk_of sectors first past risen)
   elapses_still past failures risen = record { later = omega arith; nothing_else = λ t c le left. inl left; keeps = λ t c le left. left }
 
   -- one event more
@@ -33,21 +34,26 @@ written-durable s at zero bytes = refl
 written-durable s at (suc n) bytes =
     ap (λ (t : State). t.durable) (replay-one s (writes_of at n bytes) (wrote (at + n) (image_of bytes n))) ∙ written-durable s at n bytes
 
-pub written-present_before : (s : State) (at n : ℕ) (bytes : List ℕ) (i : ℕ) → i < at → (replay s (writes_of at n bytes)).present i ≡ s.present i
+pub written-present_before : (s : State) (at n : ℕ) (bytes : List ℕ) (i : ℕ) → i < at →
+    (replay s (writes_of at n bytes)).present i ≡ s.present i
 written-present_before s at zero bytes i lt = refl
 written-present_before s at (suc n) bytes i lt =
     ap (λ (t : State). t.present i) (replay-one s (writes_of at n bytes) (wrote (at + n) (image_of bytes n)))
-    ∙ ap (λ (b : Bool). if b then image_of bytes n else (replay s (writes_of at n bytes)).present i) (ne_eqb i (at + n) (λ e. omega (arith, e, lt)))
+    ∙ ap (λ (b : Bool). if b then image_of bytes n else (replay s (writes_of at n bytes)).present i)
+    (ne_eqb i (at + n) (λ e. omega (arith, e, lt)))
     ∙ written-present_before s at n bytes i lt
 
-pub written-present_after : (s : State) (at n : ℕ) (bytes : List ℕ) (i : ℕ) → at + n ≤ i → (replay s (writes_of at n bytes)).present i ≡ s.present i
+pub written-present_after : (s : State) (at n : ℕ) (bytes : List ℕ) (i : ℕ) → at + n ≤ i →
+    (replay s (writes_of at n bytes)).present i ≡ s.present i
 written-present_after s at zero bytes i le = refl
 written-present_after s at (suc n) bytes i le =
     ap (λ (t : State). t.present i) (replay-one s (writes_of at n bytes) (wrote (at + n) (image_of bytes n)))
-    ∙ ap (λ (b : Bool). if b then image_of bytes n else (replay s (writes_of at n bytes)).present i) (ne_eqb i (at + n) (λ e. omega (arith, e, le)))
+    ∙ ap (λ (b : Bool). if b then image_of bytes n else (replay s (writes_of at n bytes)).present i)
+    (ne_eqb i (at + n) (λ e. omega (arith, e, le)))
     ∙ written-present_after s at n bytes i (omega (arith, le))
 
-pub written-present_inside : (s : State) (at n : ℕ) (bytes : List ℕ) (j : ℕ) → j < n → (replay s (writes_of at n bytes)).present (at + j) ≡ image_of bytes j
+pub written-present_inside : (s : State) (at n : ℕ) (bytes : List ℕ) (j : ℕ) → j < n →
+    (replay s (writes_of at n bytes)).present (at + j) ≡ image_of bytes j
 written-present_inside s at zero bytes j lt = absurd (omega arith)
 written-present_inside s at (suc n) bytes j lt =
     ap (λ (t : State). t.present (at + j)) (replay-one s (writes_of at n bytes) (wrote (at + n) (image_of bytes n)))
@@ -58,7 +64,8 @@ written-present_inside s at (suc n) bytes j lt =
     ∙ written-present_inside s at n bytes j below)
     (λ last.
     let here : j ≡ n = omega arith in
-    ap (λ (b : Bool). if b then image_of bytes n else (replay s (writes_of at n bytes)).present (at + j)) (eq-eqb (at + j) (at + n) (omega (arith, here)))
+    ap (λ (b : Bool). if b then image_of bytes n else (replay s (writes_of at n bytes)).present (at + j))
+    (eq-eqb (at + j) (at + n) (omega (arith, here)))
     ∙ ap (λ (k : ℕ). image_of bytes k) (sym here))
     (cases_lt j n)
 

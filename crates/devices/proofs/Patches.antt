@@ -8,8 +8,8 @@ use Rattle.devices.specs.Record.{writes}
 use Rattle.std.proofs.Common.{◌≡◌, ◌<◌, ◌≤◌, ◌+◌, ◌*◌, ◌||◌, ◌==◌, ◌∷◌, ◌++◌, ◌∙◌}
 
 -- some sectors and then others
-pub patches_on : (p q r : ℕ → Bool) (from old mid new : Image) → Patches p from old mid → Patches q from mid new → ((i : ℕ) → r i ≡ (p i || q i)) →
-    Patches r from old new
+pub patches_on : (p q r : ℕ → Bool) (from old mid new : Image) → Patches p from old mid → Patches q from mid new →
+    ((i : ℕ) → r i ≡ (p i || q i)) → Patches r from old new
 patches_on p q r from old mid new first second either = record {
   named = grind (arith, nat_tests);
   others = λ i no. let none = or_parts (p i) (q i) (sym (either i) ∙ no) in second.others i none.1 ∙ first.others i none.0;
@@ -17,7 +17,8 @@ patches_on p q r from old mid new first second either = record {
 
 pub names-append : (xs ys : List RecordEntry) (i : ℕ) → names (xs ++ ys) i ≡ (names xs i || names ys i)
 names-append [] ys i = refl
-names-append (x ∷ xs) ys i = ap (λ (b : Bool). writes x.action i || b) (names-append xs ys i) ∙ sym (or_assoc (writes x.action i) (names xs i) (names ys i))
+names-append (x ∷ xs) ys i = ap (λ (b : Bool). writes x.action i || b) (names-append xs ys i)
+    ∙ sym (or_assoc (writes x.action i) (names xs i) (names ys i))
 
 -- the sectors of one entry more
 pub names_more : (es : List RecordEntry) (j : ℕ) (d : RecordEntry) → j < length es → (i : ℕ) →
@@ -28,7 +29,8 @@ names_more es j d lt i =
     ∙ ap (λ (b : Bool). names (take j es) i || b) (or-false (writes (get_or es j d).action i))
 
 -- the sector of an entry is one of those of all
-pub names_at : (es : List RecordEntry) (j : ℕ) (d : RecordEntry) → j < length es → (i : ℕ) → writes (get_or es j d).action i ≡ true → names es i ≡ true
+pub names_at : (es : List RecordEntry) (j : ℕ) (d : RecordEntry) → j < length es → (i : ℕ) → writes (get_or es j d).action i ≡ true →
+    names es i ≡ true
 names_at [] j d lt i hit = absurd (omega arith)
 names_at (e ∷ es) zero d lt i hit = ap (λ (b : Bool). b || names es i) hit
 names_at (e ∷ es) (suc j) d lt i hit =
@@ -40,8 +42,8 @@ pub wrote_here : (action : Action) (sector : ℕ) (bytes : List ℕ) → action 
 wrote_here action sector bytes is = ap (λ (a : Action). writes a sector) is ∙ eq-eqb sector sector refl
 
 -- one sector alone
-pub patches_one : (action : Action) (sector : ℕ) (bytes part : List ℕ) (from old new : Image) → action ≡ Wrote sector bytes → length part ≡ 512 →
-    image_of part 0 ≡ from sector
+pub patches_one : (action : Action) (sector : ℕ) (bytes part : List ℕ) (from old new : Image) → action ≡ Wrote sector bytes →
+    length part ≡ 512 → image_of part 0 ≡ from sector
     → AreSectors new sector part → Elsewhere sector (sectors_of part) old new → Patches (writes action) from old new
 patches_one action sector bytes part from old new is size same put elsewhere =
     let test : (i : ℕ) → writes action i ≡ (i == sector) = λ i. ap (λ (a : Action). writes a i) is in
@@ -64,7 +66,8 @@ pub part_is : (bytes : List ℕ) (sector a k : ℕ) → a ≡ 512 * sector → k
 part_is bytes sector a k a_is k_is =
     rw (a_is, k_is, take-take 512 512 (drop (512 * sector) bytes) (omega arith)) refl
 
-pub part_size : (bytes : List ℕ) (sector a k : ℕ) → a ≡ 512 * sector → k ≡ 512 → 512 * (sector + 1) ≤ length bytes → length (take k (drop a bytes)) ≡ 512
+pub part_size : (bytes : List ℕ) (sector a k : ℕ) → a ≡ 512 * sector → k ≡ 512 → 512 * (sector + 1) ≤ length bytes →
+    length (take k (drop a bytes)) ≡ 512
 part_size bytes sector a k a_is k_is inside = grind (arith, nat_tests, length-take-le, length-drop)
 
 -- a sector of one byte
@@ -77,6 +80,7 @@ pub patches_both : (test : ℕ → Bool) (from first second new other : Image) �
 patches_both test from first second new other patched also same i = grind (arith, nat_tests)
 
 -- after the unsynced sectors are filled
-pub filled_left : (byte : ℕ) (outcome : Outcome) (s : State) (new : Image) → outcome ≡ Fill byte → Patches s.unsynced (λ _. replicate 512 byte) s.present new
-    → ((i : ℕ) → s.unsynced i ≡ false → s.present i ≡ s.durable i) → Agrees new (left_by outcome s)
+pub filled_left : (byte : ℕ) (outcome : Outcome) (s : State) (new : Image) → outcome ≡ Fill byte →
+    Patches s.unsynced (λ _. replicate 512 byte) s.present new → ((i : ℕ) → s.unsynced i ≡ false → s.present i ≡ s.durable i) →
+    Agrees new (left_by outcome s)
 filled_left byte outcome s new is patched same i = grind (arith, nat_tests)

@@ -29,7 +29,8 @@ pub image_is : (xs : Stored) → AreWhole xs → (i : ℕ) → i < length xs →
 unfolding bytes_in
 image_is [] whole i within = absurd (omega (arith, within))
 image_is (x ∷ xs) whole zero within =
-    take-append-le 512 (bytes_of x) (bytes_in xs) (omega (arith, (whole 0).size)) ∙ take_all 512 (bytes_of x) (omega (arith, (whole 0).size))
+    take-append-le 512 (bytes_of x) (bytes_in xs) (omega (arith, (whole 0).size))
+    ∙ take_all 512 (bytes_of x) (omega (arith, (whole 0).size))
 image_is (x ∷ xs) whole (suc i) within =
     let place : 512 * suc i ≡ length (bytes_of x) + 512 * i = omega (arith, (whole 0).size) in
     ap (λ (n : ℕ). take 512 (drop n (bytes_of x ++ bytes_in xs))) place
@@ -120,14 +121,15 @@ same_front xs ys (suc n) same =
     ∙ ap (λ (l : List ℕ). take (512 * n) xs ++ l) (same n (omega arith))
     ∙ sym (take-add (512 * n) 512 xs) ∙ ap (λ (m : ℕ). take m xs) (sym more)
 
-pub same_sectors : (xs ys : List ℕ) → length ys ≡ length xs → length xs % 512 ≡ 0 → ((i : ℕ) → i < sectors_of xs → image_of ys i ≡ image_of xs i) → ys ≡ xs
+pub same_sectors : (xs ys : List ℕ) → length ys ≡ length xs → length xs % 512 ≡ 0 →
+    ((i : ℕ) → i < sectors_of xs → image_of ys i ≡ image_of xs i) → ys ≡ xs
 same_sectors xs ys size whole same =
     let n = sectors_of xs in
     sym (take_all (512 * n) ys (omega (arith, size, whole))) ∙ same_front xs ys n same ∙ take_all (512 * n) xs (omega (arith, whole))
 
 -- all sectors were put over zeros
-pub all_put : (bytes zeros new : List ℕ) → length bytes % 512 ≡ 0 → zeros ≡ replicate (512 * (length bytes / 512)) 0 → length new ≡ length zeros
-    → AreSectors (image_of new) 0 bytes → new ≡ bytes
+pub all_put : (bytes zeros new : List ℕ) → length bytes % 512 ≡ 0 → zeros ≡ replicate (512 * (length bytes / 512)) 0 →
+    length new ≡ length zeros → AreSectors (image_of new) 0 bytes → new ≡ bytes
 all_put bytes zeros new whole is same written = grind (arith, nat_tests, length-replicate, same_sectors)
 
 -- a part of a list of sectors is one of them
@@ -135,14 +137,15 @@ pub part_is : (bytes : List ℕ) (i a k : ℕ) → a ≡ 512 * i → k ≡ 512 �
 part_is bytes i a k a_is k_is = ap (λ (n : ℕ). take n (drop a bytes)) k_is ∙ ap (λ (n : ℕ). take 512 (drop n bytes)) a_is
 
 -- one sector more was put
-pub put_more : (mid new from part : List ℕ) (at i : ℕ) → ((j : ℕ) → j < i → image_of from j ≡ image_of mid (at + j)) → part ≡ image_of from i
-    → image_of new (at + i) ≡ part → Elsewhere (at + i) 1 (image_of mid) (image_of new)
+pub put_more : (mid new from part : List ℕ) (at i : ℕ) → ((j : ℕ) → j < i → image_of from j ≡ image_of mid (at + j)) →
+    part ≡ image_of from i → image_of new (at + i) ≡ part → Elsewhere (at + i) 1 (image_of mid) (image_of new)
     → (j : ℕ) → j < i + 1 → image_of from j ≡ image_of new (at + j)
 put_more mid new from part at i was part_is here others j below = grind (arith, nat_tests)
 
 -- one sector more was got
-pub got_more : (v mid new sector : List ℕ) (at i : ℕ) → ((j : ℕ) → j < i → image_of mid j ≡ image_of v (at + j)) → sector ≡ image_of v (at + i)
-    → length sector ≡ 512 → AreSectors (image_of new) i sector → Elsewhere i (sectors_of sector) (image_of mid) (image_of new)
+pub got_more : (v mid new sector : List ℕ) (at i : ℕ) → ((j : ℕ) → j < i → image_of mid j ≡ image_of v (at + j)) →
+    sector ≡ image_of v (at + i) → length sector ≡ 512 → AreSectors (image_of new) i sector →
+    Elsewhere i (sectors_of sector) (image_of mid) (image_of new)
     → (j : ℕ) → j < i + 1 → image_of new j ≡ image_of v (at + j)
 got_more v mid new sector at i was is size written others j below = elim (cases_lt j i) [
   | inl before ↦ others.before j before ∙ was j before
@@ -158,6 +161,7 @@ pub front_part : (old new part : List ℕ) (at : ℕ) → length part % 512 ≡ 
 front_part old new part at whole written others =
     let n = sectors_of part in
     let behind : take (512 * n) (drop (512 * at) new) ≡ take (512 * n) part = grind (arith, nat_tests, same_front, drop-drop) in
-    take-add (512 * at) (length part) new ∙ ap (λ (l : List ℕ). l ++ take (length part) (drop (512 * at) new)) (same_front old new at others.before)
+    take-add (512 * at) (length part) new ∙ ap (λ (l : List ℕ). l ++ take (length part) (drop (512 * at) new))
+    (same_front old new at others.before)
     ∙ ap (λ (l : List ℕ). take (512 * at) old ++ l)
     (ap (λ (m : ℕ). take m (drop (512 * at) new)) (omega (arith, whole)) ∙ behind ∙ take_all (512 * n) part (omega (arith, whole)))

@@ -20,5 +20,6 @@ sum_zeros bytes any s e =
 zeros_sum : (bytes : List ℕ) (any : ℕ) → IsSum bytes (length bytes) any → bytes ≡ replicate (length bytes) 0 → any ≡ 0
 zeros_sum bytes any s e = grind (arith, nat_tests, get_or-replicate)
 
-pub are_zeros : (bytes : List ℕ) (i any : ℕ) → i ≡ length bytes → IsSum bytes i any → IsTrue (nat_eq any 0) ↔ (bytes ≡ replicate (length bytes) 0)
+pub are_zeros : (bytes : List ℕ) (i any : ℕ) → i ≡ length bytes → IsSum bytes i any →
+    IsTrue (nat_eq any 0) ↔ (bytes ≡ replicate (length bytes) 0)
 are_zeros bytes i any e s = grind (arith, nat_tests, sum_zeros, zeros_sum)

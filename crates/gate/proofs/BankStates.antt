@@ -19,16 +19,20 @@ process_runs : (os : List Object) (p : ℕ) → IsTrue (is_running_process os p)
 process_runs os p runs = grind (arith, nat_tests)
 
 -- what holds of sound frames holds as the order finds them
-module _ (old mid : Parts) (s : BanksState) (sound : AreSound old) (counted : AreCounted old.geometry (objects_in old) s) (op : Operation) (p : ℕ)
-    (runs : IsTrue (is_running_process (objects_in old) p)) (is : objects_in mid ≡ state_before op (objects_in old) p) (geometry : mid.geometry ≡ old.geometry)
+module _ (old mid : Parts) (s : BanksState) (sound : AreSound old) (counted : AreCounted old.geometry (objects_in old) s) (op : Operation)
+    (p : ℕ)
+    (runs : IsTrue (is_running_process (objects_in old) p)) (is : objects_in mid ≡ state_before op (objects_in old) p)
+    (geometry : mid.geometry ≡ old.geometry)
   where
     pub before_frame : SameFrame (objects_in old) (objects_in mid)
-    before_frame = subst (SameFrame (objects_in old)) (sym is) (frame_before op (objects_in old) p (running_process (objects_in old) p runs))
+    before_frame = subst (SameFrame (objects_in old)) (sym is) (frame_before op (objects_in old) p
+        (running_process (objects_in old) p runs))
 
     pub before_counted : AreCounted mid.geometry (objects_in mid) s
     before_counted = subst (λ (g : Geometry). AreCounted g (objects_in mid) s) (sym geometry) (counted_on before_frame counted)
 
-    sound_before : (k : Operation) → (let w : World = record { objects = state_before k (objects_in old) p; age = sound.0 } in IsSound old.geometry w)
+    sound_before : (k : Operation) → (let w : World = record { objects = state_before k (objects_in old) p; age = sound.0 } in
+        IsSound old.geometry w)
     sound_before Return = search (arith, nat_tests, state_sound, running_process, process_runs)
     sound_before c = sound.1.sound
 
@@ -38,12 +42,14 @@ module _ (old mid : Parts) (s : BanksState) (sound : AreSound old) (counted : Ar
       subst (λ (g : Geometry). IsSoundFrames g sound.0 (frames_of mid)) (sym geometry) (record {
         keepable = keepable;
         current = current;
-        sound = subst (λ (us : List Object). let w : World = record { objects = us; age = sound.0 } in IsSound old.geometry w) (sym is) (sound_before op);
+        sound = subst (λ (us : List Object). let w : World = record { objects = us; age = sound.0 } in IsSound old.geometry w) (sym is)
+            (sound_before op);
       }),
     )
 
-    pub before_may : (i : Invocation) (caller : Caller) (plan : OrderPlan) (list : List ℕ) → IsPlanned old.geometry (objects_in old) i caller plan list →
-        AreSound mid → MayChange mid.geometry (objects_in mid) (drop (writer_count caller.operation) list) plan.change
+    pub before_may : (i : Invocation) (caller : Caller) (plan : OrderPlan) (list : List ℕ) →
+        IsPlanned old.geometry (objects_in old) i caller plan list → AreSound mid →
+        MayChange mid.geometry (objects_in mid) (drop (writer_count caller.operation) list) plan.change
     before_may i caller plan list planned there = search (arith, nat_tests, before_frame, now_sound)
 
 -- a reply changes no frame
@@ -57,10 +63,12 @@ answered_frame Return us p replying = frame_refl us
 answered_frame Send us p replying = frame_refl us
 
 -- the numbers that an invocation writes itself come first
-pub process_listed : (P : ℕ → Type 0) (op : Operation) (p a : ℕ) (rest list : List ℕ) → list ≡ writers op p a ++ rest → (op ≡ Send → ⊥) → All P list → P p
+pub process_listed : (P : ℕ → Type 0) (op : Operation) (p a : ℕ) (rest list : List ℕ) → list ≡ writers op p a ++ rest → (op ≡ Send → ⊥) →
+    All P list → P p
 process_listed P op p a rest list is other all = grind (arith, nat_tests)
 
-pub annex_listed : (P : ℕ → Type 0) (op : Operation) (p a : ℕ) (rest list : List ℕ) → list ≡ writers op p a ++ rest → op ≡ Call → All P list → P a
+pub annex_listed : (P : ℕ → Type 0) (op : Operation) (p a : ℕ) (rest list : List ℕ) → list ≡ writers op p a ++ rest → op ≡ Call →
+    All P list → P a
 annex_listed P Call p a rest list is call all = (subst (All P) is all) 1 0 (omega arith)
 annex_listed P Return p a rest list is call all = cc
 annex_listed P Send p a rest list is call all = cc
@@ -79,28 +87,32 @@ module _ (old mid new : Parts) (i : Invocation) (s : BanksState) (sound : AreSou
   counted_mid : AreCounted mid.geometry (objects_in mid) s
   counted_mid = subst (λ (p : Parts). AreCounted p.geometry (objects_in p) s) (sym same) counted
 
-  pub counted_after : {T E : Type 0} (r : Result T E) → OnOk r (Invokes mid.geometry i (objects_in mid) mid.touched (objects_in new) new.touched) →
-      OnOk r (new.geometry ≡ mid.geometry) → OnErr r (AreSameUnlessFailed mid new) → new.failures ≡ old.failures →
+  pub counted_after : {T E : Type 0} (r : Result T E) → OnOk r (Invokes mid.geometry i (objects_in mid) mid.touched (objects_in new)
+      new.touched) → OnOk r (new.geometry ≡ mid.geometry) → OnErr r (AreSameUnlessFailed mid new) → new.failures ≡ old.failures →
       AreCounted new.geometry (objects_in new) s
   counted_after (Ok x) invokes geometry unchanged stayed =
       let frame = invocation_frame mid.geometry (objects_in mid) i invokes.0 (now_sound mid (subst AreSound (sym same) sound)) fits
       (subst (λ (p : Parts). IsTrue (is_running_process (objects_in p) i.process)) (sym same) runs)
-      (subst (λ (p : Parts). IsNoBankOrder (register_at (objects_in p) i.process i.register) (slice_index i.words 0)) (sym same) other) invokes.1 in
+      (subst (λ (p : Parts). IsNoBankOrder (register_at (objects_in p) i.process i.register) (slice_index i.words 0)) (sym same) other)
+      invokes.1 in
       subst (λ (X : Type 0). X) (λ k. AreCounted (sym geometry k) (sym invokes.2 k) s) (counted_on frame counted_mid)
   counted_after (Err e) done geometry unchanged stayed =
-      subst (λ (p : Parts). AreCounted p.geometry (objects_in p) s) (sym (unchanged (stayed ∙ sym (ap (λ (p : Parts). p.failures) same)))) counted_mid
+      subst (λ (p : Parts). AreCounted p.geometry (objects_in p) s) (sym (unchanged (stayed ∙ sym (ap (λ (p : Parts). p.failures) same))))
+      counted_mid
 
 -- an invoked bank may plan its order
 pub bank_may_ask : (p : Parts) (s : BanksState) (i : Invocation) (caller : Caller) (b : ℕ) (args : Arguments) → AreSound p →
     AreCounted p.geometry (objects_in p) s →
-    Fits (command.Invoke i) → IsRequested (objects_in p) i caller → AreEnough (objects_in p) i caller.invoked args → caller.invoked ≡ Bank b → MayAsk p s b args
+    Fits (command.Invoke i) → IsRequested (objects_in p) i caller → AreEnough (objects_in p) i caller.invoked args →
+    caller.invoked ≡ Bank b → MayAsk p s b args
 bank_may_ask p s i caller b args sound counted fits is enough invoked =
     let os = objects_in p in
     record {
       serves = record {
         sound = sound;
         counted = counted;
-        bank = subst (NamesItsKind os) invoked (held_to os caller.invoked (invoked_held p.geometry os i (now_sound p sound) caller.invoked is.invoked)).1;
+        bank = subst (NamesItsKind os) invoked (held_to os caller.invoked (invoked_held p.geometry os i (now_sound p sound) caller.invoked
+            is.invoked)).1;
       };
       sent = held_to os args.capability
           (enough_held p.geometry os i (now_sound p sound) caller.invoked args fits enough).held;

@@ -27,18 +27,20 @@ pub invoke_is : (g : Geometry) (os : List Object) (i : Invocation) → invoke g 
 unfolding invoke
 invoke_is g os i = refl
 
-object_by : (g : Geometry) (os : List Object) (i : Invocation) (c : Capability) → IsKernelObject c → invoked_by g os i c ≡ Some (on_kernel_object g os i)
+object_by : (g : Geometry) (os : List Object) (i : Invocation) (c : Capability) → IsKernelObject c →
+    invoked_by g os i c ≡ Some (on_kernel_object g os i)
 object_by g os i c object = grind (arith, nat_tests)
 
 -- the result code of an invocation by the capability that is invoked
 abbrev pub code_by : Geometry → List Object → Invocation → Capability → Option ResultCode
 code_by g os i c = elim c [ Start q key ↦ None | Resume q ↦ None | _ ↦ Some (ordered g os i).code ]
 
-object_code : (g : Geometry) (os : List Object) (i : Invocation) (c : Capability) → IsKernelObject c → code_by g os i c ≡ Some (ordered g os i).code
+object_code : (g : Geometry) (os : List Object) (i : Invocation) (c : Capability) → IsKernelObject c →
+    code_by g os i c ≡ Some (ordered g os i).code
 object_code g os i c object = grind (arith, nat_tests)
 
-pub object_invoked : (g : Geometry) (os : List Object) (i : Invocation) (caller : Caller) → IsRequested os i caller → IsKernelObject caller.invoked →
-    invoke g os i ≡ Some (on_kernel_object g os i)
+pub object_invoked : (g : Geometry) (os : List Object) (i : Invocation) (caller : Caller) → IsRequested os i caller →
+    IsKernelObject caller.invoked → invoke g os i ≡ Some (on_kernel_object g os i)
 object_invoked g os i caller is object = invoke_is g os i ∙ ap (invoked_by g os i) (sym is.invoked) ∙ object_by g os i caller.invoked object
 
 -- sound frames after an invocation whose objects are those of its effect
@@ -58,14 +60,18 @@ abbrev reply_in : OrderOutcome → Reply
 reply_in o = record { code = o.code; words = o.words; capability = o.capability }
 
 abbrev effect_by : Operation → ℕ → ℕ → OrderOutcome → Effect
-effect_by operation p annex o = record { objects = answered operation p o.objects (reply_in o); written = writers operation p annex ++ o.written }
+effect_by operation p annex o = record {
+  objects = answered operation p o.objects (reply_in o);
+  written = writers operation p annex ++ o.written;
+}
 
 -- a process that returns leaves the frame
 pub frame_before : (op : Operation) (os : List Object) (p : ℕ) → IsTrue (is_process os p) → SameFrame os (state_before op os p)
 frame_before Return os p is = state_frame os p Available is
 frame_before c os p is = frame_refl os
 
-module _ {g : Geometry} {os : List Object} {i : Invocation} {caller : Caller} {plan : OrderPlan} {list : List ℕ} (is : IsRequested os i caller)
+module _ {g : Geometry} {os : List Object} {i : Invocation} {caller : Caller} {plan : OrderPlan} {list : List ℕ}
+    (is : IsRequested os i caller)
     (planned : IsPlanned g os i caller plan list) (process : IsTrue (is_process os caller.process)) where
   abbrev word : ℕ
   word = slice_index i.words 0
@@ -82,8 +88,8 @@ module _ {g : Geometry} {os : List Object} {i : Invocation} {caller : Caller} {p
   unfolding on_kernel_object
   effect_requested = grind (arith, nat_tests)
 
-  effect_planned : (op : Operation) → effect_by op caller.process caller.annex (order g (state_before op os caller.process) caller.invoked word args)
-      ≡ record {
+  effect_planned : (op : Operation) → effect_by op caller.process caller.annex
+      (order g (state_before op os caller.process) caller.invoked word args) ≡ record {
         objects = answered op caller.process (changed (state_before op os caller.process) rest plan.change) plan.reply;
         written = writers op caller.process caller.annex ++ rest;
       }
@@ -101,7 +107,8 @@ module _ {g : Geometry} {os : List Object} {i : Invocation} {caller : Caller} {p
 
   pub fetched_known : (P : ℕ → Type 0) → IsNow g os → ((n : ℕ) → n < length os → P n) → All P (fetched_of plan.change)
   fetched_known P now known =
-      change_fetched g os rest P plan.change (planned.plans.may os (frame_refl os) now) (λ k d inside. known _ (planned.plans.known k d inside))
+      change_fetched g os rest P plan.change (planned.plans.may os (frame_refl os) now)
+      (λ k d inside. known _ (planned.plans.known k d inside))
 
   -- the objects after the order are sound, and what it gives fits
   module _ (now : IsNow g os) (fits : Fits (command.Invoke i)) (runs : IsTrue (is_running_process os i.process)) where
@@ -110,14 +117,17 @@ module _ {g : Geometry} {os : List Object} {i : Invocation} {caller : Caller} {p
 
     pub order_after : IsNow g (ordered_by os caller rest plan)
     order_after =
-        subst (IsNow g) (ap (λ (o : OrderOutcome). o.objects) ordered_requested ∙ planned.plans.objects (state_before caller.operation os caller.process)
+        subst (IsNow g) (ap (λ (o : OrderOutcome). o.objects) ordered_requested
+        ∙ planned.plans.objects (state_before caller.operation os caller.process)
         (frame_before caller.operation os caller.process process)) (ordered_keeps g os i now fits runs).now
 
     pub order_fits : object_count g < 2 ^ 64 → FitsCap g plan.reply.capability
     order_fits few =
-        let outcome = order_keeps g os caller.invoked word args now (invoked_held g os i now caller.invoked is.invoked) (arguments_held g os i now fits) in
+        let outcome = order_keeps g os caller.invoked word args now (invoked_held g os i now caller.invoked is.invoked)
+        (arguments_held g os i now fits) in
         subst (FitsCap g) (ap (λ (o : OrderOutcome). o.capability) planned.plans.here)
-        (held_fits g (order g os caller.invoked word args).objects outcome.now.frame.kinds few (order g os caller.invoked word args).capability
+        (held_fits g (order g os caller.invoked word args).objects outcome.now.frame.kinds few
+        (order g os caller.invoked word args).capability
         (held_to (order g os caller.invoked word args).objects (order g os caller.invoked word args).capability outcome.held))
 
     -- the code of the plan is the order's
@@ -134,15 +144,16 @@ effect_through os i gate = record {
 abbrev made : ℕ → ℕ → Bool → Gate
 made q key b = record { process = q; key = key; is_resume = b }
 
-gate_by : (g : Geometry) (os : List Object) (i : Invocation) (q key : ℕ) (b : Bool) → (b ≡ true → key ≡ 0) → (b || can_start os i q) ≡ true →
-    invoked_by g os i (gate_capability (made q key b)) ≡ Some (effect_through os i (made q key b))
+gate_by : (g : Geometry) (os : List Object) (i : Invocation) (q key : ℕ) (b : Bool) → (b ≡ true → key ≡ 0) →
+    (b || can_start os i q) ≡ true → invoked_by g os i (gate_capability (made q key b)) ≡ Some (effect_through os i (made q key b))
 unfolding through_gate
 gate_by g os i q key b zeroth can = grind (arith, nat_tests)
 
 -- it is carried out where the gate can be entered
 pub gate_invoked : (g : Geometry) (os : List Object) (i : Invocation) (caller : Caller) (gate : Gate) → IsRequested os i caller →
     caller.invoked ≡ gate_capability gate →
-    (gate.is_resume ≡ true → gate.key ≡ 0) → (gate.is_resume || can_start os i gate.process) ≡ true → invoke g os i ≡ Some (effect_through os i gate)
+    (gate.is_resume ≡ true → gate.key ≡ 0) → (gate.is_resume || can_start os i gate.process) ≡ true →
+    invoke g os i ≡ Some (effect_through os i gate)
 gate_invoked g os i caller gate is same zeroth can = grind (arith, nat_tests, invoke_is, gate_by)
 
 -- and else stalls
@@ -199,8 +210,9 @@ contained (y ∷ ys) (suc i) x inside is =
 asking_in : (operation : Operation) (p q a : ℕ) → (operation ≡ Send → ⊥) → Contains (written_through operation p q a) p
 asking_in operation p q a other = grind (arith, nat_tests)
 
-pub announced_through : (Announced : ℕ → Type 0) (operation : Operation) (p q a : ℕ) → ((n : ℕ) → Contains (written_through operation p q a) n → Announced n)
-    → Announced q × Announced a × ((operation ≡ Send → ⊥) → Announced p)
+pub announced_through : (Announced : ℕ → Type 0) (operation : Operation) (p q a : ℕ) →
+    ((n : ℕ) → Contains (written_through operation p q a) n → Announced n) →
+    Announced q × Announced a × ((operation ≡ Send → ⊥) → Announced p)
 announced_through Announced operation p q a replying = grind (arith, nat_tests, asking_in)
 
 pub all_through : (P : ℕ → Type 0) (operation : Operation) (p q a : ℕ) → P p → P q → P a → All P (written_through operation p q a)
@@ -262,51 +274,57 @@ module _ {S : Type 0} {parts : S → Parts} {Continues : S → S → Type 0} (i 
     }
 
     -- an invocation that is known, and the numbers that it writes
-    module _ (ns : List ℕ) (e : Effect) (invoked : invoke (parts s).geometry (objects_in (parts s)) i ≡ Some e) (written : ns ≡ e.written) where
-      -- numbers that couldn't be announced
-      pub unannounced : {U : Type 0} (f : Refusal) → Prepares {T = U} parts Continues t u ns (Err f) → Invoked parts Continues s u i (Err f)
-      unannounced {U} f replying = grind (arith, nat_tests, of_gate, of_process, same)
+    module _ (ns : List ℕ) (e : Effect) (invoked : invoke (parts s).geometry (objects_in (parts s)) i ≡ Some e) (written : ns ≡ e.written)
+      where
+        -- numbers that couldn't be announced
+        pub unannounced : {U : Type 0} (f : Refusal) → Prepares {T = U} parts Continues t u ns (Err f) →
+            Invoked parts Continues s u i (Err f)
+        unannounced {U} f replying = grind (arith, nat_tests, of_gate, of_process, same)
 
-      -- and numbers that were, and then written
-      module _ {U : Type 0} (m : S) (y : U) (replying : Prepares {T = U} parts Continues t m ns (Ok y)) (failures : (parts u).failures ≡ (parts m).failures)
-        where
-          there : parts m ≡ touched_too ns (parts s)
-          there = announced_same only_reads replying
+        -- and numbers that were, and then written
+        module _ {U : Type 0} (m : S) (y : U) (replying : Prepares {T = U} parts Continues t m ns (Ok y))
+            (failures : (parts u).failures ≡ (parts m).failures)
+          where
+            there : parts m ≡ touched_too ns (parts s)
+            there = announced_same only_reads replying
 
-          all_still : (parts u).failures ≡ (parts s).failures
-          all_still = failures ∙ ap (λ (p : Parts). p.failures) there
+            all_still : (parts u).failures ≡ (parts s).failures
+            all_still = failures ∙ ap (λ (p : Parts). p.failures) there
 
-          pub carried_out : (parts u).touched ≡ (parts m).touched → (parts u).geometry ≡ (parts m).geometry → Continues m u → objects_in (parts u) ≡ e.objects
-              → Fits (command.Invoke i) → IsTrue (is_running_process (objects_in (parts s)) i.process) → AreCurrent (frames_of (parts u))
-              → ((age : ℕ) → age + 1 < 2 ^ 64 → AreKeepable (parts m).geometry age (frames_of (parts m)) →
-              AreKeepable (parts m).geometry (age + 1) (frames_of (parts u)))
-              → Renews (parts s) (parts u) → (code : Option ResultCode) → code ≡ result_code (parts s).geometry (objects_in (parts s)) i
-              → Invoked parts Continues s u i (Ok code)
-          carried_out touched geometry continues objects fits running current keepable renews code is = record {
-            done = (
-              e,
-              invoked,
-              objects,
-              now_touched ∙ ap (touching (parts s).touched) written,
-              subst (λ (ts : List Bool). touched_count ts ≤ (parts s).geometry.log) (sym now_touched)
-                  (subst (λ (p : Parts). touched_count (touching p.touched ns) ≤ p.geometry.log) same replying.within),
-            );
-            code = is;
-            refusals = tt;
-            runs = λ is. cc;
-            stalled = λ is. cc;
-            full = λ is. cc;
-            sound = λ age young sound. sound_after (parts s).geometry age (frames_of (parts s)) (frames_of (parts u)) i e young fits running invoked objects
-                sound (in_geometry (ap (λ (p : Parts). p.geometry) (sym there)) (keepable age (omega (arith, young))
-                (subst (λ (p : Parts). AreKeepable p.geometry age (frames_of p)) (sym there) sound.keepable)))
-                current;
-            renews = renews;
-            geometry = geometry ∙ ap (λ (p : Parts). p.geometry) there;
-            same = tt;
-            cause = (λ is. cc, λ rose. absurd (omega (arith, rose, all_still)));
-            later = omega (arith, all_still);
-            continues = twice s t u only_reads.snapshots.continues (twice t m u replying.continues continues);
-          }
-            where
-              now_touched : (parts u).touched ≡ touching (parts s).touched ns
-              now_touched = touched ∙ ap (λ (p : Parts). p.touched) there
+            pub carried_out : (parts u).touched ≡ (parts m).touched → (parts u).geometry ≡ (parts m).geometry → Continues m u →
+                objects_in (parts u) ≡ e.objects → Fits (command.Invoke i) → IsTrue (is_running_process (objects_in (parts s)) i.process) →
+                AreCurrent (frames_of (parts u))
+                → ((age : ℕ) → age + 1 < 2 ^ 64 → AreKeepable (parts m).geometry age (frames_of (parts m)) →
+                AreKeepable (parts m).geometry (age + 1) (frames_of (parts u)))
+                → Renews (parts s) (parts u) → (code : Option ResultCode) → code ≡ result_code (parts s).geometry (objects_in (parts s)) i
+                → Invoked parts Continues s u i (Ok code)
+            carried_out touched geometry continues objects fits running current keepable renews code is = record {
+              done = (
+                e,
+                invoked,
+                objects,
+                now_touched ∙ ap (touching (parts s).touched) written,
+                subst (λ (ts : List Bool). touched_count ts ≤ (parts s).geometry.log) (sym now_touched)
+                    (subst (λ (p : Parts). touched_count (touching p.touched ns) ≤ p.geometry.log) same replying.within),
+              );
+              code = is;
+              refusals = tt;
+              runs = λ is. cc;
+              stalled = λ is. cc;
+              full = λ is. cc;
+              sound = λ age young sound. sound_after (parts s).geometry age (frames_of (parts s)) (frames_of (parts u)) i e young fits
+                  running
+                  invoked objects
+                  sound (in_geometry (ap (λ (p : Parts). p.geometry) (sym there)) (keepable age (omega (arith, young))
+                  (subst (λ (p : Parts). AreKeepable p.geometry age (frames_of p)) (sym there) sound.keepable)))
+                  current;
+              renews = renews;
+              geometry = geometry ∙ ap (λ (p : Parts). p.geometry) there;
+              same = tt;
+              cause = (λ is. cc, λ rose. absurd (omega (arith, rose, all_still)));
+              later = omega (arith, all_still);
+              continues = twice s t u only_reads.snapshots.continues (twice t m u replying.continues continues);
+            }
+              where
+                now_touched : (parts u).touched ≡ touching (parts s).touched ns
+                now_touched = touched ∙ ap (λ (p : Parts). p.touched) there

@@ -1,4 +1,5 @@
--- What stays of processes while one of them changes. Orders that look only at the words of their arguments, and orders carried out as planned.
+-- What stays of processes while one of them changes. Orders that look only at the words of their arguments, and orders carried out as
+-- planned.
 use Rattle.gate.proofs.Names.{nat_tests, ℕ, List, [], refl, sym, ap, IsTrue, slice_index_or, get_or-map, map-set_same, Capability, Invocation, Operation}
 use Rattle.gate.proofs.Names.{Content, Object, State, after_gate, free, is_root, map_content, root_in, with_slot_in, with_word_in, with_root_word, with_space}
 use Rattle.gate.proofs.Names.{consume, resumes, void_where, without, annex_at, content_at, is_process, root_at, with_content, with_root, with_slot, with_state}
@@ -46,7 +47,8 @@ unfolding with_state with_root
 state_annex os p s q = field_kept annex_in os p (content.Root (record (root_at os p) { state = s })) refl q
 
 -- the process that invokes through a gate
-pub after_process : (os : List Object) (i : Invocation) → IsTrue (is_process os i.process) → (q : ℕ) → is_process (after_gate os i) q ≡ is_process os q
+pub after_process : (os : List Object) (i : Invocation) → IsTrue (is_process os i.process) → (q : ℕ) →
+    is_process (after_gate os i) q ≡ is_process os q
 after_process os i is q = grind (arith, nat_tests, state_process)
 
 pub after_annex : (os : List Object) (i : Invocation) (q : ℕ) → annex_at (after_gate os i) q ≡ annex_at os q
@@ -65,19 +67,24 @@ void_annex f c = grind (arith, nat_tests)
 consume_annex : (p : ℕ) (os : List Object) (q : ℕ) → annex_at (consume p os) q ≡ annex_at os q
 unfolding consume
 consume_annex p os q =
-    ap (λ (o : Object). annex_in o.content) (get_or-map (without (resumes p)) os q free) ∙ void_annex (void_where (resumes p)) (content_at os q)
+    ap (λ (o : Object). annex_in o.content) (get_or-map (without (resumes p)) os q free)
+    ∙ void_annex (void_where (resumes p)) (content_at os q)
 
 -- a change leaves the annex of each process
-pub changed_annex : (os : List Object) (list : List ℕ) (c : Change) → IsWithinObject c → (q : ℕ) → annex_at (changed os list c) q ≡ annex_at os q
+pub changed_annex : (os : List Object) (list : List ℕ) (c : Change) → IsWithinObject c → (q : ℕ) →
+    annex_at (changed os list c) q ≡ annex_at os q
 unfolding with_word with_slot with_root
 changed_annex os list change.Nothing within q = refl
 changed_annex os list (change.Word page index word) within q = field_kept annex_in os page _ (word_annex (content_at os page) index word) q
 changed_annex os list (change.Slot node slot held) within q = field_kept annex_in os node _ (slot_annex (content_at os node) slot held) q
-changed_annex os list (change.Register process annex slot held) within q = field_kept annex_in os annex _ (slot_annex (content_at os annex) slot held) q
+changed_annex os list (change.Register process annex slot held) within q = field_kept annex_in os annex _
+    (slot_annex (content_at os annex) slot held) q
 changed_annex os list (change.RootWord process index word) within q = field_kept annex_in os process
     (content.Root (with_root_word (root_at os process) index word)) refl q
-changed_annex os list (change.SetState process state) within q = consume_annex process (with_state os process state) q ∙ state_annex os process state q
-changed_annex os list (change.Space process held) within q = field_kept annex_in os process (content.Root (with_space (root_at os process) held)) refl q
+changed_annex os list (change.SetState process state) within q = consume_annex process (with_state os process state) q
+    ∙ state_annex os process state q
+changed_annex os list (change.Space process held) within q = field_kept annex_in os process
+    (content.Root (with_space (root_at os process) held)) refl q
 changed_annex os list (change.Bank made) within q = absurd within
 
 -- an edit that a list doesn't have is the same with another list, and leaves the frame
@@ -123,8 +130,8 @@ pub page_words : (o : ℕ) (access : Access) (w : ℕ) → ReadsOnlyWords (Page 
 unfolding order
 page_words o access w = grind (arith, nat_tests, by_words, same_found, page_found)
 
-node_found : (us : List Object) (o : ℕ) (access : Access) (a : Arguments) (sent : Capability) (requested : NodeOrder) → (requested ≡ node.Store → ⊥) →
-    on_node us o access requested a ≡ on_node us o access requested (with_sent a sent)
+node_found : (us : List Object) (o : ℕ) (access : Access) (a : Arguments) (sent : Capability) (requested : NodeOrder) →
+    (requested ≡ node.Store → ⊥) → on_node us o access requested a ≡ on_node us o access requested (with_sent a sent)
 unfolding on_node
 node_found us o access a sent requested other = grind (arith, nat_tests)
 
@@ -132,8 +139,8 @@ pub node_words : (o : ℕ) (access : Access) (w : ℕ) → (node_order w ≡ Som
 unfolding order
 node_words o access w other = grind (arith, nat_tests, by_words, same_found, node_found)
 
-bank_found : (g : Geometry) (us : List Object) (b : ℕ) (a : Arguments) (sent : Capability) (requested : BankOrder) → (requested ≡ bank.Free → ⊥) →
-    on_bank g us b requested a ≡ on_bank g us b requested (with_sent a sent)
+bank_found : (g : Geometry) (us : List Object) (b : ℕ) (a : Arguments) (sent : Capability) (requested : BankOrder) →
+    (requested ≡ bank.Free → ⊥) → on_bank g us b requested a ≡ on_bank g us b requested (with_sent a sent)
 unfolding on_bank
 bank_found g us b a sent requested other = grind (arith, nat_tests)
 
@@ -159,10 +166,11 @@ module _ (os : List Object) (c : Capability) (args : Arguments) (kind : NamesIts
   for_holds g fits small x for = grind (arith, nat_tests, node_there)
 
   -- what it writes is one of the objects
-  for_target : ((p : ℕ) → IsTrue (is_process os p) → IsTrue (is_annex (content_at os (annex_at os p)))) → (x : Change) → IsFor os c args x → (n : ℕ) →
-      target_of x ≡ Some n → n < length os
+  for_target : ((p : ℕ) → IsTrue (is_process os p) → IsTrue (is_annex (content_at os (annex_at os p)))) → (x : Change) → IsFor os c args x →
+      (n : ℕ) → target_of x ≡ Some n → n < length os
   for_target annexes change.Nothing for n is = cc
-  for_target annexes (change.Word page index word) for n is = let e : page ≡ n = cc in used_within os n (named_used os c kind n (for.1 ∙ ap Some e))
+  for_target annexes (change.Word page index word) for n is = let e : page ≡ n = cc in
+      used_within os n (named_used os c kind n (for.1 ∙ ap Some e))
   for_target annexes (change.Slot node slot held) for n is =
       let e : node ≡ n = cc in used_within os n
       (node_used (content_at os n) (subst (λ (m : ℕ). is_node (content_at os m) ≡ true) e (node_there os c kind node for.1)))
@@ -190,7 +198,12 @@ module _ (g : Geometry) (os us : List Object) (frame : SameFrame os us) where
   holds_alike x holds = grind (arith, nat_tests, tests_at)
 
   edit_alike : (list : List ℕ) (x : Change) → MayEdit g os list x → MayEdit g us list x
-  edit_alike list x may = record { within = may.within; process = process_alike x may.process; holds = holds_alike x may.holds; listed = may.listed }
+  edit_alike list x may = record {
+    within = may.within;
+    process = process_alike x may.process;
+    holds = holds_alike x may.holds;
+    listed = may.listed;
+  }
 
 module _ (g : Geometry) (os : List Object) (list : List ℕ) where
   pub edit_change : (x : Change) → MayEdit g os list x → MayChange g os list x
@@ -227,10 +240,10 @@ plans_with : (g : Geometry) (os : List Object) (c : Capability) (w : ℕ) (args 
     ((us : List Object) → order g us c w args ≡ order g us c w others) → Plans g os c w args list plan → Plans g os c w others list plan
 plans_with g os c w args others list plan same plans = grind (arith, nat_tests)
 
-pub planned_by : (g : Geometry) (os : List Object) (i : Invocation) (caller : Caller) (plan : OrderPlan) (args : Arguments) (first list rest : List ℕ) →
-    AreEnough os i caller.invoked args
-    → first ≡ writers caller.operation caller.process caller.annex → list ≡ first ++ rest → Plans g os caller.invoked (slice_index i.words 0) args rest plan →
-    IsPlanned g os i caller plan list
+pub planned_by : (g : Geometry) (os : List Object) (i : Invocation) (caller : Caller) (plan : OrderPlan) (args : Arguments)
+    (first list rest : List ℕ) → AreEnough os i caller.invoked args
+    → first ≡ writers caller.operation caller.process caller.annex → list ≡ first ++ rest →
+    Plans g os caller.invoked (slice_index i.words 0) args rest plan → IsPlanned g os i caller plan list
 planned_by g os i caller plan args first list rest enough first_is is plans = grind (arith, nat_tests, behind_writers, plans_with)
 
 -- what is invoked, and what is sent, may be held
@@ -245,10 +258,10 @@ module _ (g : Geometry) (os : List Object) (i : Invocation) (now : IsNow g os) w
   enough_held c args fits enough = grind (arith, nat_tests, arguments_held, held_void)
 
 -- an order that isn't a bank's is planned
-pub object_planned : (g : Geometry) (os us : List Object) (i : Invocation) (caller : Caller) (plan : OrderPlan) (args : Arguments) (first list : List ℕ) →
-    us ≡ os → IsNow g os → object_count g < 2 ^ 64 → Fits (command.Invoke i) → IsRequested os i caller →
-    AreEnough os i caller.invoked args → first ≡ writers caller.operation caller.process caller.annex → list ≡ first ++ written_of plan.change →
-    IsFor us caller.invoked args plan.change
+pub object_planned : (g : Geometry) (os us : List Object) (i : Invocation) (caller : Caller) (plan : OrderPlan) (args : Arguments)
+    (first list : List ℕ) → us ≡ os → IsNow g os → object_count g < 2 ^ 64 → Fits (command.Invoke i) → IsRequested os i caller →
+    AreEnough os i caller.invoked args → first ≡ writers caller.operation caller.process caller.annex →
+    list ≡ first ++ written_of plan.change → IsFor us caller.invoked args plan.change
     → outcome_of us plan ≡ order g us caller.invoked (slice_index i.words 0) args
     → ((vs : List Object) → HaveAnnexesOf us vs → ChangesAs vs plan (order g vs caller.invoked (slice_index i.words 0) args)) →
     IsPlanned g os i caller plan list
@@ -260,7 +273,8 @@ object_planned g os us i caller plan args first list same now few fits is enough
     let may : MayEdit g os (written_of plan.change) plan.change = record {
       within = for_within os c args kind plan.change for_os;
       process = for_process os c args kind plan.change for_os;
-      holds = for_holds os c args kind g (held_fits g os now.frame.kinds few args.capability (held_to os args.capability sent.held)) sent.second plan.change
+      holds = for_holds os c args kind g (held_fits g os now.frame.kinds few args.capability (held_to os args.capability sent.held))
+          sent.second plan.change
           for_os;
       listed = refl;
     } in
@@ -269,7 +283,8 @@ object_planned g os us i caller plan args first list same now few fits is enough
       code = λ vs frame. (changes vs (λ p. (frame.alike p).annex ∙ ap (λ (ws : List Object). annex_at ws p) (sym same))).code;
       objects = λ vs frame. (changes vs (λ p. (frame.alike p).annex ∙ ap (λ (ws : List Object). annex_at ws p) (sym same))).objects;
       written = λ vs frame. (changes vs (λ p. (frame.alike p).annex ∙ ap (λ (ws : List Object). annex_at ws p) (sym same))).written;
-      may = λ vs frame then. edit_change g vs (written_of plan.change) plan.change (edit_alike g os vs frame (written_of plan.change) plan.change may);
+      may = λ vs frame then. edit_change g vs (written_of plan.change) plan.change
+          (edit_alike g os vs frame (written_of plan.change) plan.change may);
       annex = λ vs frame p before after. changed_annex vs (written_of plan.change) plan.change may.within p;
       known = all_target (λ n. n < length os) (target_of plan.change)
           (for_target os c args kind (λ p process. (now.frame.annexes p process).0) plan.change for_os);
@@ -279,11 +294,13 @@ object_planned g os us i caller plan args first list same now few fits is enough
 bank_ordered : (g : Geometry) (os : List Object) (b w : ℕ) (requested : BankOrder) (args : Arguments) → bank_order w ≡ Some requested →
     order g os (Bank b) w args ≡ on_bank g os b requested args
 unfolding order
-bank_ordered g os b w requested args is = ap (λ (found : Option BankOrder). elim found [ None ↦ refused os code.NoOrder | Some k ↦ on_bank g os b k args ]) is
+bank_ordered g os b w requested args is = ap (λ (found : Option BankOrder). elim found
+    [ None ↦ refused os code.NoOrder | Some k ↦ on_bank g os b k args ]) is
 
-bank_plans : (g : Geometry) (os : List Object) (b w : ℕ) (requested : BankOrder) (args : Arguments) (plan : OrderPlan) (list : List ℕ) → IsNow g os →
-    IsTrue (is_bank (content_at os b))
-    → NamesItsKind os args.capability → bank_order w ≡ Some requested → list ≡ (on_bank g os b requested args).written → PlansAs g os b requested args list plan
+bank_plans : (g : Geometry) (os : List Object) (b w : ℕ) (requested : BankOrder) (args : Arguments) (plan : OrderPlan) (list : List ℕ) →
+    IsNow g os → IsTrue (is_bank (content_at os b))
+    → NamesItsKind os args.capability → bank_order w ≡ Some requested → list ≡ (on_bank g os b requested args).written →
+    PlansAs g os b requested args list plan
     → Plans g os (Bank b) w args list plan
 bank_plans g os b w requested args plan list now bank names is listed plans =
     let at : (us : List Object) → SameFrame os us → order g us (Bank b) w args ≡ outcome_by us list plan =
@@ -295,17 +312,19 @@ bank_plans g os b w requested args plan list now bank names is listed plans =
       written = λ us frame. ap (λ (o : OrderOutcome). o.written) (at us frame);
       may = λ us frame then. bank_change g us list plan.change (plans.may us frame then);
       annex = λ us frame p before after.
-          let objects : (on_bank g us b requested args).objects ≡ changed us list plan.change = ap (λ (o : OrderOutcome). o.objects) (plans.outcome us frame) in
+          let objects : (on_bank g us b requested args).objects ≡ changed us list plan.change =
+          ap (λ (o : OrderOutcome). o.objects) (plans.outcome us frame) in
           ap (λ (vs : List Object). annex_at vs p) (sym objects)
           ∙ annex_kept g us b requested args p before (subst (λ (vs : List Object). is_process vs p ≡ true) (sym objects) after);
       known = subst (λ (ns : List ℕ). All (λ n. n < length os) ns) (sym listed) (written_within g os b requested args now bank names);
     }
 
-pub bank_planned : (g : Geometry) (os : List Object) (i : Invocation) (caller : Caller) (plan : OrderPlan) (args : Arguments) (b : ℕ) (requested : BankOrder)
-    (first list : List ℕ)
+pub bank_planned : (g : Geometry) (os : List Object) (i : Invocation) (caller : Caller) (plan : OrderPlan) (args : Arguments) (b : ℕ)
+    (requested : BankOrder) (first list : List ℕ)
     → IsNow g os → Fits (command.Invoke i) → IsRequested os i caller → AreEnough os i caller.invoked args →
     first ≡ writers caller.operation caller.process caller.annex
-    → caller.invoked ≡ Bank b → bank_order (slice_index i.words 0) ≡ Some requested → list ≡ first ++ (on_bank g os b requested args).written
+    → caller.invoked ≡ Bank b → bank_order (slice_index i.words 0) ≡ Some requested →
+    list ≡ first ++ (on_bank g os b requested args).written
     → PlansAs g os b requested args (on_bank g os b requested args).written plan → IsPlanned g os i caller plan list
 bank_planned g os i caller plan args b requested first list now fits is enough first_is invoked order_is listed plans =
     let ws = (on_bank g os b requested args).written in
@@ -314,4 +333,5 @@ bank_planned g os i caller plan args b requested first list now fits is enough f
     (held_to os caller.invoked (invoked_held g os i now caller.invoked is.invoked)).1 in
     planned_by g os i caller plan args first list ws enough first_is listed
     (subst (λ (c : Capability). Plans g os c (slice_index i.words 0) args ws plan) (sym invoked)
-    (bank_plans g os b (slice_index i.words 0) requested args plan ws now bank (held_to os args.capability sent.held).1 order_is refl plans))
+    (bank_plans g os b (slice_index i.words 0) requested args plan ws now bank (held_to os args.capability sent.held).1 order_is refl
+    plans))

@@ -37,7 +37,8 @@ header_there fs n = get_or-map (λ (f : Frame). f.header) fs n blank_frame
 -- a capability that fits is kept with the count that its object has
 module _ (g : Geometry) (age : ℕ) (fs : List Frame) (keepable : AreKeepable g age fs) where
   allocations_fit : (n : ℕ) → n < object_count g → IsCount age (header_at (headers fs) n).allocations
-  allocations_fit n inside = subst (λ (h : ObjectHeader). IsCount age h.allocations) (sym (header_there fs n)) (keepable.each n inside).kept.allocations
+  allocations_fit n inside = subst (λ (h : ObjectHeader). IsCount age h.allocations) (sym (header_there fs n))
+      (keepable.each n inside).kept.allocations
 
   calls_fit : (n : ℕ) → n < object_count g → IsCount age (header_at (headers fs) n).calls
   calls_fit n inside = subst (λ (h : ObjectHeader). IsCount age h.calls) (sym (header_there fs n)) (keepable.each n inside).kept.calls
@@ -82,10 +83,12 @@ node_is_no_annex p n node annex =
     (subst (λ (c : Content Capability). is_node c ≡ true) (content_there p n known (held_at p.contents n) refl) node) annex
 
 -- the call count of an object is at most the age
-pub calls_kept : (g : Geometry) (age : ℕ) (p : Parts) → AreKeepable g age (frames_of p) → (n : ℕ) → n < length p.headers → (header_at p.headers n).calls ≤ age
+pub calls_kept : (g : Geometry) (age : ℕ) (p : Parts) → AreKeepable g age (frames_of p) → (n : ℕ) → n < length p.headers →
+    (header_at p.headers n).calls ≤ age
 calls_kept g age p keepable n known =
     let inside : n < object_count g = subst (λ (m : ℕ). n < m) (keepable_count g age p keepable) known in
-    subst (λ (hs : List ObjectHeader). (header_at hs n).calls ≤ age) (headers_in p.headers p.contents) (calls_fit g age (frames_of p) keepable n inside).0
+    subst (λ (hs : List ObjectHeader). (header_at hs n).calls ≤ age) (headers_in p.headers p.contents)
+    (calls_fit g age (frames_of p) keepable n inside).0
 
 module _ (p : Parts) (sound : AreSound p) where
   pub keepable_most : AreKeepable p.geometry (2 ^ 64 - 1) (frames_of p)
@@ -100,7 +103,8 @@ module _ (p : Parts) (sound : AreSound p) where
   pub register_kind : (q r : ℕ) (c : Capability) → c ≡ register_at (objects_in p) q r → NamesItsKind (objects_in p) c
   register_kind q r c is = subst (NamesItsKind (objects_in p)) (sym is) (sound.1.sound.slots (annex_at (objects_in p) q) r).1
 
-  pub annex_there : (q : ℕ) → IsTrue (is_process (objects_in p) q) → IsTrue (is_annex (content_at (objects_in p) (annex_at (objects_in p) q)))
+  pub annex_there : (q : ℕ) → IsTrue (is_process (objects_in p) q) → IsTrue
+      (is_annex (content_at (objects_in p) (annex_at (objects_in p) q)))
   annex_there q is = (sound.1.sound.annexes q is).0
 
   -- no call count is at its greatest
@@ -114,8 +118,8 @@ module _ {S : Type 0} {parts : S → Parts} {Continues : S → S → Type 0} {s 
   announced_same {T} {U} {x} {y} {ws} fetched prepared = prepared.done ∙ ap (touched_too ws) fetched.same
 
 -- what a process invokes, read after its annex was fetched
-pub requested_by : {old now : Parts} → now ≡ old → (i : Invocation) (annex : ℕ) (invoked : Capability) → annex ≡ annex_at (objects_in old) i.process →
-    invoked ≡ slot_at (objects_in now) annex i.register →
+pub requested_by : {old now : Parts} → now ≡ old → (i : Invocation) (annex : ℕ) (invoked : Capability) →
+    annex ≡ annex_at (objects_in old) i.process → invoked ≡ slot_at (objects_in now) annex i.register →
     IsRequested (objects_in now) i (record { process = i.process; annex = annex; operation = i.operation; invoked = invoked })
 requested_by {old} {now} same i annex invoked annex_is is = grind (arith, nat_tests)
 
@@ -123,8 +127,10 @@ requested_by {old} {now} same i annex invoked annex_is is = grind (arith, nat_te
 pub inside_known : (p : Parts) (n : ℕ) → n < length (objects_in p) → n < length p.headers
 inside_known p n inside = subst (λ (m : ℕ). n < m) (length_objects p.headers p.contents) inside
 
-pub requested_annex : (p : Parts) (sound : AreSound p) (q a : ℕ) → IsTrue (is_process (objects_in p) q) → a ≡ annex_at (objects_in p) q → a < length p.headers
-requested_annex p sound q a is same = subst (λ (n : ℕ). n < length p.headers) (sym same) (annex_known p (annex_at (objects_in p) q) (annex_there p sound q is))
+pub requested_annex : (p : Parts) (sound : AreSound p) (q a : ℕ) → IsTrue (is_process (objects_in p) q) → a ≡ annex_at (objects_in p) q →
+    a < length p.headers
+requested_annex p sound q a is same = subst (λ (n : ℕ). n < length p.headers) (sym same)
+    (annex_known p (annex_at (objects_in p) q) (annex_there p sound q is))
 
 -- an invocation of a gate is no bank's order
 pub gate_no_bank : (gate : Gate) (w : ℕ) → IsNoBankOrder (gate_capability gate) w
@@ -135,9 +141,11 @@ pub free_in_frame : (p q : Parts) (us : List Object) → objects_in q ≡ us →
 free_in_frame p q us objects frame n = grind (arith, nat_tests, tests_at)
 
 -- what isn't a bank's order frees nothing
-pub renews_invoked : (old mid new : Parts) (i : Invocation) (e : Effect) → AreSound old → mid.headers ≡ old.headers → Fits (command.Invoke i)
-    → IsTrue (is_running_process (objects_in old) i.process) → IsNoBankOrder (register_at (objects_in old) i.process i.register) (slice_index i.words 0)
+pub renews_invoked : (old mid new : Parts) (i : Invocation) (e : Effect) → AreSound old → mid.headers ≡ old.headers →
+    Fits (command.Invoke i) → IsTrue (is_running_process (objects_in old) i.process) →
+    IsNoBankOrder (register_at (objects_in old) i.process i.register) (slice_index i.words 0)
     → invoke old.geometry (objects_in old) i ≡ Some e → objects_in new ≡ e.objects → SameAllocations mid new → Renews old new
 renews_invoked old mid new i e sound headers fits runs other is objects same =
     renews_none old new (λ n. same n ∙ ap (λ (hs : List ObjectHeader). (header_at hs n).allocations) headers)
-    (λ n used. free_in_frame old new e.objects objects (invocation_frame old.geometry (objects_in old) i e (now_sound old sound) fits runs other is) n ∙ used)
+    (λ n used. free_in_frame old new e.objects objects (invocation_frame old.geometry (objects_in old) i e (now_sound old sound) fits runs
+    other is) n ∙ used)

@@ -8,7 +8,8 @@ use Rattle.header_slots.proofs.Counting.{below_greatest, counts_before, is_known
 use Rattle.header_slots.proofs.Publishing.{header_commits_none}
 
 -- nothing counts that didn't before
-counted : (slot : ℕ) (old new : Slots) (n : ℕ) → OthersStay slot old new → (new slot).header ≡ None → Counts new n → (n % 3 ≡ slot → ⊥) × Counts old n
+counted : (slot : ℕ) (old new : Slots) (n : ℕ) → OthersStay slot old new → (new slot).header ≡ None → Counts new n →
+    (n % 3 ≡ slot → ⊥) × Counts old n
 counted slot old new n others broken it =
     let other : n % 3 ≡ slot → ⊥ = λ e.
     let lost : Some n ≡ None = sym it.header ∙ ap (λ (k : ℕ). (new k).header) e ∙ broken in
@@ -16,7 +17,8 @@ counted slot old new n others broken it =
     (other, counts_before slot old new n others other it)
 
 -- the gates are the same
-same_gates : (slot : ℕ) (old new : Slots) (k : ℕ) → OthersStay slot old new → (new slot).gate ≡ (old slot).gate → (new k).gate ≡ (old k).gate
+same_gates : (slot : ℕ) (old new : Slots) (k : ℕ) → OthersStay slot old new → (new slot).gate ≡ (old slot).gate →
+    (new k).gate ≡ (old k).gate
 same_gates slot old new k others gate =
     elim (cases_eq k slot) [
       | inl e ↦ ap (λ (i : ℕ). (new i).gate) e ∙ gate ∙ ap (λ (i : ℕ). (old i).gate) (sym e)
@@ -24,8 +26,8 @@ same_gates slot old new k others gate =
     ]
 
 -- without its header, s - 1 can't be committed: the gate of s waits
-not_before : (slot : ℕ) (old new : Slots) (s t : ℕ) → IsCommitted old s → OthersStay slot old new → (new slot).gate ≡ (old slot).gate → IsCommitted new t
-    → t + 1 ≡ s → ⊥
+not_before : (slot : ℕ) (old new : Slots) (s t : ℕ) → IsCommitted old s → OthersStay slot old new → (new slot).gate ≡ (old slot).gate →
+    IsCommitted new t → t + 1 ≡ s → ⊥
 not_before slot old new s t was others gate is e =
     is.next (
     same_gates slot old new ((t + 1) % 3) others gate
@@ -44,7 +46,8 @@ lost_header slot old new s t was others gate broken is =
     elim (cases_eq (t % 3) ((s + 1) % 3)) [
       | inl third ↦
           -- then t - 1 is in the slot of s, and is s
-          elim (is_known old s (t - 1) was.pair.positive was.pair.counts was.pair.neighbour neighbour (λ e. omega (arith, e, third, above))) [
+          let elsewhere = is_known old s (t - 1) was.pair.positive was.pair.counts was.pair.neighbour neighbour in
+          elim (elsewhere (λ e. omega (arith, e, third, above))) [
             | inl here ↦ absurd (omega (arith, here, most, above))
             | inr before ↦ omega (arith, before, above, positive)
           ]

@@ -68,7 +68,8 @@ module _ (a x : Slots) (s : ℕ) (was : IsCommitted a s) (headers : HeadersStay 
   third_closed closed t is = only_pair (λ n it e. absurd (closed_out x ((s + 1) % 3) n closed it e)) t is
 
   -- nor does one that is as it was and holds no older header that counts
-  third_stays : ((n : ℕ) → Counts a n → n % 3 ≡ (s + 1) % 3 → s < n) → (x ((s + 1) % 3)).gate ≡ (a ((s + 1) % 3)).gate → (t : ℕ) → IsCommitted x t → t ≡ s
+  third_stays : ((n : ℕ) → Counts a n → n % 3 ≡ (s + 1) % 3 → s < n) → (x ((s + 1) % 3)).gate ≡ (a ((s + 1) % 3)).gate → (t : ℕ) →
+      IsCommitted x t → t ≡ s
   third_stays newer gate t is =
       only_pair (λ n it e. (
         (λ next. was.next (sym gate ∙ subst (λ (m : ℕ). (x (m % 3)).gate ≡ Some m) next it.gate)),
@@ -100,7 +101,8 @@ module _ (a x : Slots) (s : ℕ) (was : IsCommitted a s) (headers : HeadersStay 
   )
 
 -- while the gate of an older third header is written, the pair stays
-older_torn : (a x : Slots) (s n t : ℕ) → IsCommitted a s → Counts a n → n % 3 ≡ (s + 1) % 3 → n < s → TearsGateOf ((s + 1) % 3) a x → IsCommitted x t → t ≡ s
+older_torn : (a x : Slots) (s n t : ℕ) → IsCommitted a s → Counts a n → n % 3 ≡ (s + 1) % 3 → n < s → TearsGateOf ((s + 1) % 3) a x →
+    IsCommitted x t → t ≡ s
 older_torn a x s n t was it third older torn is =
     let headers = headers_stay ((s + 1) % 3) a x torn in
     let some : 0 < s = was.pair.positive in
@@ -131,7 +133,8 @@ old_third_first old new s n t r q was it third older (inl torn) is =
     same_bytes old new s was.committed (headers_stay ((s + 1) % 3) old new torn) t r q was.bytes is
     (older_torn old new s n t was.committed it third older torn is.committed)
 old_third_first old new s n t r q was it third older (inr (inl left)) is =
-    let headers = both_stay old left.0 new (headers_stay ((s + 1) % 3) old left.0 left.1.torn) (headers_stay ((s + 2) % 3) left.0 new left.2) in
+    let headers = both_stay old left.0 new (headers_stay ((s + 1) % 3) old left.0 left.1.torn)
+    (headers_stay ((s + 2) % 3) left.0 new left.2) in
     let closed = gate_stays ((s + 2) % 3) ((s + 1) % 3) left.0 new left.2 (λ e. omega (arith, e)) ∙ left.1.closed in
     same_bytes old new s was.committed headers t r q was.bytes is (third_closed old new s was.committed headers closed t is.committed)
 old_third_first old new s n t r q was it third older (inr (inr left)) is =

@@ -113,7 +113,10 @@ gate_commits old new s a b was torn =
     elim (is_number (new ((s + 1) % 3)).gate (s + 1)) [
       | inl gate ↦ inr (record { committed = is_committed_new old new s b was.committed torn gate; bytes = torn.bytes })
       | inr no_gate ↦
-          inl (record { committed = is_committed_old old new s b was.committed torn no_gate; bytes = same_bytes old new s a was torn.others })
+          inl (record {
+            committed = is_committed_old old new s b was.committed torn no_gate;
+            bytes = same_bytes old new s a was torn.others;
+          })
     ]
 
 pub published_commits : PublishedIsCommitted

@@ -93,7 +93,8 @@ neighbours_needed law =
 -- a header 3 where its gate has stood since header 3 was damaged
 pub next_gate_needed : NextGateIsNeeded
 next_gate_needed law =
-    let after = law (first_two (with_header None (Some 3))) (first_two (with_header (Some 3) (Some 3))) 2 (pair_of (Some 3)) (torn (Some 3) (Some 3)) in
+    let after = law (first_two (with_header None (Some 3))) (first_two (with_header (Some 3) (Some 3))) 2 (pair_of (Some 3))
+    (torn (Some 3) (Some 3)) in
     let wrong : 3 ≤ 2 = after.greatest 2 (two_counts (with_header (Some 3) (Some 3))) (record { header = refl; gate = refl }) in
     omega (arith, wrong)
 
@@ -114,5 +115,6 @@ next_gate_shows law =
             | inr (inr e) ↦ omega (arith, e)
           ];
     } in
-    let wrong : 2 ≡ 3 = law old new 3 2 pair (others_stay (with_header (Some 3) (Some 3)) (with_header None (Some 3))) refl refl (pair_of (Some 3)) in
+    let wrong : 2 ≡ 3 = law old new 3 2 pair (others_stay (with_header (Some 3) (Some 3)) (with_header None (Some 3))) refl refl
+    (pair_of (Some 3)) in
     omega (arith, wrong)

@@ -10,7 +10,8 @@ unfolding zeros
 blank_later end at xs low blank =
     let sum : end + (at - end) ≡ at = omega (arith, low) in
     let rest : length xs - end - (at - end) ≡ length xs - at = omega (arith, low) in
-    ap (λ (k : ℕ). drop k xs) (sym sum) ∙ sym (drop-drop (at - end) end xs) ∙ ap (drop (at - end)) blank ∙ drop-replicate (at - end) (length xs - end) 0 ∙
+    ap (λ (k : ℕ). drop k xs) (sym sum) ∙ sym (drop-drop (at - end) end xs) ∙ ap (drop (at - end)) blank
+    ∙ drop-replicate (at - end) (length xs - end) 0 ∙
     ap (λ (k : ℕ). replicate k 0) rest
 
 pub all_blank : (n : ℕ) {xs : List ℕ} → xs ≡ replicate n 0 → IsBlankFrom 0 xs
@@ -37,7 +38,8 @@ module _ {p : Plan} (first n : ℕ) {m : ℕ} (old new : List ℕ) (fits : IsPla
       frames_rise fits (have.object k in_k) (have.object n lt) (have.same k in_k ∙ sym (have.same n lt)) (omega (arith, less))
 
   pub one_frame_more : (frame : ℕ → List ℕ) → AreIn p frame first n old → shape_bytes (shape_of p (first + n)) new ≡ frame (first + n)
-      → ((s : Shape) → shape_end s ≤ (shape_of p (first + n)).offset → shape_bytes s new ≡ shape_bytes s old) → AreIn p frame first (n + 1) new
+      → ((s : Shape) → shape_end s ≤ (shape_of p (first + n)).offset → shape_bytes s new ≡ shape_bytes s old) →
+      AreIn p frame first (n + 1) new
   one_frame_more frame so_far here stay k below = elim (cases_lt k n) [
     | inl less ↦ stay (shape_of p (first + k)) (before k less) ∙ so_far k less
     | inr le ↦
@@ -46,12 +48,14 @@ module _ {p : Plan} (first n : ℕ) {m : ℕ} (old new : List ℕ) (fits : IsPla
   ]
 
   pub ended_more : AreEnded p first n old
-      → (IsBlankFrom (shape_end (shape_of p (first + n))) old → IsBlankFrom (shape_end (shape_of p (first + n))) new) → AreEnded p first (n + 1) new
+      → (IsBlankFrom (shape_end (shape_of p (first + n))) old → IsBlankFrom (shape_end (shape_of p (first + n))) new) →
+      AreEnded p first (n + 1) new
   ended_more so_far stays at behind =
       let end : ℕ = shape_end (shape_of p (first + n)) in
       blank_later end at new (behind n (omega arith)) (stays (so_far end (λ k less. let rise = before k less in omega (arith, rise))))
 
-module _ {p : Plan} {number first m : ℕ} (block : List ℕ) (start : IsFirstOf p number first) (have : HaveHome p first m) (n : ℕ) (most : m ≤ n) where
+module _ {p : Plan} {number first m : ℕ} (block : List ℕ) (start : IsFirstOf p number first) (have : HaveHome p first m) (n : ℕ)
+    (most : m ≤ n) where
   -- once all that have the home are in it, it has the frame of each
   pub all_in : (frame : ℕ → List ℕ) → AreIn p frame first n block → (a : ℕ) → IsObject p.geometry a → home_place p a ≡ home_place p number →
       shape_bytes (shape_of p a) block ≡ frame a
@@ -63,4 +67,5 @@ module _ {p : Plan} {number first m : ℕ} (block : List ℕ) (start : IsFirstOf
 
   pub all_ended : n ≤ m → AreEnded p first n block → EndsInZeros p number block
   all_ended whole so_far at behind =
-      so_far at (λ k lt. let in_k : k < m = omega (arith, lt, whole) in behind (first + k) (have.object k in_k) (have.same k in_k ∙ start.home))
+      so_far at (λ k lt. let in_k : k < m = omega (arith, lt, whole) in behind (first + k) (have.object k in_k)
+      (have.same k in_k ∙ start.home))

@@ -6,12 +6,15 @@ use Rattle.std.specs.Prelude.{if◌then◌else◌}
 
 -- ---- the first entry whose home is that of an object
 
-pub beside_here : (p : Plan) (e : Entry) (es : List Entry) (n : ℕ) → home_place p e.object ≡ home_place p n → slot_beside p (e ∷ es) n ≡ Some e.slot
-beside_here p e es n is = ap (λ (b : Bool). if b then Some e.slot else slot_beside p es n) (eq-eqb (home_place p e.object) (home_place p n) is)
+pub beside_here : (p : Plan) (e : Entry) (es : List Entry) (n : ℕ) → home_place p e.object ≡ home_place p n →
+    slot_beside p (e ∷ es) n ≡ Some e.slot
+beside_here p e es n is = ap (λ (b : Bool). if b then Some e.slot else slot_beside p es n)
+    (eq-eqb (home_place p e.object) (home_place p n) is)
 
 pub beside_behind : (p : Plan) (e : Entry) (es : List Entry) (n : ℕ) → (home_place p e.object ≡ home_place p n → ⊥) →
     slot_beside p (e ∷ es) n ≡ slot_beside p es n
-beside_behind p e es n other = ap (λ (b : Bool). if b then Some e.slot else slot_beside p es n) (ne_eqb (home_place p e.object) (home_place p n) other)
+beside_behind p e es n other = ap (λ (b : Bool). if b then Some e.slot else slot_beside p es n)
+    (ne_eqb (home_place p e.object) (home_place p n) other)
 
 -- the entry of such a slot
 pub record HasBeside (p : Plan) (es : List Entry) (n slot : ℕ) : Type 0 where
@@ -31,7 +34,8 @@ found_beside p (e ∷ es) n s is = elim (cases_eq (home_place p e.object) (home_
 
 -- ---- the slot of an object, or else that one
 
-frame_slot_by : (p : Plan) (es : List Entry) (n : ℕ) {own : Option ℕ} → slot_in es n ≡ own → frame_slot_in p es n ≡ or_beside own (slot_beside p es n)
+frame_slot_by : (p : Plan) (es : List Entry) (n : ℕ) {own : Option ℕ} → slot_in es n ≡ own →
+    frame_slot_in p es n ≡ or_beside own (slot_beside p es n)
 frame_slot_by p es n is = ap (λ (o : Option ℕ). or_beside o (slot_beside p es n)) is
 
 pub own_frame_slot : (p : Plan) (es : List Entry) (n : ℕ) {s : ℕ} → slot_in es n ≡ Some s → frame_slot_in p es n ≡ Some s

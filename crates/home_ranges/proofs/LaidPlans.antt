@@ -25,18 +25,21 @@ ends_later at (e ∷ es) = let rest = ends_later (at + e.length) es in omega (ar
 starts_later : (at : ℕ) (es : List Extent) (j : ℕ) → Follow at es → j < length es → at ≤ (extent_at es j).sector
 starts_later at [] j follow lt = absurd (omega (arith, lt))
 starts_later at (e ∷ es) zero follow lt = omega (arith, follow.0)
-starts_later at (e ∷ es) (suc j) follow lt = let rest = starts_later (at + e.length) es j follow.1 (omega (arith, lt)) in omega (arith, rest)
+starts_later at (e ∷ es) (suc j) follow lt = let rest = starts_later (at + e.length) es j follow.1 (omega (arith, lt)) in
+    omega (arith, rest)
 
 follow_apart : (at : ℕ) (es : List Extent) → Follow at es → AreApart es
 follow_apart at [] follow i j lt within = absurd (omega (arith, within))
 follow_apart at (e ∷ es) follow i zero lt within = absurd (omega (arith, lt))
 follow_apart at (e ∷ es) follow zero (suc j) lt within = grind (arith, nat_tests, starts_later)
-follow_apart at (e ∷ es) follow (suc i) (suc j) lt within = follow_apart (at + e.length) es follow.1 i j (omega (arith, lt)) (omega (arith, within))
+follow_apart at (e ∷ es) follow (suc i) (suc j) lt within = follow_apart (at + e.length) es follow.1 i j (omega (arith, lt))
+    (omega (arith, within))
 
 follow_within : (total at : ℕ) (es : List Extent) → 5 ≤ at → end_of at es ≤ total → Follow at es → All (IsWithin total) es
 follow_within total at [] low high follow k d lt = absurd (omega (arith, lt))
 follow_within total at (e ∷ es) low high follow zero d lt = grind (arith, nat_tests, ends_later)
-follow_within total at (e ∷ es) low high follow (suc k) d lt = follow_within total (at + e.length) es (omega (arith, low)) high follow.1 k d (omega (arith, lt))
+follow_within total at (e ∷ es) low high follow (suc k) d lt = follow_within total (at + e.length) es (omega (arith, low)) high follow.1 k d
+    (omega (arith, lt))
 
 -- ---- ranges that are laid, and what lies after them
 
@@ -44,17 +47,22 @@ laid_follow : (v : Version) (g : Geometry) (at : ℕ) (rs : List NumberRange) (e
     Follow at (map (range_extent v g) (laid v g at rs) ++ es)
 laid_follow v g at [] es follow = rw (none_laid v g at) (subst (λ (n : ℕ). Follow n es) (none_behind v g at) follow)
 laid_follow v g at (r ∷ rs) es follow =
-    rw (cons_laid v g at r rs) (refl, laid_follow v g (at + sectors_of v g r) rs es (subst (λ (n : ℕ). Follow n es) (cons_behind v g at r rs) follow))
+    rw (cons_laid v g at r rs) (
+      refl,
+      laid_follow v g (at + sectors_of v g r) rs es
+          (subst (λ (n : ℕ). Follow n es) (cons_behind v g at r rs) follow),
+    )
 
-laid_end : (v : Version) (g : Geometry) (at : ℕ) (rs : List NumberRange) (es : List Extent) → end_of at (map (range_extent v g) (laid v g at rs) ++ es) ≡ end_of
-    (behind v g at rs) es
+laid_end : (v : Version) (g : Geometry) (at : ℕ) (rs : List NumberRange) (es : List Extent) →
+    end_of at (map (range_extent v g) (laid v g at rs) ++ es) ≡ end_of (behind v g at rs) es
 laid_end v g at [] es = rw (none_laid v g at, none_behind v g at) refl
 laid_end v g at (r ∷ rs) es = rw (cons_laid v g at r rs, cons_behind v g at r rs) (laid_end v g (at + sectors_of v g r) rs es)
 
 -- ranges cover the same numbers wherever they lie
 cover_laid : (v : Version) (g : Geometry) (n at : ℕ) (rs : List NumberRange) → Cover g n (map (placed 0) rs) → Cover g n (laid v g at rs)
 cover_laid v g n at [] c = subst (Cover g n) (sym (none_laid v g at)) c
-cover_laid v g n at (r ∷ rs) c = subst (Cover g n) (sym (cons_laid v g at r rs)) (c.0, cover_laid v g (n + r.count) (at + sectors_of v g r) rs c.1)
+cover_laid v g n at (r ∷ rs) c = subst (Cover g n) (sym (cons_laid v g at r rs))
+    (c.0, cover_laid v g (n + r.count) (at + sectors_of v g r) rs c.1)
 
 laid_covers : (v : Version) (g : Geometry) (n at : ℕ) (rs : List NumberRange) → Cover g n (laid v g at rs) → Cover g n (map (placed 0) rs)
 laid_covers v g n at [] c = subst (Cover g n) (none_laid v g at) c
@@ -72,15 +80,22 @@ sectors_from g n = 2 * (g.nodes - n) + 9 * (g.nodes + g.pages - n - (g.nodes - n
 few_more : (v : Version) (count : ℕ) → nodes_length v count ≤ 2 * count + 8
 few_more v count = search arith
 
-range_takes : (v : Version) (g : Geometry) (r : NumberRange) (n : ℕ) → r.first ≡ n → 0 < r.count → (r.first + r.count ≤ g.nodes) ⊎ (g.nodes ≤ r.first) →
-    n + r.count ≤ g.nodes + g.pages
+range_takes : (v : Version) (g : Geometry) (r : NumberRange) (n : ℕ) → r.first ≡ n → 0 < r.count →
+    (r.first + r.count ≤ g.nodes) ⊎ (g.nodes ≤ r.first) → n + r.count ≤ g.nodes + g.pages
     → sectors_of v g r + sectors_from g (n + r.count) ≤ sectors_from g n + 8
 range_takes v g r n first some kind few = search (arith, lt-ltb, few_more, le-ltb)
 
 behind_few : (v : Version) (g : Geometry) (n at : ℕ) (rs : List NumberRange) → Cover g n (map (placed 0) rs) →
     behind v g at rs ≤ at + sectors_from g n + 8 * length rs
 behind_few v g n at [] c = let none = none_behind v g at in omega (arith, none)
-behind_few v g n at (r ∷ rs) c = grind (arith, nat_tests, cover_within, range_takes, cons_behind, behind_few v g (n + r.count) (at + sectors_of v g r) rs c.1)
+behind_few v g n at (r ∷ rs) c = grind (
+  arith,
+  nat_tests,
+  cover_within,
+  range_takes,
+  cons_behind,
+  behind_few v g (n + r.count) (at + sectors_of v g r) rs c.1,
+)
 
 module _ (v : Version) (g : Geometry) (rs : List NumberRange) (may : MayBeLaid g rs) where
   abbrev halves : List Extent
@@ -91,7 +106,14 @@ module _ (v : Version) (g : Geometry) (rs : List NumberRange) (may : MayBeLaid g
 
   -- no numbers within the limits take more sectors than a device may have
   total_few : (plan_from v g rs).total ≤ 131072
-  total_few = let end = behind_few v g 0 5 rs may.cover in omega (arith, end, may.few, may.geometry.most_nodes, may.geometry.most_pages, may.geometry.most_log)
+  total_few = let end = behind_few v g 0 5 rs may.cover in omega (
+    arith,
+    end,
+    may.few,
+    may.geometry.most_nodes,
+    may.geometry.most_pages,
+    may.geometry.most_log,
+  )
 
   is_plan : IsPlan (plan_from v g rs)
   is_plan = record {
@@ -100,7 +122,8 @@ module _ (v : Version) (g : Geometry) (rs : List NumberRange) (may : MayBeLaid g
     few = omega (arith, may.few, length_laid v g 5 rs);
     total = total_few;
     cover = cover_laid v g 0 5 rs may.cover;
-    within = follow_within (plan_from v g rs).total 5 (extents (plan_from v g rs)) (omega arith) (omega (arith, laid_end v g 5 rs halves)) follow;
+    within = follow_within (plan_from v g rs).total 5 (extents (plan_from v g rs)) (omega arith) (omega (arith, laid_end v g 5 rs halves))
+        follow;
     apart = follow_apart 5 (extents (plan_from v g rs)) follow;
   }
 
@@ -108,8 +131,8 @@ module _ (v : Version) (g : Geometry) (rs : List NumberRange) (may : MayBeLaid g
 may_be : (v : Version) (g : Geometry) (rs : List NumberRange) → IsPlan (plan_from v g rs) → MayBeLaid g rs
 may_be v g rs is = search (arith, length_laid, laid_covers)
 
-pub laid_out : (v : Version) (g : Geometry) (rs : List NumberRange) (r : Option Plan) → IfSome r (λ s. s ≡ plan_from v g rs) → IfSome r (λ s. IsPlan s) →
-    IfSome r (λ _. MayBeLaid g rs)
+pub laid_out : (v : Version) (g : Geometry) (rs : List NumberRange) (r : Option Plan) → IfSome r (λ s. s ≡ plan_from v g rs) →
+    IfSome r (λ s. IsPlan s) → IfSome r (λ _. MayBeLaid g rs)
 laid_out v g rs None is fits = tt
 laid_out v g rs (Some s) is fits = may_be v g rs (subst IsPlan is fits)
 
@@ -121,13 +144,19 @@ not_laid_out v g rs (Some s) none = tt
 -- ---- version 2 beside version 1
 
 -- a range takes by version 2 no more than 8 sectors above what it takes by version 1
-second_takes : (is_node : Bool) (count : ℕ) → (if is_node then nodes_length Two count else 9 * count) ≤ (if is_node then nodes_length One count else 9 * count)
-    + 8
+second_takes : (is_node : Bool) (count : ℕ) → (if is_node then nodes_length Two count else 9 * count)
+    ≤ (if is_node then nodes_length One count else 9 * count) + 8
 second_takes is_node count = search arith
 
 second_behind : (g : Geometry) (one two : ℕ) (rs : List NumberRange) → behind Two g two rs + one ≤ behind One g one rs + two + 8 * length rs
 second_behind g one two [] = let first = none_behind One g one in let second = none_behind Two g two in omega (arith, first, second)
-second_behind g one two (r ∷ rs) = grind (arith, nat_tests, second_takes, cons_behind, second_behind g (one + sectors_of One g r) (two + sectors_of Two g r) rs)
+second_behind g one two (r ∷ rs) = grind (
+  arith,
+  nat_tests,
+  second_takes,
+  cons_behind,
+  second_behind g (one + sectors_of One g r) (two + sectors_of Two g r) rs,
+)
 
 pub second_total : (g : Geometry) (rs : List NumberRange) → (plan_from Two g rs).total ≤ (plan_from One g rs).total + 8 * length rs
 second_total g rs = let end = second_behind g 5 5 rs in omega (arith, end)
@@ -140,4 +169,5 @@ counts_few g n (r ∷ rs) c zero d lt = let rest = cover_within g (n + r.count) 
 counts_few g n (r ∷ rs) c (suc k) d lt = counts_few g (n + r.count) rs c.1 k d (omega (arith, lt))
 
 pub few_counts : (g : Geometry) (rs : List NumberRange) → MayBeLaid g rs → All (λ r. r.count ≤ 8192) rs
-few_counts g rs may k d lt = let few = counts_few g 0 rs may.cover k d lt in omega (arith, few, may.geometry.most_nodes, may.geometry.most_pages)
+few_counts g rs may k d lt = let few = counts_few g 0 rs may.cover k d lt in
+    omega (arith, few, may.geometry.most_nodes, may.geometry.most_pages)

@@ -44,15 +44,24 @@ pub record LaidTo (v : Version) (g : Geometry) (rs : List NumberRange) (into : L
 abbrev pub range_at : List NumberRange → ℕ → NumberRange
 range_at rs i = get_or rs i (record { first = 0; count = 0 })
 
-pub laid_more : (v : Version) (g : Geometry) (rs : List NumberRange) (into : List HomeRange) (i next : ℕ) → i < length rs → (range_at rs i).count ≤ 8192 →
-    LaidTo v g rs into i next
+pub laid_more : (v : Version) (g : Geometry) (rs : List NumberRange) (into : List HomeRange) (i next : ℕ) → i < length rs →
+    (range_at rs i).count ≤ 8192 → LaidTo v g rs into i next
     → LaidTo v g rs (set into i (placed next (range_at rs i))) (i + 1) (next + sectors_of v g (range_at rs i))
-laid_more v g rs into i next lt few was = search (arith, drop_more, take_more_set, length-set, cons_laid, append_assoc, cons_behind, few_sectors)
+laid_more v g rs into i next lt few was = search (
+  arith,
+  drop_more,
+  take_more_set,
+  length-set,
+  cons_laid,
+  append_assoc,
+  cons_behind,
+  few_sectors,
+)
 
-pub all_laid : (v : Version) (g : Geometry) (rs : List NumberRange) (into : List HomeRange) (i next : ℕ) → length rs ≤ i → LaidTo v g rs into i next →
-    into ≡ laid v g 5 rs
+pub all_laid : (v : Version) (g : Geometry) (rs : List NumberRange) (into : List HomeRange) (i next : ℕ) → length rs ≤ i →
+    LaidTo v g rs into i next → into ≡ laid v g 5 rs
 all_laid v g rs into i next done was = search (arith, drop_all, none_laid, append-nil, take_all)
 
-pub end_laid : (v : Version) (g : Geometry) (rs : List NumberRange) (into : List HomeRange) (i next : ℕ) → length rs ≤ i → LaidTo v g rs into i next →
-    next ≡ behind v g 5 rs
+pub end_laid : (v : Version) (g : Geometry) (rs : List NumberRange) (into : List HomeRange) (i next : ℕ) → length rs ≤ i →
+    LaidTo v g rs into i next → next ≡ behind v g 5 rs
 end_laid v g rs into i next done was = sym (was.end ∙ ap (behind v g next) (drop_all i rs done) ∙ none_behind v g next)

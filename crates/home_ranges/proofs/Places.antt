@@ -27,7 +27,8 @@ lt_true a b lt = grind (arith, nat_tests)
 pub lt_false : (a b : ℕ) → b ≤ a → nat_lt a b ≡ false
 lt_false a b le = grind (arith, nat_tests)
 
-find_in : (g : Geometry) (n : ℕ) {number : ℕ} (rs : List HomeRange) → Cover g n rs → n ≤ number → number < g.nodes + g.pages → (i : ℕ) × IsFound g rs number i
+find_in : (g : Geometry) (n : ℕ) {number : ℕ} (rs : List HomeRange) → Cover g n rs → n ≤ number → number < g.nodes + g.pages →
+    (i : ℕ) × IsFound g rs number i
 find_in g n [] c low high = absurd (omega (arith, c))
 find_in g n {number} (r ∷ rs) c low high = elim (cases_lt number (n + r.count)) [
   | inl lt ↦
@@ -81,11 +82,13 @@ apart_in_one v {g} {r} {a} {b} has_a has_b differ = grind (arith, nat_tests)
 ranges_extent : (p : Plan) {i : ℕ} → i < length p.ranges → extent_at (extents p) i ≡ range_extent p.version p.geometry (range_at p.ranges i)
 ranges_extent p {i} lt = grind (arith, nat_tests, length-map, get_or_append_left, get_or-map)
 
-range_within : {p : Plan} {i : ℕ} → IsPlan p → i < length p.ranges → IsWithin p.total (range_extent p.version p.geometry (range_at p.ranges i))
-range_within {p} {i} fits lt = subst (IsWithin p.total) (ranges_extent p lt) (fits.within i (record { sector = 0; length = 0 }) (omega (arith, many p)))
+range_within : {p : Plan} {i : ℕ} → IsPlan p → i < length p.ranges → IsWithin p.total
+    (range_extent p.version p.geometry (range_at p.ranges i))
+range_within {p} {i} fits lt = subst (IsWithin p.total) (ranges_extent p lt)
+    (fits.within i (record { sector = 0; length = 0 }) (omega (arith, many p)))
 
-ranges_apart : {p : Plan} {i j : ℕ} → IsPlan p → i < j → j < length p.ranges → IsApart (range_extent p.version p.geometry (range_at p.ranges i))
-    (range_extent p.version p.geometry (range_at p.ranges j))
+ranges_apart : {p : Plan} {i j : ℕ} → IsPlan p → i < j → j < length p.ranges →
+    IsApart (range_extent p.version p.geometry (range_at p.ranges i)) (range_extent p.version p.geometry (range_at p.ranges j))
 ranges_apart {p} {i} {j} fits lt within =
     let apart = fits.apart i j lt (omega (arith, many p)) in
     let in_i : i < length p.ranges = omega arith in
@@ -94,12 +97,13 @@ ranges_apart {p} {i} {j} fits lt within =
 -- ---- the laws
 
 -- the place of a number is that in its range,
-pub place_is : (p : Plan) {number i : ℕ} → IsFound p.geometry p.ranges number i → home_place p number ≡ place_in p.version p.geometry (range_at p.ranges i)
-    number
+pub place_is : (p : Plan) {number i : ℕ} → IsFound p.geometry p.ranges number i →
+    home_place p number ≡ place_in p.version p.geometry (range_at p.ranges i) number
 place_is p {number} at = ap (λ (r : Option HomeRange). place_by p.version p.geometry r number) at.found
 
 -- and so are its sectors
-home_is : (p : Plan) {number i : ℕ} → IsFound p.geometry p.ranges number i → home_extent p number ≡ extent_in p.version p.geometry (range_at p.ranges i) number
+home_is : (p : Plan) {number i : ℕ} → IsFound p.geometry p.ranges number i →
+    home_extent p number ≡ extent_in p.version p.geometry (range_at p.ranges i) number
 home_is p {number} {i} at = grind (arith, nat_tests)
 
 home_inside : (p : Plan) {number i : ℕ} → IsFound p.geometry p.ranges number i →
@@ -136,7 +140,8 @@ either_range {p} {a} {b} fits is_a is_b =
 
 -- so they are apart where they are in each range that has both
 apart_by : {p : Plan} {a b : ℕ} → IsPlan p → IsObject p.geometry a → IsObject p.geometry b
-    → ((i : ℕ) → IsFound p.geometry p.ranges a i → IsFound p.geometry p.ranges b i → IsApart (extent_in p.version p.geometry (range_at p.ranges i) a)
+    → ((i : ℕ) → IsFound p.geometry p.ranges a i → IsFound p.geometry p.ranges b i →
+    IsApart (extent_in p.version p.geometry (range_at p.ranges i) a)
     (extent_in p.version p.geometry (range_at p.ranges i) b)) → IsApart (home_extent p a) (home_extent p b)
 apart_by {p} {a} {b} fits is_a is_b in_one = grind (arith, nat_tests, either_range, home_is)
 
@@ -155,7 +160,8 @@ spares_at {p} {a} k fits is few =
     let apart = fits.apart at.0 (length p.ranges + k) (omega (arith, at.1.within)) (omega (arith, many p)) in
     grind (arith, nat_tests, apart_inside, home_inside, itself, half_at, ranges_extent)
 
-spares_half : {p : Plan} {a : ℕ} (h : Half) → IsPlan p → IsObject p.geometry a → IsApart (home_extent p a) (half_extent p.geometry (half_start p h))
+spares_half : {p : Plan} {a : ℕ} (h : Half) → IsPlan p → IsObject p.geometry a →
+    IsApart (home_extent p a) (half_extent p.geometry (half_start p h))
 spares_half First fits is = spares_at 0 fits is (omega arith)
 spares_half Second fits is = spares_at 1 fits is (omega arith)
 
@@ -201,12 +207,15 @@ pub record HasBoth (p : Plan) (a b : ℕ) (i : ℕ) : Type 0 where
   pub other : IsFound p.geometry p.ranges b i
   pub place : place_in p.version p.geometry (range_at p.ranges i) a ≡ place_in p.version p.geometry (range_at p.ranges i) b
 
-pub one_range : {p : Plan} {a b : ℕ} → IsPlan p → IsObject p.geometry a → IsObject p.geometry b → home_place p a ≡ home_place p b → (i : ℕ) × HasBoth p a b i
+pub one_range : {p : Plan} {a b : ℕ} → IsPlan p → IsObject p.geometry a → IsObject p.geometry b → home_place p a ≡ home_place p b →
+    (i : ℕ) × HasBoth p a b i
 one_range {p} {a} {b} fits is_a is_b same = grind (arith, nat_tests, either_range, never_apart, some_sectors, place_is)
 
 -- the shape of a number is that in its range
-pub shape_is : (p : Plan) {number i : ℕ} → IsFound p.geometry p.ranges number i → shape_of p number ≡ shape_in p.version p.geometry (range_at p.ranges i) number
-shape_is p {number} at = ap (λ (r : Option HomeRange). if nat_lt number p.geometry.nodes then node_shape p.version (rank_in p.version r number) else page_shape) at.found
+pub shape_is : (p : Plan) {number i : ℕ} → IsFound p.geometry p.ranges number i →
+    shape_of p number ≡ shape_in p.version p.geometry (range_at p.ranges i) number
+shape_is p {number} at = ap (λ (r : Option HomeRange). if nat_lt number p.geometry.nodes then node_shape p.version
+    (rank_in p.version r number) else page_shape) at.found
 
 -- what has one home has as many sectors
 pub one_length : (p : Plan) (a b : ℕ) → IsPlan p → IsObject p.geometry a → IsObject p.geometry b → home_place p a ≡ home_place p b →
@@ -214,8 +223,8 @@ pub one_length : (p : Plan) (a b : ℕ) → IsPlan p → IsObject p.geometry a �
 one_length p a b fits is_a is_b same = grind (arith, nat_tests, one_range, shape_is)
 
 -- so the bytes of a home are the frames of all that have it
-pub home_held : {p : Plan} {number at n : ℕ} {s : Shape} {bytes : List ℕ} (image : Image) → IsPlan p → IsObject p.geometry number → at ≡ home_place p number →
-    s ≡ shape_of p number → n ≡ shape_length s → sectors_from image at n ≡ bytes → HoldsHome p number bytes image
+pub home_held : {p : Plan} {number at n : ℕ} {s : Shape} {bytes : List ℕ} (image : Image) → IsPlan p → IsObject p.geometry number →
+    at ≡ home_place p number → s ≡ shape_of p number → n ≡ shape_length s → sectors_from image at n ≡ bytes → HoldsHome p number bytes image
 home_held {p} {number} {at} {n} {s} {bytes} image fits is place shape size held = grind (arith, nat_tests, one_length)
 
 -- ---- the range that was found
@@ -225,7 +234,8 @@ pub record IsRangeOf (p : Plan) (number : ℕ) (r : HomeRange) : Type 0 where
   pub sector : r.sector ≤ 131072
   pub place : home_place p number ≡ place_in p.version p.geometry r number
 
-pub range_of : {p : Plan} {number : ℕ} {r : HomeRange} → IsPlan p → IsObject p.geometry number → Some r ≡ range_with p.ranges number → IsRangeOf p number r
+pub range_of : {p : Plan} {number : ℕ} {r : HomeRange} → IsPlan p → IsObject p.geometry number → Some r ≡ range_with p.ranges number →
+    IsRangeOf p number r
 range_of {p} {number} {r} fits is reported =
     let at = found number fits is in
     let same : r ≡ range_at p.ranges at.0 = same_Some _ _ (reported ∙ at.1.found) in
@@ -241,8 +251,8 @@ pub record IsPlace (p : Plan) (number place : ℕ) : Type 0 where
   pub behind : 5 ≤ place
   pub inside : place + place_length p number ≤ p.total
 
-pub place_lies : {p : Plan} {number place : ℕ} {r : HomeRange} → IsPlan p → IsObject p.geometry number → Some r ≡ range_with p.ranges number →
-    place ≡ place_in p.version p.geometry r number → IsPlace p number place
+pub place_lies : {p : Plan} {number place : ℕ} {r : HomeRange} → IsPlan p → IsObject p.geometry number →
+    Some r ≡ range_with p.ranges number → place ≡ place_in p.version p.geometry r number → IsPlace p number place
 place_lies {p} {number} {place} {r} fits is reported made = grind (arith, nat_tests, places_within, range_of)
 
 -- ---- who has a home
@@ -253,10 +263,12 @@ IsWhole s = s.bytes ≡ 512 * s.sectors
 
 module _ {g : Geometry} {r : HomeRange} {a b : ℕ} (has_a : Has g r a) (has_b : Has g r b) where
   -- in a range, what has the home of a number
-  one_block : (v : Version) → place_in v g r a ≡ place_in v g r b → (a - r.first) / frames_in_block v g b ≡ (b - r.first) / frames_in_block v g b
+  one_block : (v : Version) → place_in v g r a ≡ place_in v g r b → (a - r.first) / frames_in_block v g b
+      ≡ (b - r.first) / frames_in_block v g b
   one_block v same = grind (arith, nat_tests)
 
-  one_place : (v : Version) → (a - r.first) / frames_in_block v g b ≡ (b - r.first) / frames_in_block v g b → place_in v g r a ≡ place_in v g r b
+  one_place : (v : Version) → (a - r.first) / frames_in_block v g b ≡ (b - r.first) / frames_in_block v g b →
+      place_in v g r a ≡ place_in v g r b
   one_place v same = grind (arith, nat_tests)
 
   -- its frame lies after those before it
@@ -266,7 +278,8 @@ module _ {g : Geometry} {r : HomeRange} {a b : ℕ} (has_a : Has g r a) (has_b :
   whole_alone : (v : Version) → place_in v g r a ≡ place_in v g r b → IsWhole (shape_in v g r b) → a ≡ b
   whole_alone v same whole = grind (arith, nat_tests)
 
-module _ {p : Plan} {a b : ℕ} (fits : IsPlan p) (is_a : IsObject p.geometry a) (is_b : IsObject p.geometry b) (same : home_place p a ≡ home_place p b) where
+module _ {p : Plan} {a b : ℕ} (fits : IsPlan p) (is_a : IsObject p.geometry a) (is_b : IsObject p.geometry b)
+    (same : home_place p a ≡ home_place p b) where
   -- of two that have one home, the frame of the greater lies after that of the other
   pub frames_rise : a < b → shape_end (shape_of p a) ≤ (shape_of p b).offset
   frames_rise lt =
@@ -279,8 +292,8 @@ module _ {p : Plan} {a b : ℕ} (fits : IsPlan p) (is_a : IsObject p.geometry a)
       let both = one_range fits is_a is_b same in
       whole_alone both.1.one.has both.1.other.has p.version both.1.place (rw (shape_is p both.1.other) at whole)
 
-pub frames_beside : {p : Plan} {a b : ℕ} → IsPlan p → IsObject p.geometry a → IsObject p.geometry b → home_place p a ≡ home_place p b → (a ≡ b → ⊥) →
-    AreBeside (shape_of p a) (shape_of p b)
+pub frames_beside : {p : Plan} {a b : ℕ} → IsPlan p → IsObject p.geometry a → IsObject p.geometry b → home_place p a ≡ home_place p b →
+    (a ≡ b → ⊥) → AreBeside (shape_of p a) (shape_of p b)
 frames_beside {p} {a} {b} fits is_a is_b same differ = elim (cases_lt a b) [
   | inl lt ↦ inl (frames_rise fits is_a is_b same lt)
   | inr le ↦ inr (frames_rise fits is_b is_a (sym same) (omega (arith, le, differ)))
@@ -315,7 +328,8 @@ all_before : (k i j : ℕ) → IsSize k → i ≤ j → j / k ≡ i / k → j < 
 all_before k i j (inl one) le same = let e = rw one at same in rw one (omega (arith, e, le))
 all_before k i j (inr five) le same = let e = rw five at same in rw five (omega (arith, e, le))
 
-module _ {p : Plan} {number : ℕ} {r : HomeRange} (fits : IsPlan p) (is : IsObject p.geometry number) (reported : Some r ≡ range_with p.ranges number) where
+module _ {p : Plan} {number : ℕ} {r : HomeRange} (fits : IsPlan p) (is : IsObject p.geometry number)
+    (reported : Some r ≡ range_with p.ranges number) where
   abbrev k : ℕ
   k = frames_in_block p.version p.geometry number
 
@@ -325,7 +339,8 @@ module _ {p : Plan} {number : ℕ} {r : HomeRange} (fits : IsPlan p) (is : IsObj
       subst (λ (x : HomeRange). Has p.geometry x number) (same_Some _ _ (sym at.1.found ∙ sym reported)) at.1.has
 
   -- all that have its home are of its range
-  in_range : (a : ℕ) → IsObject p.geometry a → home_place p a ≡ home_place p number → Has p.geometry r a × ((a - r.first) / k ≡ (number - r.first) / k)
+  in_range : (a : ℕ) → IsObject p.geometry a → home_place p a ≡ home_place p number →
+      Has p.geometry r a × ((a - r.first) / k ≡ (number - r.first) / k)
   in_range a is_a same =
       let both = one_range fits is_a is same in
       let one : range_at p.ranges both.0 ≡ r = same_Some _ _ (sym both.1.other.found ∙ sym reported) in
@@ -340,7 +355,8 @@ module _ {p : Plan} {number : ℕ} {r : HomeRange} (fits : IsPlan p) (is : IsObj
       let one : r ≡ range_at p.ranges at.0 = same_Some _ _ (reported ∙ at.1.found) in
       let place = one_place has here p.version same in
       let there = found_too 0 at.0 p.ranges fits.cover at.1.within (subst (λ (x : HomeRange). Has p.geometry x a) one has) in
-      place_is p there ∙ subst (λ (x : HomeRange). place_in p.version p.geometry x a ≡ place_in p.version p.geometry x number) one place ∙ sym (place_is p at.1)
+      place_is p there ∙ subst (λ (x : HomeRange). place_in p.version p.geometry x a ≡ place_in p.version p.geometry x number) one place
+      ∙ sym (place_is p at.1)
 
   pub first_is : {first : ℕ} → first ≡ number - (number - r.first) % k → IsFirstOf p number first
   first_is {first} first_at =
@@ -348,7 +364,11 @@ module _ {p : Plan} {number : ℕ} {r : HomeRange} (fits : IsPlan p) (is : IsObj
       let size = block_size p.version p.geometry number in
       let few = start_within k i size in
       let place : first - r.first ≡ i - i % k = omega (arith, first_at, here.low, few) in
-      let has : Has p.geometry r first = record { low = omega (arith, first_at, here.low, few); high = omega (arith, first_at, here.high); kind = here.kind } in
+      let has : Has p.geometry r first = record {
+        low = omega (arith, first_at, here.low, few);
+        high = omega (arith, first_at, here.high);
+        kind = here.kind;
+      } in
       record {
         below = omega (arith, first_at);
         home = beside first has (ap (λ (m : ℕ). m / k) place ∙ start_same k i size);
@@ -377,11 +397,12 @@ module _ {p : Plan} {number : ℕ} {r : HomeRange} (fits : IsPlan p) (is : IsObj
       }
 
 -- what lies between two numbers that share a home has it too
-pub home_between : {p : Plan} {a b n : ℕ} → IsPlan p → IsObject p.geometry a → IsObject p.geometry n → n ≤ b → b ≤ a → home_place p a ≡ home_place p n →
-    home_place p b ≡ home_place p n
+pub home_between : {p : Plan} {a b n : ℕ} → IsPlan p → IsObject p.geometry a → IsObject p.geometry n → n ≤ b → b ≤ a →
+    home_place p a ≡ home_place p n → home_place p b ≡ home_place p n
 home_between {p} {a} {b} {n} fits is_a is_n low high same = grind (arith, nat_tests, one_range, place_is, found_too)
 
 -- what was written to a home, said in two ways
-pub bytes_home : (p : Plan) (number : ℕ) {at n : ℕ} {s : Shape} {bytes : List ℕ} (image : Image) → at ≡ home_place p number → s ≡ shape_of p number →
-    n ≡ shape_length s → sectors_from image at n ≡ bytes → sectors_from image (home_place p number) (place_length p number) ≡ bytes
+pub bytes_home : (p : Plan) (number : ℕ) {at n : ℕ} {s : Shape} {bytes : List ℕ} (image : Image) → at ≡ home_place p number →
+    s ≡ shape_of p number → n ≡ shape_length s → sectors_from image at n ≡ bytes →
+    sectors_from image (home_place p number) (place_length p number) ≡ bytes
 bytes_home p number {at} {n} {s} {bytes} image place shape size written = grind (arith, nat_tests)

@@ -17,7 +17,8 @@ module _ (d : Description) (hs : List ObjectHeader) (cs : List (Content Cap)) (l
       accepted = accepted d limits s old.sectors (subst (λ (q : Plan). q.total ≤ old.sectors) is inside);
       frames = frames_in hs cs;
       described = laid.described;
-      sound = subst (λ (fs : List Frame). IsSoundFrames d.geometry d.age fs) (described_once d s.frames (frames_in hs cs) s.described laid.described) s.sound;
+      sound = subst (λ (fs : List Frame). IsSoundFrames d.geometry d.age fs)
+          (described_once d s.frames (frames_in hs cs) s.described laid.described) s.sound;
       denotes = subst (λ (q : Plan). Encodes new.seen new.sectors (first_state q d.age (frames_in hs cs))) is denotes;
       crash = λ c left. subst (λ (q : Plan). Holds new.sectors c (first_saved q.geometry d.age (frames_in hs cs))) is (crash c left);
       zeros = λ c left. subst (λ (q : Plan). EndInZeros q 0 [] c) is (zeros c left);
@@ -25,21 +26,28 @@ module _ (d : Description) (hs : List ObjectHeader) (cs : List (Content Cap)) (l
     }
 
     -- what a crash leaves on the way
-    left_by : (p : Plan) → p ≡ plan_for d → (c : Image) → IsLeftWriting old (first_saved p.geometry d.age (frames_in hs cs)) c → IsLeftBuilding d old c
-    left_by p is c (inl (before, left, kept)) saved holds = inl (before, left, (kept_holds_the_same old.sectors before c saved kept).1 holds)
+    left_by : (p : Plan) → p ≡ plan_for d → (c : Image) → IsLeftWriting old (first_saved p.geometry d.age (frames_in hs cs)) c →
+        IsLeftBuilding d old c
+    left_by p is c (inl (before, left, kept)) saved holds = inl (
+      before,
+      left,
+      (kept_holds_the_same old.sectors before c saved kept).1 holds,
+    )
     left_by p is c (inr (inl none)) saved holds = absurd (none_is_held old.sectors c saved none holds)
     left_by p is c (inr (inr whole)) saved holds = inr (
       frames_in hs cs,
       laid.described,
-      subst (λ (fs : List Frame). IsSoundFrames d.geometry d.age fs) (described_once d s.frames (frames_in hs cs) s.described laid.described) s.sound,
+      subst (λ (fs : List Frame). IsSoundFrames d.geometry d.age fs) (described_once d s.frames (frames_in hs cs) s.described
+          laid.described) s.sound,
       holds_one old.sectors c saved (first_saved p.geometry d.age (frames_in hs cs)) holds whole ∙
           ap (λ (q : Plan). first_saved q.geometry d.age (frames_in hs cs)) is,
     )
 
-    pub left_writing : (p : Plan) → p ≡ plan_for d → LeavesOnly old new (λ c. IsLeftWriting old (first_saved p.geometry d.age (frames_in hs cs)) c) →
-        LeavesOnly old new (λ c. IsLeftBuilding d old c)
+    pub left_writing : (p : Plan) → p ≡ plan_for d → LeavesOnly old new (λ c. IsLeftWriting old
+        (first_saved p.geometry d.age (frames_in hs cs)) c) → LeavesOnly old new (λ c. IsLeftBuilding d old c)
     left_writing p is run =
-        leaves_weaker {old = old} {new = new} {P = λ c. IsLeftWriting old (first_saved p.geometry d.age (frames_in hs cs)) c} (λ c. IsLeftBuilding d old c)
+        leaves_weaker {old = old} {new = new} {P = λ c. IsLeftWriting old (first_saved p.geometry d.age (frames_in hs cs)) c}
+        (λ c. IsLeftBuilding d old c)
         (λ c left. left_by p is c left) run
 
 -- ---- where nothing was written

@@ -6,7 +6,8 @@ use Rattle.std.proofs.Common.{[], ◌≡◌, ◌+◌, ◌<◌, ◌≤◌, ◌∷
 abbrev none : Entry
 none = record { object = 0; slot = 0 }
 
-cons_numbered : (at : ℕ) (e : Entry) (es : List Entry) → numbered at (e ∷ es) ≡ record { object = e.object; slot = at } ∷ numbered (at + 1) es
+cons_numbered : (at : ℕ) (e : Entry) (es : List Entry) → numbered at (e ∷ es)
+    ≡ record { object = e.object; slot = at } ∷ numbered (at + 1) es
 unfolding numbered
 cons_numbered at e es = refl
 
@@ -24,18 +25,26 @@ entry_numbered : (at : ℕ) (es : List Entry) (d : Entry) (i : ℕ) → i < leng
     slice_index_or (numbered at es) i d ≡ record { object = (entry_at es i).object; slot = at + i }
 unfolding numbered
 entry_numbered at [] d i lt = absurd (omega (arith, lt))
-entry_numbered at (e ∷ es) d zero lt = let same : at ≡ at + 0 = omega arith in ap (λ (n : ℕ). let x : Entry = record { object = e.object; slot = n } in x) same
+entry_numbered at (e ∷ es) d zero lt = let same : at ≡ at + 0 = omega arith in
+    ap (λ (n : ℕ). let x : Entry = record { object = e.object; slot = n } in x) same
 entry_numbered at (e ∷ es) d (suc i) lt =
     let same : at + 1 + i ≡ at + suc i = omega arith in
-    entry_numbered (at + 1) es d i (omega (arith, lt)) ∙ ap (λ (n : ℕ). let x : Entry = record { object = (entry_at es i).object; slot = n } in x) same
+    entry_numbered (at + 1) es d i (omega (arith, lt)) ∙ ap (λ (n : ℕ). let x : Entry =
+    record { object = (entry_at es i).object; slot = n } in x) same
 
-pub directory_numbered : (g : Geometry) (es : List Entry) → IsDirectory g es → length es ≤ g.log → g.log ≤ 4096 → IsDirectory g (numbered 0 es)
+pub directory_numbered : (g : Geometry) (es : List Entry) → IsDirectory g es → length es ≤ g.log → g.log ≤ 4096 →
+    IsDirectory g (numbered 0 es)
 directory_numbered g es is few most = record {
   each = λ i d lt.
       let within : i < length es = omega (arith, lt, length_numbered 0 es) in
       let one = is.each i none within in
       rw (entry_numbered 0 es d i within)
-      (record { object = one.object; slot = omega (arith, within, few); object_fits = one.object_fits; slot_fits = omega (arith, within, few, most) });
+      (record {
+        object = one.object;
+        slot = omega (arith, within, few);
+        object_fits = one.object_fits;
+        slot_fits = omega (arith, within, few, most);
+      });
   rising = λ i lt.
       let within : i + 1 < length es = omega (arith, lt, length_numbered 0 es) in
       let one = is.rising i within in
@@ -59,4 +68,5 @@ numbered_more es found i lt so_far =
 
 pub all_numbered : (es found : List Entry) (i : ℕ) → length es ≤ i → found ++ numbered i (drop i es) ≡ numbered 0 es → found ≡ numbered 0 es
 all_numbered es found i done so_far =
-    sym (append-nil found) ∙ ap (λ (xs : List Entry). found ++ xs) (sym (none_numbered i) ∙ ap (numbered i) (sym (drop_all i es done))) ∙ so_far
+    sym (append-nil found) ∙ ap (λ (xs : List Entry). found ++ xs) (sym (none_numbered i) ∙ ap (numbered i) (sym (drop_all i es done)))
+    ∙ so_far

@@ -60,11 +60,14 @@ module _ (d : Description) (limits : IsWithinLimits d) where
     }
 
     -- the fault for a reason, which a process never is
-    pub reason_refused : AreWholeProcesses (frames_in hs cs) → (why : BadImage) (fault : BuildFault) → IsInconsistent (frames_in hs cs) why →
-        (why ≡ BadCapability → fault ≡ Target) → (why ≡ BadBank → fault ≡ Owner) → IsRefusedEarly d fault
-    reason_refused whole BadCapability fault is target owner = subst (λ (f : BuildFault). IsRefusedEarly d f) (sym (target refl)) (capability_refused is)
+    pub reason_refused : AreWholeProcesses (frames_in hs cs) → (why : BadImage) (fault : BuildFault) →
+        IsInconsistent (frames_in hs cs) why → (why ≡ BadCapability → fault ≡ Target) → (why ≡ BadBank → fault ≡ Owner) →
+        IsRefusedEarly d fault
+    reason_refused whole BadCapability fault is target owner = subst (λ (f : BuildFault). IsRefusedEarly d f) (sym (target refl))
+        (capability_refused is)
     reason_refused whole BadProcess fault is target owner = absurd (is.1 whole)
-    reason_refused whole BadBank fault is target owner = subst (λ (f : BuildFault). IsRefusedEarly d f) (sym (owner refl)) (bank_refused is.0 is.2)
+    reason_refused whole BadBank fault is target owner = subst (λ (f : BuildFault). IsRefusedEarly d f) (sym (owner refl))
+        (bank_refused is.0 is.2)
     reason_refused whole _ fault is target owner = absurd is
 
   module _ (s : IsSoundDescription d) (sectors : ℕ) where
@@ -81,7 +84,8 @@ module _ (d : Description) (limits : IsWithinLimits d) where
     accepted small = all_kept d sectors limits s.numbers s.fields target_kept owner_kept small
 
 -- a table is refused as its description is
-refuses : (ms : Members) (d : Description) (sectors : ℕ) (fault : BuildFault) → IsDescription ms d → IsRefused d sectors fault → Refuses ms sectors fault
+refuses : (ms : Members) (d : Description) (sectors : ℕ) (fault : BuildFault) → IsDescription ms d → IsRefused d sectors fault →
+    Refuses ms sectors fault
 refuses ms d sectors Shape is refused = absurd (refused.broken tt)
 refuses ms d sectors Limits is refused = (d, is, refused)
 refuses ms d sectors Number is refused = (d, is, refused)
@@ -93,8 +97,8 @@ refuses ms d sectors Failed is refused = (d, is, refused)
 refuses ms d sectors NoMemory is refused = tt
 
 -- where the last call decides
-pub failed_refused : {T : Type 0} (d : Description) (sectors : ℕ) (r : Result T BuildFault) → IsAccepted d sectors → IfErr r (λ fault. fault ≡ Failed) →
-    IfErr r (λ fault. IsRefused d sectors fault)
+pub failed_refused : {T : Type 0} (d : Description) (sectors : ℕ) (r : Result T BuildFault) → IsAccepted d sectors →
+    IfErr r (λ fault. fault ≡ Failed) → IfErr r (λ fault. IsRefused d sectors fault)
 failed_refused d sectors (Ok x) all reported = reported
 failed_refused d sectors (Err fault) all reported = subst (λ (f : BuildFault). IsRefused d sectors f) (sym reported) all
 
@@ -114,7 +118,8 @@ unread_refused ms (misread.Misshapen place) broken = shape_refuted ms place brok
 unread_refused ms misread.NoMemory broken = tt
 
 -- a description outside the limits has no size
-pub size_refused : (ms : Members) (d : Description) (fault : BuildFault) → IsDescription ms d → fault ≡ Limits → (IsWithinLimits d → ⊥) → TellsNoSize ms fault
+pub size_refused : (ms : Members) (d : Description) (fault : BuildFault) → IsDescription ms d → fault ≡ Limits → (IsWithinLimits d → ⊥) →
+    TellsNoSize ms fault
 size_refused ms d fault is limits broken = subst (λ (f : BuildFault). TellsNoSize ms f) (sym limits) (d, is, broken)
 
 -- below the limits there is the shape alone

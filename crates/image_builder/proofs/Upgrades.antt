@@ -23,15 +23,27 @@ module _ (image : Image) (size : ℕ) (s : SavedState) (is : Encodes image size 
   directory_count = length_numbered 0 s.directory ∙ is.directory.count
 
 -- it has the same state but for the places
-pub same_state : (l : NewLayout) (s : SavedState) (p : Plan) (generation entries age : ℕ) (es : List Entry) (fs : List Frame) → p ≡ new_plan l s.plan →
-    generation ≡ s.header.generation → entries ≡ s.header.entries → age ≡ s.header.age
-    → es ≡ numbered 0 s.directory → fs ≡ s.frames → state_of p (record { sequence = 0; generation = generation; entries = entries; age = age }) es fs ≡ upgraded
+pub same_state : (l : NewLayout) (s : SavedState) (p : Plan) (generation entries age : ℕ) (es : List Entry) (fs : List Frame) →
+    p ≡ new_plan l s.plan → generation ≡ s.header.generation → entries ≡ s.header.entries → age ≡ s.header.age
+    → es ≡ numbered 0 s.directory → fs ≡ s.frames → state_of p (record {
+      sequence = 0;
+      generation = generation;
+      entries = entries;
+      age = age;
+    }) es fs ≡ upgraded
     l s
 same_state l s p generation entries age es fs plan_is generation_is entries_is age_is directory_is frames_is =
     ap (λ (q : Plan). state_of q (record { sequence = 0; generation = generation; entries = entries; age = age }) es fs) plan_is
-    ∙ ap (λ (n : ℕ). state_of (new_plan l s.plan) (record { sequence = 0; generation = n; entries = entries; age = age }) es fs) generation_is
-    ∙ ap (λ (n : ℕ). state_of (new_plan l s.plan) (record { sequence = 0; generation = s.header.generation; entries = n; age = age }) es fs) entries_is
-    ∙ ap (λ (n : ℕ). state_of (new_plan l s.plan) (record { sequence = 0; generation = s.header.generation; entries = s.header.entries; age = n }) es fs)
+    ∙ ap (λ (n : ℕ). state_of (new_plan l s.plan) (record { sequence = 0; generation = n; entries = entries; age = age }) es fs)
+    generation_is
+    ∙ ap (λ (n : ℕ). state_of (new_plan l s.plan) (record { sequence = 0; generation = s.header.generation; entries = n; age = age }) es fs)
+    entries_is
+    ∙ ap (λ (n : ℕ). state_of (new_plan l s.plan) (record {
+      sequence = 0;
+      generation = s.header.generation;
+      entries = s.header.entries;
+      age = n;
+    }) es fs)
     age_is
     ∙ ap (λ (xs : List Entry). state_of (new_plan l s.plan) (record s.header { sequence = 0 }) xs fs) directory_is
     ∙ ap (λ (xs : List Frame). state_of (new_plan l s.plan) (record s.header { sequence = 0 }) (numbered 0 s.directory) xs) frames_is
@@ -40,7 +52,8 @@ same_state l s p generation entries age es fs plan_is generation_is entries_is a
 
 pub counted : (l : NewLayout) (result : Result ℕ UpgradeFault) (old before new : Disk) (s : SavedState) → Encodes old.seen old.sectors s →
     IsSoundSaved s.plan.geometry (kept_of s) → IfOk result (λ total. total ≡ (new_plan l s.plan).total)
-    → OnOk result (Encodes new.seen new.sectors (upgraded l s)) → OnOk result ((c : Image) → new.may_leave c → Encodes c new.sectors (upgraded l s)) →
+    → OnOk result (Encodes new.seen new.sectors (upgraded l s)) → OnOk result
+    ((c : Image) → new.may_leave c → Encodes c new.sectors (upgraded l s)) →
     OnOk result ((c : Image) → new.may_leave c → EndInZeros (new_plan l s.plan) s.header.generation (numbered 0 s.directory) c) →
     OnOk result (Elsewhere 0 (new_plan l s.plan).total before.seen new.seen)
     → IfOk result (λ total. (done : Upgrades l old before new) × (total ≡ (new_plan l done.state.plan).total))
@@ -49,10 +62,10 @@ counted l (Ok total) old before new s was sound reported encodes crash zeros els
 counted l (Err fault) old before new s was sound reported encodes crash zeros elsewhere = tt
 
 -- and of why it isn't written
-pub not_upgraded : {D : Type 0} (l : NewLayout) (result : Result ℕ UpgradeFault) (disk : D → Disk) (old : D) (sectors : ℕ) (s : SavedState) →
-    Encodes (disk old).seen (disk old).sectors s → IsSoundSaved s.plan.geometry (kept_of s)
-    → (IsErrOf result fault.Small → sectors < (new_plan l s.plan).total) → IfErr result (λ why. (opening : OpenFault) → why ≢ fault.Old opening) →
-    IfErr result (λ why. IsNotUpgraded l disk old sectors why)
+pub not_upgraded : {D : Type 0} (l : NewLayout) (result : Result ℕ UpgradeFault) (disk : D → Disk) (old : D) (sectors : ℕ) (s : SavedState)
+    → Encodes (disk old).seen (disk old).sectors s → IsSoundSaved s.plan.geometry (kept_of s)
+    → (IsErrOf result fault.Small → sectors < (new_plan l s.plan).total) → IfErr result
+    (λ why. (opening : OpenFault) → why ≢ fault.Old opening) → IfErr result (λ why. IsNotUpgraded l disk old sectors why)
 not_upgraded l (Ok total) disk old sectors s was sound small opened = tt
 not_upgraded l (Err (fault.Old why)) disk old sectors s was sound small opened = absurd (opened why refl)
 not_upgraded l (Err fault.Small) disk old sectors s was sound small opened = (s, was, sound, small refl)
@@ -62,8 +75,8 @@ not_upgraded l (Err fault.NoMemory) disk old sectors s was sound small opened = 
 -- ---- what is done to the old device
 
 -- it was opened, and no call of it failed
-pub read_where_opened : (result : Result ℕ UpgradeFault) (old new : Disk) → IfErr result (λ why. (opening : OpenFault) → why ≢ fault.Old opening) →
-    OnlyReads old new → new.failures ≡ old.failures
+pub read_where_opened : (result : Result ℕ UpgradeFault) (old new : Disk) →
+    IfErr result (λ why. (opening : OpenFault) → why ≢ fault.Old opening) → OnlyReads old new → new.failures ≡ old.failures
     → IsOnlyRead old new (IsErrOf result (fault.Old opening.Failed))
 read_where_opened result old new opened only_reads same = record {
   only_reads = only_reads;
@@ -71,7 +84,8 @@ read_where_opened result old new opened only_reads same = record {
   cause = (λ reported. absurd (never result opened reported), λ rose. absurd (omega (arith, same, rose)));
 }
   where
-    never : (r : Result ℕ UpgradeFault) → IfErr r (λ why. (opening : OpenFault) → why ≢ fault.Old opening) → IsErrOf r (fault.Old opening.Failed) → ⊥
+    never : (r : Result ℕ UpgradeFault) → IfErr r (λ why. (opening : OpenFault) → why ≢ fault.Old opening) →
+        IsErrOf r (fault.Old opening.Failed) → ⊥
     never (Ok total) other reported = cc
     never (Err why) other reported = let is : why ≡ fault.Old opening.Failed = cc in other opening.Failed is
 
@@ -81,7 +95,8 @@ read_where_opened result old new opened only_reads same = record {
 pub seen_encodes : (old new : Disk) (s : SavedState) → ((c : Image) → new.may_leave c → Encodes c new.sectors s) → new.may_leave new.seen →
     Agrees new.seen old.seen → new.sectors ≡ old.sectors → Encodes old.seen old.sectors s
 seen_encodes old new s leaves left same size =
-    subst (λ (n : ℕ). Encodes old.seen n s) size (subst (λ (c : Image). Encodes c new.sectors s) (agrees_is new.seen old.seen same) (leaves new.seen left))
+    subst (λ (n : ℕ). Encodes old.seen n s) size (subst (λ (c : Image). Encodes c new.sectors s) (agrees_is new.seen old.seen same)
+    (leaves new.seen left))
 
 left_by : (old before : Disk) (s : SavedState) → Encodes old.seen old.sectors s → (c : Image) → IsLeftWriting before (kept_of s) c →
     IsLeftUpgrading old before c

@@ -15,11 +15,12 @@ added old new (f ∷ fs) adds = grind (arith, nat_tests, added adds.0 new fs add
 -- and after the header of an object
 pub object_added : (old begun new name : List ℕ) (fs : List Field) → begun ≡ old ++ begin_line name → Adds begun fs new →
     new ≡ old ++ (begin_line name ++ field_lines fs)
-object_added old begun new name fs header adds = added begun new fs adds ∙ ap (λ (text : List ℕ). text ++ field_lines fs) header ∙ append_assoc old _ _
+object_added old begun new name fs header adds = added begun new fs adds ∙ ap (λ (text : List ℕ). text ++ field_lines fs) header
+    ∙ append_assoc old _ _
 
 -- a value that was written is another by name
-pub same_list : {A : Type 0} (old new key : List ℕ) (f : A → List ℕ) (xs ys : List A) → new ≡ old ++ field_line (key, list_unless_empty f xs) → xs ≡ ys →
-    new ≡ old ++ field_line (key, list_unless_empty f ys)
+pub same_list : {A : Type 0} (old new key : List ℕ) (f : A → List ℕ) (xs ys : List A) →
+    new ≡ old ++ field_line (key, list_unless_empty f xs) → xs ≡ ys → new ≡ old ++ field_line (key, list_unless_empty f ys)
 same_list {A = A} old new key f xs ys made is = made ∙ ap (λ (zs : List A). old ++ field_line (key, list_unless_empty f zs)) is
 
 pub same_value : {A : Type 0} (old new key : List ℕ) (f : A → List ℕ) (x y : A) → new ≡ old ++ field_line (key, Some (f x)) → y ≡ x →
@@ -31,7 +32,8 @@ pub joined_none : {A : Type 0} (f : A → List ℕ) (sep old : List ℕ) (xs : L
 joined_none f sep old [] none = sym (append-nil old)
 joined_none f sep old (x ∷ xs) none = absurd (omega (arith, none))
 
-pub joined_more : {A : Type 0} (f : A → List ℕ) (sep old mid new : List ℕ) (x : A) (xs others : List A) → xs ≡ x ∷ others → mid ≡ old ++ f x →
-    new ≡ mid ++ flat_map (λ y. sep ++ f y) others → new ≡ old ++ join_by f sep xs
+pub joined_more : {A : Type 0} (f : A → List ℕ) (sep old mid new : List ℕ) (x : A) (xs others : List A) → xs ≡ x ∷ others →
+    mid ≡ old ++ f x → new ≡ mid ++ flat_map (λ y. sep ++ f y) others → new ≡ old ++ join_by f sep xs
 joined_more f sep old mid new x xs others is one rest =
-    rw is (rest ∙ ap (λ (text : List ℕ). text ++ flat_map (λ y. sep ++ f y) others) one ∙ append_assoc old (f x) (flat_map (λ y. sep ++ f y) others))
+    rw is (rest ∙ ap (λ (text : List ℕ). text ++ flat_map (λ y. sep ++ f y) others) one
+    ∙ append_assoc old (f x) (flat_map (λ y. sep ++ f y) others))

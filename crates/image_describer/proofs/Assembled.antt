@@ -56,20 +56,23 @@ module _ (slots : List Capability) (es : List SlotEntry) (names : NamesSlots slo
   pub slots_brief : AreBriefSlots es
   slots_brief = (
     names.rising,
-    all_from (λ (s : SlotEntry). s.capability ≢ Some Void) es (λ s there is. slot_some s there (ap (λ (o : Option Capability). unwrap_or o Void) is)),
+    all_from (λ (s : SlotEntry). s.capability ≢ Some Void) es (λ s there is. slot_some s there
+        (ap (λ (o : Option Capability). unwrap_or o Void) is)),
   )
 
 module _ (words : List ℕ) (es : List WordEntry) (names : NamesWords words es) (count : length words ≡ 512) where
   pub words_are : AreWords es
   words_are = record {
-    places = All-weaker (λ (w : WordEntry). w.index < length words) (λ (w : WordEntry). w.index < 512) (λ w under. omega (arith, under, count)) es names.within;
+    places = All-weaker (λ (w : WordEntry). w.index < length words) (λ (w : WordEntry). w.index < 512)
+        (λ w under. omega (arith, under, count)) es names.within;
     distinct = rising_distinct (map (λ w. w.index) es) names.rising;
   }
 
   pub words_held : HasNamedWords es words
   words_held = record {
     count = count;
-    each = λ i under. slice_get-get_or words i 0 (omega (arith, under, count)) ∙ ap (λ (w : ℕ). let x : Option ℕ = Some w in x) (sym (names.each i));
+    each = λ i under. slice_get-get_or words i 0 (omega (arith, under, count))
+        ∙ ap (λ (w : ℕ). let x : Option ℕ = Some w in x) (sym (names.each i));
   }
 
 -- What the entries of a sound world say.
@@ -77,7 +80,8 @@ module _ (g : Geometry) (w : World) (sound : IsSound g w) where
   kind_of : ℕ → Role
   kind_of n = role_of (content_at w.objects n)
 
-  content_reported : (n owner : ℕ) (c : Content Capability) → object_at w.objects n ≡ record { owner = owner; content = c } → content_at w.objects n ≡ c
+  content_reported : (n owner : ℕ) (c : Content Capability) → object_at w.objects n ≡ record { owner = owner; content = c } →
+      content_at w.objects n ≡ c
   content_reported n owner c is = ap (λ (o : Object). o.content) is
 
   kind_reported : (n owner : ℕ) (c : Content Capability) → object_at w.objects n ≡ record { owner = owner; content = c } → IsOfKind g n c
@@ -90,13 +94,14 @@ module _ (g : Geometry) (w : World) (sound : IsSound g w) where
       IsWellFormed (slice_index_or (slots_in c) i Void)
   slots_reported n owner c is i = rw (← content_reported n owner c is) (sound.slots n i).0
 
-  register_reported : (n owner : ℕ) (registers : List Capability) → object_at w.objects n ≡ record { owner = owner; content = content.Annex registers } →
-      (i : ℕ) → i < 1 → slice_index_or registers i Void ≡ Void
+  register_reported : (n owner : ℕ) (registers : List Capability) → object_at w.objects n
+      ≡ record { owner = owner; content = content.Annex registers } → (i : ℕ) → i < 1 → slice_index_or registers i Void ≡ Void
   register_reported n owner registers is i under =
       let first : 0 ≡ i = omega (arith, under) in
       let annex : IsTrue (is_annex (content_at w.objects n)) = ap is_annex (content_reported n owner _ is) in
       subst (λ (k : ℕ). slice_index_or registers k Void ≡ Void) first
-      (subst (λ (d : Content Capability). slice_index_or (slots_in d) 0 Void ≡ Void) (content_reported n owner _ is) (sound.register_0 n annex))
+      (subst (λ (d : Content Capability). slice_index_or (slots_in d) 0 Void ≡ Void) (content_reported n owner _ is)
+      (sound.register_0 n annex))
 
   plain_reported : (n : ℕ) (o : Object) → object_at w.objects n ≡ o → frame_at (plain_frames w.objects) n ≡ plain_frame o
   unfolding plain_frames
@@ -133,8 +138,9 @@ module _ (g : Geometry) (w : World) (sound : IsSound g w) where
     plain_numbers = map (λ n. n.number) d.nodes.items
 
     -- what holds of each number of a kind holds of all numbers
-    all_nodes : (P : ℕ → Type 0) → ((b : BankEntry) → Contains d.banks.items b → P b.number) → ((p : ProcessEntry) → Contains d.processes.items p → P p.root)
-        → ((p : ProcessEntry) → Contains d.processes.items p → P p.annex) → ((n : NodeEntry) → Contains d.nodes.items n → P n.number) → All P (node_numbers d)
+    all_nodes : (P : ℕ → Type 0) → ((b : BankEntry) → Contains d.banks.items b → P b.number) →
+        ((p : ProcessEntry) → Contains d.processes.items p → P p.root) → ((p : ProcessEntry) → Contains d.processes.items p → P p.annex) →
+        ((n : NodeEntry) → Contains d.nodes.items n → P n.number) → All P (node_numbers d)
     all_nodes P bank root annex node =
         All-append P (map (λ b. b.number) d.banks.items ++ map (λ p. p.root) d.processes.items ++ map (λ p. p.annex) d.processes.items)
         (map (λ n. n.number) d.nodes.items)
@@ -173,8 +179,10 @@ module _ (g : Geometry) (w : World) (sound : IsSound g w) where
     process_is p there = ap is_root (content_reported p.root p.owner _ (process_reported p there).0.4)
 
     annexes_distinct : AreDistinct (map (λ p. p.annex) d.processes.items)
-    annexes_distinct = distinct_other (λ p. p.root) (λ p. p.annex) d.processes.items (rising_distinct (map (λ p. p.root) d.processes.items) processes.rising)
-        (λ p q one other same. sound.one_root p.root q.root (process_is p one) (process_is q other) (annex_is p one ∙ same ∙ sym (annex_is q other)))
+    annexes_distinct = distinct_other (λ p. p.root) (λ p. p.annex) d.processes.items
+        (rising_distinct (map (λ p. p.root) d.processes.items) processes.rising)
+        (λ p q one other same. sound.one_root p.root q.root (process_is p one) (process_is q other)
+        (annex_is p one ∙ same ∙ sym (annex_is q other)))
 
     -- numbers whose kinds aren't those of a second list
     other_kind : (r s : Role) (n : ℕ) → r ≢ s → kind_of n ≡ r → kind_of n ≡ s → ⊥
@@ -195,12 +203,17 @@ module _ (g : Geometry) (w : World) (sound : IsSound g w) where
         (all_from (λ (n : NodeEntry). kind_of n.number ≡ role.Node) _ node_kind) in
         let paged : All (λ n. kind_of n ≡ role.Page) P = All-map (λ n. kind_of n ≡ role.Page) (λ p. p.number) d.pages.items
         (all_from (λ (p : PageEntry). kind_of p.number ≡ role.Page) _ page_kind) in
-        let no_banks : (s : Role) → role.Bank ≢ s → All (λ n. kind_of n ≡ s → ⊥) B = λ s differ. All-map (λ n. kind_of n ≡ s → ⊥) (λ b. b.number) d.banks.items
-        (all_from (λ (b : BankEntry). kind_of b.number ≡ s → ⊥) _ (λ b there is. other_kind role.Bank s b.number differ (bank_kind b there) is)) in
-        let no_roots : (s : Role) → role.Root ≢ s → All (λ n. kind_of n ≡ s → ⊥) R = λ s differ. All-map (λ n. kind_of n ≡ s → ⊥) (λ p. p.root)
+        let no_banks : (s : Role) → role.Bank ≢ s → All (λ n. kind_of n ≡ s → ⊥) B =
+        λ s differ. All-map (λ n. kind_of n ≡ s → ⊥) (λ b. b.number) d.banks.items
+        (all_from (λ (b : BankEntry). kind_of b.number ≡ s → ⊥) _ (λ b there is. other_kind role.Bank s b.number differ (bank_kind b there)
+        is)) in
+        let no_roots : (s : Role) → role.Root ≢ s → All (λ n. kind_of n ≡ s → ⊥) R =
+        λ s differ. All-map (λ n. kind_of n ≡ s → ⊥) (λ p. p.root)
         d.processes.items
-        (all_from (λ (p : ProcessEntry). kind_of p.root ≡ s → ⊥) _ (λ p there is. other_kind role.Root s p.root differ (root_kind p there) is)) in
-        let no_annexes : (s : Role) → role.Annex ≢ s → All (λ n. kind_of n ≡ s → ⊥) A = λ s differ. All-map (λ n. kind_of n ≡ s → ⊥) (λ p. p.annex)
+        (all_from (λ (p : ProcessEntry). kind_of p.root ≡ s → ⊥) _ (λ p there is. other_kind role.Root s p.root differ (root_kind p there)
+        is)) in
+        let no_annexes : (s : Role) → role.Annex ≢ s → All (λ n. kind_of n ≡ s → ⊥) A =
+        λ s differ. All-map (λ n. kind_of n ≡ s → ⊥) (λ p. p.annex)
         d.processes.items (all_from (λ (p : ProcessEntry). kind_of p.annex ≡ s → ⊥) _
         (λ p there is. other_kind role.Annex s p.annex differ (annex_kind p there) is)) in
         let none_page : All (λ n. kind_of n ≡ role.Page → ⊥) (node_numbers d) = all_nodes (λ n. kind_of n ≡ role.Page → ⊥)
@@ -208,17 +221,22 @@ module _ (g : Geometry) (w : World) (sound : IsSound g w) where
         (λ p there is. other_kind role.Root role.Page p.root (λ e. cc) (root_kind p there) is)
         (λ p there is. other_kind role.Annex role.Page p.annex (λ e. cc) (annex_kind p there) is)
         (λ n there is. other_kind role.Node role.Page n.number (λ e. cc) (node_kind n there) is) in
-        distinct_both _ P (distinct_both _ N (distinct_both _ A (distinct_both B R (rising_distinct B banks.rising) (rising_distinct R processes.rising)
-        (apart_by (λ n. kind_of n ≡ role.Root) B R (no_banks role.Root (λ e. cc)) roots)) annexes_distinct (apart_by (λ n. kind_of n ≡ role.Annex) _ A
+        distinct_both _ P (distinct_both _ N (distinct_both _ A (distinct_both B R (rising_distinct B banks.rising)
+        (rising_distinct R processes.rising)
+        (apart_by (λ n. kind_of n ≡ role.Root) B R (no_banks role.Root (λ e. cc)) roots)) annexes_distinct
+        (apart_by (λ n. kind_of n ≡ role.Annex) _ A
         (All-append (λ n. kind_of n ≡ role.Annex → ⊥) B R (no_banks role.Annex (λ e. cc)) (no_roots role.Annex (λ e. cc))) annexes))
         (rising_distinct N nodes.rising) (apart_by (λ n. kind_of n ≡ role.Node) _ N (All-append (λ n. kind_of n ≡ role.Node → ⊥) (B ++ R) A
-        (All-append (λ n. kind_of n ≡ role.Node → ⊥) B R (no_banks role.Node (λ e. cc)) (no_roots role.Node (λ e. cc))) (no_annexes role.Node (λ e. cc)))
+        (All-append (λ n. kind_of n ≡ role.Node → ⊥) B R (no_banks role.Node (λ e. cc)) (no_roots role.Node (λ e. cc)))
+        (no_annexes role.Node (λ e. cc)))
         plain)) (rising_distinct P pages.rising) (apart_by (λ n. kind_of n ≡ role.Page) _ P none_page paged)
 
     numbers_reported : HasNumbers d
     numbers_reported = record {
-      nodes = rw geometry (all_nodes (λ n. n < g.nodes) (λ b there. kind_reported b.number b.owner (content.Bank b.limit) (bank_reported b there))
-          (λ p there. kind_reported p.root p.owner _ (process_reported p there).0.4) (λ p there. kind_reported p.annex p.owner _ (process_reported p there).1.2)
+      nodes = rw geometry (all_nodes (λ n. n < g.nodes) (λ b there. kind_reported b.number b.owner (content.Bank b.limit)
+          (bank_reported b there))
+          (λ p there. kind_reported p.root p.owner _ (process_reported p there).0.4)
+          (λ p there. kind_reported p.annex p.owner _ (process_reported p there).1.2)
           (λ n there. kind_reported n.number n.owner _ (node_reported n there).2));
       pages = rw geometry (All-map (λ n. (g.nodes ≤ n) × (n < object_count g)) (λ p. p.number) d.pages.items
           (all_from (λ (p : PageEntry). (g.nodes ≤ p.number) × (p.number < object_count g)) d.pages.items
@@ -231,7 +249,8 @@ module _ (g : Geometry) (w : World) (sound : IsSound g w) where
     space_reported p there =
         let root = (process_reported p there).0 in
         let held : MayBeHeld w.objects root.1 × IsSpace root.1 =
-        subst (λ (c : Content Capability). MayBeHeld w.objects (root_in c).space × IsSpace (root_in c).space) (content_reported p.root p.owner _ root.4)
+        subst (λ (c : Content Capability). MayBeHeld w.objects (root_in c).space × IsSpace (root_in c).space)
+        (content_reported p.root p.owner _ root.4)
         (sound.spaces p.root) in
         subst IsSpaceEntry (sym root.3) (held.0.0, held.1)
 
@@ -264,16 +283,21 @@ module _ (g : Geometry) (w : World) (sound : IsSound g w) where
     unfolding bank_numbers root_numbers annex_numbers plain_numbers
     in_nodes n (inl bank) = Contains-append_left _ _ n (Contains-append_left _ _ n (Contains-append_left _ _ n bank))
     in_nodes n (inr (inl root)) =
-        Contains-append_left (map (λ b. b.number) d.banks.items ++ map (λ p. p.root) d.processes.items ++ map (λ p. p.annex) d.processes.items)
+        Contains-append_left (map (λ b. b.number) d.banks.items ++ map (λ p. p.root) d.processes.items ++ map (λ p. p.annex)
+        d.processes.items)
         (map (λ n. n.number) d.nodes.items) n
-        (Contains-append_left (map (λ b. b.number) d.banks.items ++ map (λ p. p.root) d.processes.items) (map (λ p. p.annex) d.processes.items) n
+        (Contains-append_left (map (λ b. b.number) d.banks.items ++ map (λ p. p.root) d.processes.items)
+        (map (λ p. p.annex) d.processes.items) n
         (Contains-append_right (map (λ b. b.number) d.banks.items) (map (λ p. p.root) d.processes.items) n root))
     in_nodes n (inr (inr (inl annex))) =
-        Contains-append_left (map (λ b. b.number) d.banks.items ++ map (λ p. p.root) d.processes.items ++ map (λ p. p.annex) d.processes.items)
+        Contains-append_left (map (λ b. b.number) d.banks.items ++ map (λ p. p.root) d.processes.items ++ map (λ p. p.annex)
+        d.processes.items)
         (map (λ n. n.number) d.nodes.items) n
-        (Contains-append_right (map (λ b. b.number) d.banks.items ++ map (λ p. p.root) d.processes.items) (map (λ p. p.annex) d.processes.items) n annex)
+        (Contains-append_right (map (λ b. b.number) d.banks.items ++ map (λ p. p.root) d.processes.items)
+        (map (λ p. p.annex) d.processes.items) n annex)
     in_nodes n (inr (inr (inr node))) =
-        Contains-append_right (map (λ b. b.number) d.banks.items ++ map (λ p. p.root) d.processes.items ++ map (λ p. p.annex) d.processes.items)
+        Contains-append_right (map (λ b. b.number) d.banks.items ++ map (λ p. p.root) d.processes.items ++ map (λ p. p.annex)
+        d.processes.items)
         (map (λ n. n.number) d.nodes.items) n node
 
     named_node : (n : ℕ) → Contains (node_numbers d) n → Contains (node_numbers d ++ page_numbers d) n
@@ -294,13 +318,16 @@ module _ (g : Geometry) (w : World) (sound : IsSound g w) where
         root_role other is = absurd cc
 
     -- what isn't named is free
-    other_free : (n : ℕ) (c : Content Capability) → content_at w.objects n ≡ c → (Contains (node_numbers d ++ page_numbers d) n → ⊥) → c ≡ content.Free
+    other_free : (n : ℕ) (c : Content Capability) → content_at w.objects n ≡ c → (Contains (node_numbers d ++ page_numbers d) n → ⊥) →
+        c ≡ content.Free
     unfolding bank_numbers root_numbers plain_numbers
     other_free n content.Free is none = refl
-    other_free n (content.Page words) is none = absurd (none (Contains-append_right (node_numbers d) (page_numbers d) n (pages.whole n (ap role_of is))))
+    other_free n (content.Page words) is none = absurd (none (Contains-append_right (node_numbers d) (page_numbers d) n
+        (pages.whole n (ap role_of is))))
     other_free n (content.Node slots) is none = absurd (none (named_node n (in_nodes n (inr (inr (inr (nodes.whole n (ap role_of is))))))))
     other_free n (content.Root r) is none = absurd (none (named_node n (in_nodes n (inr (inl (processes.whole n (ap role_of is)))))))
-    other_free n (content.Annex registers) is none = absurd (none (named_node n (in_nodes n (inr (inr (inl (annex_named n registers is)))))))
+    other_free n (content.Annex registers) is none = absurd (none (named_node n
+        (in_nodes n (inr (inr (inl (annex_named n registers is)))))))
     other_free n (content.Bank limit) is none = absurd (none (named_node n (in_nodes n (inl (banks.whole n (ap role_of is))))))
 
     free_object : (o : Object) → o.content ≡ content.Free → o.owner ≡ 0 → o ≡ free
@@ -317,17 +344,25 @@ module _ (g : Geometry) (w : World) (sound : IsSound g w) where
     unfolding plain_frames
     frames_reported = record {
       count = length-map w.objects plain_frame ∙ sound.size ∙ ap object_count (sym geometry);
-      banks = all_from (λ (b : BankEntry). frame_at (plain_frames w.objects) b.number ≡ first_frame b.owner (content.Bank b.limit)) d.banks.items (λ b there.
+      banks = all_from (λ (b : BankEntry). frame_at (plain_frames w.objects) b.number ≡ first_frame b.owner (content.Bank b.limit))
+          d.banks.items (λ b there.
           plain_reported b.number _ (bank_reported b there));
       roots = all_from (λ (p : ProcessEntry). IsDescribedRoot p (frame_at (plain_frames w.objects) p.root)) d.processes.items (λ p there.
           let root = (process_reported p there).0 in
           (root.0, root.1, root.2, root.3, plain_reported p.root _ root.4));
-      annexes = all_from (λ (p : ProcessEntry). IsDescribedAnnex p (frame_at (plain_frames w.objects) p.annex)) d.processes.items (λ p there.
-          let annex = (process_reported p there).1 in
-          (map fresh_cap annex.0, slots_held annex.0 p.registers.items annex.1 (shape_reported p.annex p.owner _ annex.2), plain_reported p.annex _ annex.2));
+      annexes = all_from (λ (p : ProcessEntry). IsDescribedAnnex p (frame_at (plain_frames w.objects) p.annex)) d.processes.items
+          (λ p there.
+          let annex = (process_reported p there).1 in (
+            map fresh_cap annex.0,
+            slots_held annex.0 p.registers.items annex.1 (shape_reported p.annex p.owner _ annex.2),
+            plain_reported p.annex _ annex.2,
+          ));
       nodes = all_from (λ (n : NodeEntry). IsDescribedNode n (frame_at (plain_frames w.objects) n.number)) d.nodes.items (λ n there.
-          let node = node_reported n there in
-          (map fresh_cap node.0, slots_held node.0 n.slots.items node.1 (shape_reported n.number n.owner _ node.2), plain_reported n.number _ node.2));
+          let node = node_reported n there in (
+            map fresh_cap node.0,
+            slots_held node.0 n.slots.items node.1 (shape_reported n.number n.owner _ node.2),
+            plain_reported n.number _ node.2,
+          ));
       pages = all_from (λ (p : PageEntry). IsDescribedPage p (frame_at (plain_frames w.objects) p.number)) d.pages.items (λ p there.
           let page = page_reported p there in
           (page.0, words_held page.0 p.words.items page.1 (shape_reported p.number p.owner _ page.2), plain_reported p.number _ page.2));
@@ -345,6 +380,8 @@ module _ (g : Geometry) (w : World) (sound : IsSound g w) where
       pages = pages.rising;
       registers = all_from (λ (p : ProcessEntry). AreBriefSlots p.registers.items) _
           (λ p there. let annex = (process_reported p there).1 in slots_brief _ _ annex.1);
-      slots = all_from (λ (n : NodeEntry). AreBriefSlots n.slots.items) _ (λ n there. let node = node_reported n there in slots_brief _ _ node.1);
-      words = all_from (λ (p : PageEntry). AreBriefWords p.words.items) _ (λ p there. let page = page_reported p there in (page.1.rising, page.1.some));
+      slots = all_from (λ (n : NodeEntry). AreBriefSlots n.slots.items) _ (λ n there. let node = node_reported n there in
+          slots_brief _ _ node.1);
+      words = all_from (λ (p : PageEntry). AreBriefWords p.words.items) _ (λ p there. let page = page_reported p there in
+          (page.1.rising, page.1.some));
     }

@@ -27,12 +27,14 @@ are_known keys [] = true
 are_known keys (p ∷ ps) = list_any (same_key p.0) keys && are_known keys ps
 
 -- a key that is none of those keeps what it had
-pub chain_other : (ps : List Pair) (k : List ℕ) (old new : Members) → Chain ps old new → IsTrue (is_apart k ps) → get_member k new ≡ get_member k old
+pub chain_other : (ps : List Pair) (k : List ℕ) (old new : Members) → Chain ps old new → IsTrue (is_apart k ps) →
+    get_member k new ≡ get_member k old
 chain_other [] k old new chain apart = ap (get_member k) chain
 chain_other (p ∷ ps) k old new chain apart = grind (arith, nat_tests, chain_other ps k chain.0 new chain.2, right, falsely, left)
 
 -- a key of those isn't the first
-apart_at : (k : List ℕ) (ps : List Pair) (i : ℕ) (d : Pair) → IsTrue (is_apart k ps) → i < length ps → same_key (slice_index_or ps i d).0 k ≡ false
+apart_at : (k : List ℕ) (ps : List Pair) (i : ℕ) (d : Pair) → IsTrue (is_apart k ps) → i < length ps →
+    same_key (slice_index_or ps i d).0 k ≡ false
 apart_at k [] i d apart inside = absurd (omega (arith, inside))
 apart_at k (p ∷ ps) zero d apart inside = falsely _ (left _ _ (right _ _ apart))
 apart_at k (p ∷ ps) (suc i) d apart inside = apart_at k ps i d (right _ _ (right _ _ apart)) (omega (arith, inside))
@@ -42,15 +44,17 @@ pub chain_at : (ps : List Pair) (i : ℕ) (d : Pair) (old new : Members) → Cha
     get_member (slice_index_or ps i d).0 old ≡ None
     → get_member (slice_index_or ps i d).0 new ≡ (slice_index_or ps i d).1
 chain_at [] i d old new chain apart inside none = absurd (omega (arith, inside))
-chain_at (p ∷ ps) zero d old new chain apart inside none = chain_other ps p.0 chain.0 new chain.2 (left (is_apart p.0 ps) (are_apart ps) apart) ∙
+chain_at (p ∷ ps) zero d old new chain apart inside none = chain_other ps p.0 chain.0 new chain.2
+    (left (is_apart p.0 ps) (are_apart ps) apart) ∙
     chain.1.found none
 chain_at (p ∷ ps) (suc i) d old new chain apart inside none =
     grind (arith, nat_tests, chain_at ps i d chain.0 new chain.2 (right (is_apart p.0 ps) (are_apart ps) apart), right, apart_at, left)
 
-pub chain_only : (ps : List Pair) (keys : List (List ℕ)) (old new : Members) → Chain ps old new → IsTrue (are_known keys ps) → IsTrue (has_only keys old) →
-    IsTrue (has_only keys new)
+pub chain_only : (ps : List Pair) (keys : List (List ℕ)) (old new : Members) → Chain ps old new → IsTrue (are_known keys ps) →
+    IsTrue (has_only keys old) → IsTrue (has_only keys new)
 chain_only [] keys old new chain known all = subst (λ (ms : Members). IsTrue (has_only keys ms)) (sym chain) all
-chain_only (p ∷ ps) keys old new chain known all = chain_only ps keys _ new chain.2 (right _ _ known) (chain.1.only keys (left _ _ known) all)
+chain_only (p ∷ ps) keys old new chain known all = chain_only ps keys _ new chain.2 (right _ _ known)
+    (chain.1.only keys (left _ _ known) all)
 
 -- a chain after a chain
 pub chain_append : (ps qs : List Pair) (old mid new : Members) → Chain ps old mid → Chain qs mid new → Chain (ps ++ qs) old new

@@ -33,7 +33,8 @@ all_new [] = tt
 all_new (p ∷ ps) = (refl, all_new ps)
 
 -- keys that are apart from one that is put are still new
-new_kept : (ps : List Pair) (k : List ℕ) (o : Option Data) (old new : Members) → Puts k o old new → IsTrue (is_apart k ps) → AreNew ps old → AreNew ps new
+new_kept : (ps : List Pair) (k : List ℕ) (o : Option Data) (old new : Members) → Puts k o old new → IsTrue (is_apart k ps) → AreNew ps old →
+    AreNew ps new
 new_kept [] k o old new puts apart fresh = tt
 new_kept (p ∷ ps) k o old new puts apart fresh = grind (arith, nat_tests, new_kept ps k o old new puts, right, falsely, left)
 
@@ -41,10 +42,12 @@ put_new : (k : List ℕ) (d : Data) (ns : Nodes) → get_member k (close ns) ≡
 unfolding along_dots at_key
 put_new k d ns none = rw (no_node k ns none)
 
-filled_at : (k : List ℕ) (o : Option Data) (ps : List Pair) (ns : Nodes) → IfSome o (λ d. is_section d ≡ false) → get_member k (close ns) ≡ None
-    → ((mid : Nodes) → Puts k o (close ns) (close mid) → (new : Nodes) × (fill_pairs (keyed ps) mid ≡ Some new) × Chain ps (close mid) (close new))
+filled_at : (k : List ℕ) (o : Option Data) (ps : List Pair) (ns : Nodes) → IfSome o (λ d. is_section d ≡ false) →
+    get_member k (close ns) ≡ None → ((mid : Nodes) → Puts k o (close ns) (close mid) →
+    (new : Nodes) × (fill_pairs (keyed ps) mid ≡ Some new) × Chain ps (close mid) (close new))
     → (new : Nodes) × (fill_pairs (member_or k o (keyed ps)) ns ≡ Some new) × Chain ((k, o) ∷ ps) (close ns) (close new)
-filled_at k None ps ns pair none rest = let (new, made, chain) = rest ns (puts_none k (close ns)) in (new, made, (close ns, puts_none k (close ns), chain))
+filled_at k None ps ns pair none rest = let (new, made, chain) = rest ns (puts_none k (close ns)) in
+    (new, made, (close ns, puts_none k (close ns), chain))
 filled_at k (Some d) ps ns pair none rest =
     let mid = insert k (value d) ns in
     let puts = puts_inserted k (value d) ns in
@@ -74,8 +77,8 @@ the_false true is = absurd cc
 no_section : (key : Key) (d : Data) → is_section d ≡ false → section key d ≡ []
 no_section key d is = grind (arith, nat_tests, the_false)
 
-no_section_at : (path : List (List ℕ)) (k : List ℕ) (o : Option Data) (ms : Members) → IfSome o (λ d. is_section d ≡ false) → sections path ms ≡ [] →
-    sections path (member_or k o ms) ≡ []
+no_section_at : (path : List (List ℕ)) (k : List ℕ) (o : Option Data) (ms : Members) → IfSome o (λ d. is_section d ≡ false) →
+    sections path ms ≡ [] → sections path (member_or k o ms) ≡ []
 no_section_at path k None ms pair none = none
 no_section_at path k (Some d) ms pair none = rw (no_section (path, k) d pair, none)
 
@@ -99,7 +102,8 @@ pushed P (item e ds) d (z ∷ zs) y are is = (are.0, pushed P ds d zs y are.1 is
 pushed P ds d ys y are is = absurd are
 
 -- the first table of a list, and the next
-first_table : (k : List ℕ) (root : Nodes) → get_member k (close root) ≡ None → at_key k array_table root ≡ Some (insert k (open_array no_items no_nodes) root)
+first_table : (k : List ℕ) (root : Nodes) → get_member k (close root) ≡ None →
+    at_key k array_table root ≡ Some (insert k (open_array no_items no_nodes) root)
 unfolding at_key
 first_table k root none = rw (no_node k root none)
 
@@ -132,14 +136,16 @@ module _ {A : Type 0} (f : A → List Pair) (P : Members → A → Type 0) where
 
   more_read : (xs : List A) (k : List ℕ) (done : Items) (last root : Nodes) (ys : List A) → AreRead xs →
       AreItems (IsTable P) (push_item done (table (close last))) ys
-      → (all : Items) × (end : Nodes) × (fill_elements k (tables f xs) (insert k (open_array done last) root) ≡ Some (insert k (open_array all end) root))
+      → (all : Items) × (end : Nodes) × (fill_elements k (tables f xs) (insert k (open_array done last) root)
+      ≡ Some (insert k (open_array all end) root))
       × AreItems (IsTable P) (push_item all (table (close end))) (ys ++ xs)
   more_read [] k done last root ys are items =
       (done, last, refl, subst (AreItems (IsTable P) (push_item done (table (close last)))) (sym (append-nil ys)) items)
   more_read (x ∷ xs) k done last root ys are items =
       let next = push_item done (table (close last)) in
       let (n, made, is) = one_read x are.0 in
-      let (all, end, made_all, all_items) = more_read xs k next n root _ are.1 (pushed (IsTable P) next _ ys x items (close n, refl, is)) in (
+      let pushed_one = pushed (IsTable P) next _ ys x items (close n, refl, is) in
+      let (all, end, made_all, all_items) = more_read xs k next n root _ are.1 pushed_one in (
         all,
         end,
         rw (next_table k done last root, into_last k next root _ n made) made_all,
@@ -148,7 +154,8 @@ module _ {A : Type 0} (f : A → List Pair) (P : Members → A → Type 0) where
 
   -- a list of tables is put at its key, where there are some
   pub list_read : (xs : List A) (k : List ℕ) (root : Nodes) → AreRead xs → get_member k (close root) ≡ None
-      → (new : Nodes) × (fill_elements k (tables f xs) root ≡ Some new) × (o : Option Data) × Puts k o (close root) (close new) × MatchOption o (xs ≡ [])
+      → (new : Nodes) × (fill_elements k (tables f xs) root ≡ Some new) × (o : Option Data) × Puts k o (close root) (close new)
+      × MatchOption o (xs ≡ [])
       (λ d. IsList (IsTable P) d xs)
   list_read [] k root are none = (root, refl, None, puts_none k (close root), refl)
   list_read (x ∷ xs) k root are none =

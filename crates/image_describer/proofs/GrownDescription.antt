@@ -29,7 +29,8 @@ module _ (at : ℕ → ℕ) where
   pub annex_moved : (p q : ProcessEntry) (f : Frame) → IsMovedProcess at p q → IsDescribedAnnex p f → IsDescribedAnnex q (moved_frame at f)
   annex_moved p q f same is = (
     map (moved_cap at) is.0,
-    subst (λ (es : List SlotEntry). HoldsNamed es (map (moved_cap at) is.0)) (sym same.registers) (holds_moved at p.registers.items is.0 is.1),
+    subst (λ (es : List SlotEntry). HoldsNamed es (map (moved_cap at) is.0)) (sym same.registers)
+        (holds_moved at p.registers.items is.0 is.1),
     ap (λ (g : Frame). moved_frame at g) is.2 ∙ ap (λ (n : ℕ). first_frame n (content.Annex (map (moved_cap at) is.0))) (sym same.owner),
   )
 
@@ -93,9 +94,11 @@ module _ (d e : Description) (same : IsRenumbered d e) where
   module _ (has : HasNumbers d) (nodes : NamesNodes new.nodes d) (pages : NamesPages old new d) where
     nodes_below : All (λ n. n < new.nodes) (node_numbers d)
     nodes_below =
-        All-append (λ n. n < new.nodes) (map (λ b. b.number) d.banks.items ++ map (λ p. p.root) d.processes.items ++ map (λ p. p.annex) d.processes.items)
+        All-append (λ n. n < new.nodes) (map (λ b. b.number) d.banks.items ++ map (λ p. p.root) d.processes.items ++ map (λ p. p.annex)
+        d.processes.items)
         (map (λ n. n.number) d.nodes.items)
-        (All-append (λ n. n < new.nodes) (map (λ b. b.number) d.banks.items ++ map (λ p. p.root) d.processes.items) (map (λ p. p.annex) d.processes.items)
+        (All-append (λ n. n < new.nodes) (map (λ b. b.number) d.banks.items ++ map (λ p. p.root) d.processes.items)
+        (map (λ p. p.annex) d.processes.items)
         (All-append (λ n. n < new.nodes) (map (λ b. b.number) d.banks.items) (map (λ p. p.root) d.processes.items)
         (All-map (λ n. n < new.nodes) (λ b. b.number) d.banks.items nodes.banks)
         (All-map (λ n. n < new.nodes) (λ p. p.root) d.processes.items (λ k p inside. (nodes.processes k p inside).0)))
@@ -103,7 +106,8 @@ module _ (d e : Description) (same : IsRenumbered d e) where
         (All-map (λ n. n < new.nodes) (λ n. n.number) d.nodes.items nodes.nodes)
 
     page_range : (p : PageEntry) → Contains d.pages.items p → (old.nodes ≤ p.number) × (p.number < object_count old)
-    page_range p there = All-contains (λ (k : ℕ). (old.nodes ≤ k) × (k < object_count old)) _ _ has.pages (contains_map (λ q. q.number) p _ there)
+    page_range p there = All-contains (λ (k : ℕ). (old.nodes ≤ k) × (k < object_count old)) _ _ has.pages
+        (contains_map (λ q. q.number) p _ there)
 
     page_fits : (p : PageEntry) → Contains d.pages.items p → at p.number < object_count new
     page_fits p there = All-contains (λ (q : PageEntry). at q.number < object_count new) d.pages.items p pages there
@@ -124,7 +128,18 @@ module _ (d e : Description) (same : IsRenumbered d e) where
         omega (arith, one.0, other.0, is, one_is, other_is))
 
     pub numbers_grown : HasNumbers e
-    numbers_grown = grind (arith, nat_tests, nodes_named, nodes_below, pages_named, pages_above, distinct_both, distinct_left, pages_distinct, All-contains)
+    numbers_grown = grind (
+      arith,
+      nat_tests,
+      nodes_named,
+      nodes_below,
+      pages_named,
+      pages_above,
+      distinct_both,
+      distinct_left,
+      pages_distinct,
+      All-contains,
+    )
 
     -- the frames
     module _ (os : List Object) (count : length os ≡ object_count old) (is : IsDescribed d (plain_frames os)) where
@@ -133,14 +148,17 @@ module _ (d e : Description) (same : IsRenumbered d e) where
 
       node_frame : (n : ℕ) → n < old.nodes → n < new.nodes → frame_at (plain_frames vs) n ≡ moved_frame at (frame_at (plain_frames os) n)
       node_frame n below fits =
-          ap (λ (k : ℕ). frame_at (plain_frames vs) k) (sym (node_stays old new n below)) ∙ frame_arrived old new os count n (node_arrives old new n below fits)
+          ap (λ (k : ℕ). frame_at (plain_frames vs) k) (sym (node_stays old new n below))
+          ∙ frame_arrived old new os count n (node_arrives old new n below fits)
 
       -- an entry whose number stays
-      entry_frame : (n : ℕ) (f : Frame) → n < old.nodes → n < new.nodes → frame_at (plain_frames os) n ≡ f → frame_at (plain_frames vs) n ≡ moved_frame at f
+      entry_frame : (n : ℕ) (f : Frame) → n < old.nodes → n < new.nodes → frame_at (plain_frames os) n ≡ f →
+          frame_at (plain_frames vs) n ≡ moved_frame at f
       entry_frame n f below fits same_frame = node_frame n below fits ∙ ap (λ (h : Frame). moved_frame at h) same_frame
 
       banks_grown : All (λ b. frame_at (plain_frames vs) b.number ≡ first_frame b.owner (content.Bank b.limit)) d.banks.items
-      banks_grown = all_from (λ (b : BankEntry). frame_at (plain_frames vs) b.number ≡ first_frame b.owner (content.Bank b.limit)) d.banks.items (λ b there.
+      banks_grown = all_from (λ (b : BankEntry). frame_at (plain_frames vs) b.number ≡ first_frame b.owner (content.Bank b.limit))
+          d.banks.items (λ b there.
           entry_frame b.number (first_frame b.owner (content.Bank b.limit)) (in_range d (OfBank b) has there)
           (All-contains (λ (c : BankEntry). c.number < new.nodes) d.banks.items b nodes.banks there)
           (described_of d (plain_frames os) (OfBank b) is there))
@@ -150,7 +168,8 @@ module _ (d e : Description) (same : IsRenumbered d e) where
 
       roots_grown : All (λ p. IsDescribedRoot p (frame_at (plain_frames vs) p.root)) e.processes.items
       roots_grown = zip_all (IsMovedProcess at) RootOk (λ (p : ProcessEntry). IsDescribedRoot p (frame_at (plain_frames vs) p.root))
-          (λ p q moves good. rw moves.root (rw (node_frame p.root good.1 good.2) (root_moved at p q (frame_at (plain_frames os) p.root) moves good.0)))
+          (λ p q moves good. rw moves.root (rw (node_frame p.root good.1 good.2)
+          (root_moved at p q (frame_at (plain_frames os) p.root) moves good.0)))
           d.processes.items e.processes.items same.processes (all_from RootOk d.processes.items (λ p there. (
             described_of d (plain_frames os) (OfRoot p) is there,
             in_range d (OfRoot p) has there,
@@ -162,7 +181,8 @@ module _ (d e : Description) (same : IsRenumbered d e) where
 
       annexes_grown : All (λ p. IsDescribedAnnex p (frame_at (plain_frames vs) p.annex)) e.processes.items
       annexes_grown = zip_all (IsMovedProcess at) AnnexOk (λ (p : ProcessEntry). IsDescribedAnnex p (frame_at (plain_frames vs) p.annex))
-          (λ p q moves good. rw moves.annex (rw (node_frame p.annex good.1 good.2) (annex_moved at p q (frame_at (plain_frames os) p.annex) moves good.0)))
+          (λ p q moves good. rw moves.annex (rw (node_frame p.annex good.1 good.2)
+          (annex_moved at p q (frame_at (plain_frames os) p.annex) moves good.0)))
           d.processes.items e.processes.items same.processes (all_from AnnexOk d.processes.items (λ p there. (
             described_of d (plain_frames os) (OfAnnex p) is there,
             in_range d (OfAnnex p) has there,
@@ -174,7 +194,8 @@ module _ (d e : Description) (same : IsRenumbered d e) where
 
       nodes_grown : All (λ n. IsDescribedNode n (frame_at (plain_frames vs) n.number)) e.nodes.items
       nodes_grown = zip_all (IsMovedNode at) NodeOk (λ (n : NodeEntry). IsDescribedNode n (frame_at (plain_frames vs) n.number))
-          (λ m n moves good. rw moves.number (rw (node_frame m.number good.1 good.2) (node_moved at m n (frame_at (plain_frames os) m.number) moves good.0)))
+          (λ m n moves good. rw moves.number (rw (node_frame m.number good.1 good.2)
+          (node_moved at m n (frame_at (plain_frames os) m.number) moves good.0)))
           d.nodes.items e.nodes.items same.nodes (all_from NodeOk d.nodes.items (λ n there. (
             described_of d (plain_frames os) (OfNode n) is there,
             in_range d (OfNode n) has there,
@@ -187,7 +208,8 @@ module _ (d e : Description) (same : IsRenumbered d e) where
 
       pages_grown : All (λ p. IsDescribedPage p (frame_at (plain_frames vs) p.number)) e.pages.items
       pages_grown = zip_all (IsMovedPage at) PageOk (λ (p : PageEntry). IsDescribedPage p (frame_at (plain_frames vs) p.number))
-          (λ p q moves good. rw moves.number (rw (frame_arrived old new os count p.number (page_arrives old new p.number good.1 good.2 good.3))
+          (λ p q moves good. rw moves.number (rw (frame_arrived old new os count p.number
+          (page_arrives old new p.number good.1 good.2 good.3))
           (page_moved at p q (frame_at (plain_frames os) p.number) moves good.0)))
           d.pages.items e.pages.items same.pages (all_from PageOk d.pages.items (λ p there.
           let range = page_range p there in
@@ -201,7 +223,8 @@ module _ (d e : Description) (same : IsRenumbered d e) where
             let small : origin old new m < old.nodes = All-contains (λ (k : ℕ). k < old.nodes) _ _ has.nodes node in
             let back : at (origin old new m) ≡ m = comes_from old new m (omega (arith, small)) in
             let stays : origin old new m ≡ m = sym (node_stays old new _ small) ∙ back in
-            Contains-append_left _ _ m (subst (λ (ns : List ℕ). Contains ns m) (sym nodes_named) (subst (Contains (node_numbers d)) stays node))
+            Contains-append_left _ _ m (subst (λ (ns : List ℕ). Contains ns m) (sym nodes_named)
+            (subst (Contains (node_numbers d)) stays node))
         | inr page ↦
             let range = All-contains (λ (k : ℕ). (old.nodes ≤ k) × (k < object_count old)) _ _ has.pages page in
             let back : at (origin old new m) ≡ m = comes_from old new m range.1 in
@@ -219,14 +242,27 @@ module _ (d e : Description) (same : IsRenumbered d e) where
       ]
 
       pub frames_grown : IsDescribed e (plain_frames vs)
-      frames_grown = grind (arith, nat_tests, plain_length, grown_length, banks_grown, roots_grown, annexes_grown, nodes_grown, pages_grown, others_grown)
+      frames_grown = grind (
+        arith,
+        nat_tests,
+        plain_length,
+        grown_length,
+        banks_grown,
+        roots_grown,
+        annexes_grown,
+        nodes_grown,
+        pages_grown,
+        others_grown,
+      )
 
   pub fields_grown : HasFields d → HasFields e
   fields_grown fields = record {
     processes = zip_all (IsMovedProcess at) IsProcessEntry IsProcessEntry (process_fields at) _ _ same.processes fields.processes;
-    nodes = zip_all (IsMovedNode at) (λ (n : NodeEntry). AreSlots 0 n.slots.items) (λ (n : NodeEntry). AreSlots 0 n.slots.items) (node_fields at) _
+    nodes = zip_all (IsMovedNode at) (λ (n : NodeEntry). AreSlots 0 n.slots.items) (λ (n : NodeEntry). AreSlots 0 n.slots.items)
+        (node_fields at) _
         _ same.nodes fields.nodes;
-    pages = zip_all (IsMovedPage at) (λ (p : PageEntry). AreWords p.words.items) (λ (p : PageEntry). AreWords p.words.items) (page_fields at) _
+    pages = zip_all (IsMovedPage at) (λ (p : PageEntry). AreWords p.words.items) (λ (p : PageEntry). AreWords p.words.items)
+        (page_fields at) _
         _ same.pages fields.pages;
   }
 
@@ -249,9 +285,11 @@ module _ (d e : Description) (same : IsRenumbered d e) where
     banks = rw same.banks brief.banks;
     processes = rw (zip_map (IsMovedProcess at) (λ p. p.root) (λ p. p.root) (λ p q moves. moves.root) _ _ same.processes) brief.processes;
     nodes = rw (zip_map (IsMovedNode at) (λ n. n.number) (λ n. n.number) (λ m n moves. moves.number) _ _ same.nodes) brief.nodes;
-    pages = rw pages_named (rising_pages _ (λ p there. All-contains (λ (k : ℕ). (old.nodes ≤ k) × (k < object_count old)) (page_numbers d) p.number has.pages
+    pages = rw pages_named (rising_pages _ (λ p there. All-contains (λ (k : ℕ). (old.nodes ≤ k) × (k < object_count old)) (page_numbers d)
+        p.number has.pages
         (contains_map (λ q. q.number) p _ there)) brief.pages);
-    registers = zip_all (IsMovedProcess at) (λ (p : ProcessEntry). AreBriefSlots p.registers.items) (λ (p : ProcessEntry). AreBriefSlots p.registers.items)
+    registers = zip_all (IsMovedProcess at) (λ (p : ProcessEntry). AreBriefSlots p.registers.items)
+        (λ (p : ProcessEntry). AreBriefSlots p.registers.items)
         (λ p q moves good. rw moves.registers (brief_moved at _ good)) _ _ same.processes brief.registers;
     slots = zip_all (IsMovedNode at) (λ (n : NodeEntry). AreBriefSlots n.slots.items) (λ (n : NodeEntry). AreBriefSlots n.slots.items)
         (λ m n moves good. rw moves.slots (brief_moved at _ good)) _ _ same.nodes brief.slots;

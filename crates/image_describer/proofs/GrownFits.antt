@@ -34,7 +34,8 @@ module _ (old new : Geometry) (d : Description) (w : World) (describes : Describ
   role_is n = ap (λ (f : Frame). f.header.role) (plain_at w.objects n) ∙ (mapped fresh_cap (content_at w.objects n)).role
 
   pub named_not_free : (e : Entry) → IsOf d e → is_free (content_at w.objects (number_of e)) ≡ false
-  named_not_free e there = role_not_free _ (λ is. entry_not_free e (frame_at (plain_frames w.objects) (number_of e)) (described_of d _ e describes.frames there)
+  named_not_free e there = role_not_free _ (λ is. entry_not_free e (frame_at (plain_frames w.objects) (number_of e))
+      (described_of d _ e describes.frames there)
       (role_is _ ∙ is))
 
   pub is_named : (n : ℕ) → is_free (content_at w.objects n) ≡ false → (e : Entry) × IsOf d e × (number_of e ≡ n)

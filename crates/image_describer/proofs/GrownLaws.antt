@@ -12,7 +12,8 @@ pub grown_is_described : GrownIsDescribed
 grown_is_described w d e sound describes same nodes pages =
     let v : World = grown_world d.geometry e.geometry w sound in (
       v,
-      is_grown d.geometry e.geometry w sound (nodes_fit d.geometry e.geometry d w describes nodes) (pages_fit d.geometry e.geometry d w describes pages),
+      is_grown d.geometry e.geometry w sound (nodes_fit d.geometry e.geometry d w describes nodes)
+          (pages_fit d.geometry e.geometry d w describes pages),
       record {
         geometry = refl;
         age = same.age ∙ describes.age;
@@ -30,7 +31,8 @@ module _ (at : ℕ → ℕ) (stays : (n : ℕ) → at n ≡ n) where
 
   slots_stay : (cs : List Capability) → map (moved_capability at) cs ≡ cs
   slots_stay [] = refl
-  slots_stay (c ∷ cs) = ap (λ (d : Capability). d ∷ map (moved_capability at) cs) (capability_stays c) ∙ ap (λ (ds : List Capability). c ∷ ds) (slots_stay cs)
+  slots_stay (c ∷ cs) = ap (λ (d : Capability). d ∷ map (moved_capability at) cs) (capability_stays c)
+      ∙ ap (λ (ds : List Capability). c ∷ ds) (slots_stay cs)
 
   content_stays : (c : Content Capability) → map_content (moved_capability at) c ≡ c
   content_stays c = grind (arith, nat_tests, slots_stay, capability_stays)
@@ -41,12 +43,15 @@ module _ (at : ℕ → ℕ) (stays : (n : ℕ) → at n ≡ n) where
 module _ (g : Geometry) (w v : World) (sound : IsSound g w) (grown : IsGrown g g w v) where
   same_object : (n : ℕ) (b : Bool) → is_free (content_at w.objects n) ≡ b → object_at v.objects n ≡ object_at w.objects n
   same_object n true is =
-      grown.others n (λ k some at. true≢false (sym is ∙ ap (λ (m : ℕ). is_free (content_at w.objects m)) (sym at ∙ stays_itself g k) ∙ some))
+      grown.others n (λ k some at. true≢false (sym is ∙ ap (λ (m : ℕ). is_free (content_at w.objects m)) (sym at ∙ stays_itself g k)
+      ∙ some))
       ∙ sym (free_object _ _ is (sound.unowned n is))
-  same_object n false is = ap (λ (m : ℕ). object_at v.objects m) (sym (stays_itself g n)) ∙ grown.each n is ∙ object_stays (moved g g) (stays_itself g) _
+  same_object n false is = ap (λ (m : ℕ). object_at v.objects m) (sym (stays_itself g n)) ∙ grown.each n is
+      ∙ object_stays (moved g g) (stays_itself g) _
 
   same_objects : v.objects ≡ w.objects
-  same_objects = ext_get_or free v.objects w.objects (grown.count ∙ sym sound.size) (λ n inside. same_object n (is_free (content_at w.objects n)) refl)
+  same_objects = ext_get_or free v.objects w.objects (grown.count ∙ sym sound.size)
+      (λ n inside. same_object n (is_free (content_at w.objects n)) refl)
 
   same_world : v ≡ w
   same_world =

@@ -18,11 +18,16 @@ whole_laid g is = grind (arith, nat_tests)
 both : (a b c d : ℕ) → (a == b && c == d) ≡ true → (a ≡ b) × (c ≡ d)
 both a b c d is = (grind (arith, nat_tests), grind (arith, nat_tests))
 
-either_laid : (old new : Geometry) (rs : List NumberRange) (b : Bool) → (old.nodes == new.nodes && old.pages == new.pages) ≡ b → MayBeLaid old rs →
-    IsGeometry new → MayBeLaid new (if b then rs else whole_ranges new)
+either_laid : (old new : Geometry) (rs : List NumberRange) (b : Bool) → (old.nodes == new.nodes && old.pages == new.pages) ≡ b →
+    MayBeLaid old rs → IsGeometry new → MayBeLaid new (if b then rs else whole_ranges new)
 either_laid old new rs true is laid limits =
     let same = both old.nodes new.nodes old.pages new.pages is in
-    record { geometry = limits; some = laid.some; few = laid.few; cover = cover_same old new same.0 same.1 0 (map (placed 0) rs) laid.cover }
+    record {
+      geometry = limits;
+      some = laid.some;
+      few = laid.few;
+      cover = cover_same old new same.0 same.1 0 (map (placed 0) rs) laid.cover;
+    }
 either_laid old new rs false is laid limits = whole_laid new limits
 
 -- they may be laid where the sizes are within their limits

@@ -21,7 +21,8 @@ module _ (d e : Description) (same : IsRenumbered d e) (limits : IsGeometry e.ge
 
   whole_spelled : All SpellsRange (whole_ranges e.geometry)
   whole_spelled =
-      All-cons SpellsRange (record { first = 0; count = e.geometry.nodes }) (record { first = e.geometry.nodes; count = e.geometry.pages } ∷ [])
+      All-cons SpellsRange (record { first = 0; count = e.geometry.nodes })
+      (record { first = e.geometry.nodes; count = e.geometry.pages } ∷ [])
       (omega arith, omega (arith, limits.most_nodes))
       (All-cons SpellsRange (record { first = e.geometry.nodes; count = e.geometry.pages }) []
       (omega (arith, limits.most_nodes), omega (arith, limits.most_pages)) (All-nil SpellsRange))
@@ -46,10 +47,12 @@ module _ (d e : Description) (same : IsRenumbered d e) (limits : IsGeometry e.ge
     ranges = rw same.ranges (either_spelled (d.geometry.nodes == e.geometry.nodes && d.geometry.pages == e.geometry.pages) d.ranges.items
         (whole_ranges e.geometry) spelled.ranges whole_spelled);
     banks = rw same.banks spelled.banks;
-    processes = zip_all (IsMovedProcess at) SpellsProcess SpellsProcess process_spelled d.processes.items e.processes.items same.processes spelled.processes;
+    processes = zip_all (IsMovedProcess at) SpellsProcess SpellsProcess process_spelled d.processes.items e.processes.items same.processes
+        spelled.processes;
     nodes = zip_all (IsMovedNode at) SpellsNode SpellsNode node_spelled d.nodes.items e.nodes.items same.nodes spelled.nodes;
-    pages = zip_all (IsMovedPage at) Good SpellsPage page_spelled d.pages.items e.pages.items same.pages (all_from Good d.pages.items (λ p there. (
-      All-contains SpellsPage d.pages.items p spelled.pages there,
-      All-contains (λ (q : PageEntry). at q.number < object_count e.geometry) d.pages.items p pages there,
-    )));
+    pages = zip_all (IsMovedPage at) Good SpellsPage page_spelled d.pages.items e.pages.items same.pages
+        (all_from Good d.pages.items (λ p there. (
+          All-contains SpellsPage d.pages.items p spelled.pages there,
+          All-contains (λ (q : PageEntry). at q.number < object_count e.geometry) d.pages.items p pages there,
+        )));
   }

@@ -70,7 +70,8 @@ module _ (old new : Geometry) where
       | inr past ↦ absurd (true≢false (sym (past_is_free n past) ∙ some))
     ]
 
-pub free_object : (owner : ℕ) (c : Content Capability) → is_free c ≡ true → owner ≡ 0 → (let o : Object = record { owner = owner; content = c } in o) ≡ free
+pub free_object : (owner : ℕ) (c : Content Capability) → is_free c ≡ true → owner ≡ 0 →
+    (let o : Object = record { owner = owner; content = c } in o) ≡ free
 free_object owner content.Free is unowned = ap (λ (n : ℕ). let o : Object = record { owner = n; content = content.Free } in o) unowned
 free_object owner other is unowned = absurd cc
 
@@ -84,7 +85,8 @@ module _ (old new : Geometry) (w : World) (sound : IsSound old w) where
   from_free m true is none =
       let at : ℕ = origin old new m in
       free_object (owner_at w.objects at) (content_at w.objects at) is (sound.unowned at is)
-  from_free m false is none = absurd (none (origin old new m) is (comes_from old new m (inside old new w.objects sound.size (origin old new m) is)))
+  from_free m false is none = absurd (none (origin old new m) is (comes_from old new m
+      (inside old new w.objects sound.size (origin old new m) is)))
 
   pub is_grown : NodesFit old new w → PagesFit old new w → IsGrown old new w grown_world
   is_grown nodes pages = record {

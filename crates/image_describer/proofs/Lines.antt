@@ -58,7 +58,8 @@ module _ {A : Type 0} (f : A → List ℕ) (g : A → Data) (levels : ℕ) where
 
   items_valid : (xs : List A) → AllSpell xs → items_have_valid_dates (items g xs) ≡ true
   items_valid [] spell = refl
-  items_valid (x ∷ xs) spell = both_true (has_valid_dates (g x)) (items_have_valid_dates (items g xs)) spell.0.valid (items_valid xs spell.1)
+  items_valid (x ∷ xs) spell = both_true (has_valid_dates (g x)) (items_have_valid_dates (items g xs)) spell.0.valid
+      (items_valid xs spell.1)
 
   items_pair : (xs : List A) → AllSpell xs → is_section (array (items g xs)) ≡ false
   items_pair [] spell = refl
@@ -79,7 +80,12 @@ SpellsOption _ _ = ⊥
 
 -- a value that is left out where that is the same
 pub deeper : (m n : ℕ) (text : List ℕ) (d : Data) → m ≤ n → Spells m text d → Spells n text d
-deeper m n text d few spells = record { text_is = spells.text_is; deep = omega (arith, few, spells.deep); valid = spells.valid; pair = spells.pair }
+deeper m n text d few spells = record {
+  text_is = spells.text_is;
+  deep = omega (arith, few, spells.deep);
+  valid = spells.valid;
+  pair = spells.pair;
+}
 
 -- keys with their values; each key stands for itself
 abbrev pub SpellFields : List Field → List Pair → Type 0
@@ -98,12 +104,14 @@ are_pairs [] [] spell = tt
 are_pairs (f ∷ fs) (p ∷ ps) spell = (pair_option f.1 p.1 spell.2, are_pairs fs ps spell.3)
 are_pairs fs ps spell = absurd spell
 
-line_of_field : (started : Bool) (k l : List ℕ) (o : Option (List ℕ)) (d : Option Data) (ms : Members) (text : List ℕ) → k ≡ l → key_text l ≡ l →
-    SpellsOption o d
-    → ((begun : Bool) → IsLinesText false begun (pairs ms) text) → IsLinesText false started (pairs (member_or l d ms)) (field_line (k, o) ++ text)
+line_of_field : (started : Bool) (k l : List ℕ) (o : Option (List ℕ)) (d : Option Data) (ms : Members) (text : List ℕ) → k ≡ l →
+    key_text l ≡ l → SpellsOption o d
+    → ((begun : Bool) → IsLinesText false begun (pairs ms) text) → IsLinesText false started (pairs (member_or l d ms))
+    (field_line (k, o) ++ text)
 line_of_field started k l o d ms text same bare spells rest = grind (arith, nat_tests, append_assoc)
 
-pub lines_of_fields : (fs : List Field) (ps : List Pair) (started : Bool) → SpellFields fs ps → IsLinesText false started (pairs (keyed ps)) (field_lines fs)
+pub lines_of_fields : (fs : List Field) (ps : List Pair) (started : Bool) → SpellFields fs ps →
+    IsLinesText false started (pairs (keyed ps)) (field_lines fs)
 lines_of_fields [] [] started spell = refl
 lines_of_fields [] (p ∷ ps) started spell = absurd spell
 lines_of_fields (f ∷ fs) [] started spell = absurd spell
@@ -127,8 +135,13 @@ pub append_lines : (started : Bool) (es fs : List Expression) (t u : List ℕ) �
     → IsLinesText false started (es ++ fs) (t ++ u)
 append_lines started [] fs t u starts one other = grind (arith, nat_tests)
 append_lines started (e ∷ es) fs t u starts one other =
-    let (this, rest, is, line, more) = one in
-    (this, rest ++ u, ap (λ (text : List ℕ). text ++ u) is ∙ append_assoc this rest u, line, append_lines true es fs rest u (λ none. refl) more other)
+    let (this, rest, is, line, more) = one in (
+      this,
+      rest ++ u,
+      ap (λ (text : List ℕ). text ++ u) is ∙ append_assoc this rest u,
+      line,
+      append_lines true es fs rest u (λ none. refl) more other,
+    )
 
 pub append_printed : (es fs : List Expression) → AllPrinted es → AllPrinted fs → AllPrinted (es ++ fs)
 append_printed [] fs one other = other
@@ -158,4 +171,13 @@ module _ {A : Type 0} (f : A → List Pair) (g : A → List Field) (t : A → Li
 
   pub printed_tables : (xs : List A) → AllFields xs → AllPrinted (elements ([], name) (tables f xs))
   printed_tables [] spell = tt
-  printed_tables (x ∷ xs) spell = grind (arith, nat_tests, printed_tables xs spell.1, no_sections, are_pairs, append-nil, append_printed, printed_fields)
+  printed_tables (x ∷ xs) spell = grind (
+    arith,
+    nat_tests,
+    printed_tables xs spell.1,
+    no_sections,
+    are_pairs,
+    append-nil,
+    append_printed,
+    printed_fields,
+  )

@@ -38,7 +38,8 @@ module _ (at : ℕ → ℕ) where
   void_moved Void h = refl
   void_moved other h = absurd cc
 
-  pub named_moved : ((n : ℕ) → IsWide n → IsWide (at n)) → (c : Capability) → IfSome (named c) IsWide → IfSome (named (moved_capability at c)) IsWide
+  pub named_moved : ((n : ℕ) → IsWide n → IsWide (at n)) → (c : Capability) → IfSome (named c) IsWide →
+      IfSome (named (moved_capability at c)) IsWide
   named_moved on c h = grind (arith, nat_tests)
 
   -- those that may be absent
@@ -78,7 +79,8 @@ module _ (at : ℕ → ℕ) where
         (λ s h. some_moved s.capability h) es are.held);
   }
 
-  pub spelled_moved : ((n : ℕ) → IsWide n → IsWide (at n)) → (es : List SlotEntry) → All SpellsSlot es → All SpellsSlot (map (moved_slot at) es)
+  pub spelled_moved : ((n : ℕ) → IsWide n → IsWide (at n)) → (es : List SlotEntry) → All SpellsSlot es →
+      All SpellsSlot (map (moved_slot at) es)
   spelled_moved on es all = All-map SpellsSlot (moved_slot at) es
       (All-weaker SpellsSlot (λ (s : SlotEntry). SpellsSlot (moved_slot at s)) (λ s h. (h.0, wide_moved on _ h.1)) es all)
 
@@ -107,7 +109,8 @@ module _ (at : ℕ → ℕ) where
   abbrev pub moved_frame : Frame → Frame
   moved_frame f = record { header = f.header; content = map_content moved_cap f.content }
 
-  pub holds_moved : (es : List SlotEntry) (slots : List Cap) → HoldsNamed es slots → HoldsNamed (map (moved_slot at) es) (map moved_cap slots)
+  pub holds_moved : (es : List SlotEntry) (slots : List Cap) → HoldsNamed es slots →
+      HoldsNamed (map (moved_slot at) es) (map moved_cap slots)
   holds_moved es slots holds = record {
     count = length-map slots moved_cap ∙ holds.count;
     each = λ i inside.

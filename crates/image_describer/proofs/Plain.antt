@@ -29,7 +29,8 @@ conveyed_plain os c = ap (λ (n : ℕ). if nat_lt 0 n then Void else c) (no_coun
 module _ (hs : List ObjectHeader) (same : (c : Capability) → conveyed hs (fresh_cap c) ≡ c) where
   caps_same : (cs : List Capability) → map (conveyed hs) (map fresh_cap cs) ≡ cs
   caps_same [] = refl
-  caps_same (c ∷ cs) = ap (λ (d : Capability). d ∷ map (conveyed hs) (map fresh_cap cs)) (same c) ∙ ap (λ (ds : List Capability). c ∷ ds) (caps_same cs)
+  caps_same (c ∷ cs) = ap (λ (d : Capability). d ∷ map (conveyed hs) (map fresh_cap cs)) (same c)
+      ∙ ap (λ (ds : List Capability). c ∷ ds) (caps_same cs)
 
   content_same : (c : Content Capability) → map_content (conveyed hs) (map_content fresh_cap c) ≡ c
   content_same c = grind (arith, nat_tests, caps_same)
@@ -61,7 +62,8 @@ module _ (g : Geometry) (age : ℕ) (hs : List ObjectHeader) where
   slots_plain : (slots : List Cap) → AreKeptSlots g age slots → AreKeptSlots g age (map fresh_cap (map (conveyed hs) slots))
   slots_plain slots kept = record {
     count = length-map _ fresh_cap ∙ length-map slots (conveyed hs) ∙ kept.count;
-    each = All-map (IsKeptCap g age) fresh_cap (map (conveyed hs) slots) (All-map (λ (c : Capability). IsKeptCap g age (fresh_cap c)) (conveyed hs) slots
+    each = All-map (IsKeptCap g age) fresh_cap (map (conveyed hs) slots) (All-map (λ (c : Capability). IsKeptCap g age (fresh_cap c))
+        (conveyed hs) slots
         (All-weaker (IsKeptCap g age) (λ (c : Cap). IsKeptCap g age (fresh_cap (conveyed hs c))) kept_plain slots kept.each));
   }
 
@@ -88,7 +90,8 @@ length_is fs = length-map (map (object_of (headers fs)) fs) plain_frame ∙ leng
 keepable_plain : (g : Geometry) (age : ℕ) (fs : List Frame) → AreKeepable g age fs → AreKeepable g age (plain_frames (objects_of fs))
 keepable_plain g age fs keepable = record {
   count = length_is fs ∙ keepable.count;
-  each = λ n inside. subst (IsKeepable g age n) (sym (plain_at _ n ∙ ap plain_frame (object_is fs n))) (frame_plain g age _ n _ (keepable.each n inside));
+  each = λ n inside. subst (IsKeepable g age n) (sym (plain_at _ n ∙ ap plain_frame (object_is fs n)))
+      (frame_plain g age _ n _ (keepable.each n inside));
 }
 
 -- No capability is ahead.
@@ -99,10 +102,15 @@ never_ahead hs (content.Annex registers) = All-map (IsCurrent hs) fresh_cap regi
 never_ahead hs other = λ k d inside. absurd (omega (arith, inside))
 
 current_plain : (os : List Object) → AreCurrent (plain_frames os)
-current_plain os n = subst (λ (f : Frame). All (IsCurrent (headers (plain_frames os))) (caps_in f.content)) (sym (plain_at os n)) (never_ahead _ _)
+current_plain os n = subst (λ (f : Frame). All (IsCurrent (headers (plain_frames os))) (caps_in f.content)) (sym (plain_at os n))
+    (never_ahead _ _)
 
 pub sound_plain : (g : Geometry) (age : ℕ) (fs : List Frame) → IsSoundFrames g age fs → IsSoundFrames g age (plain_frames (objects_of fs))
-sound_plain g age fs sound = record { keepable = keepable_plain g age fs sound.keepable; current = current_plain _; sound = rw (objects_plain _) sound.sound }
+sound_plain g age fs sound = record {
+  keepable = keepable_plain g age fs sound.keepable;
+  current = current_plain _;
+  sound = rw (objects_plain _) sound.sound;
+}
 
 -- The laws.
 pub described_is_same : DescribedIsSame
@@ -118,6 +126,7 @@ pub described_is_laid : DescribedIsLaid
 described_is_laid g age fs d fault.Number sound describes wrong = absurd (wrong describes.numbers)
 described_is_laid g age fs d fault.Field sound describes wrong = absurd (wrong.1 describes.fields)
 described_is_laid g age fs d fault.Target sound describes wrong =
-    absurd (wrong.2 (plain_frames (objects_of fs)) describes.frames (sound_named g age (plain_frames (objects_of fs)) (sound_plain g age fs sound)))
+    absurd (wrong.2 (plain_frames (objects_of fs)) describes.frames (sound_named g age (plain_frames (objects_of fs))
+    (sound_plain g age fs sound)))
 described_is_laid g age fs d fault.NoMemory sound describes wrong = refl
 described_is_laid g age fs d other sound describes wrong = absurd wrong

@@ -57,9 +57,11 @@ other_at : (j : List ℕ) (o : Ordering) (k l : List ℕ) (x y : Node) (ns next 
     → get_member j (close (match_ordering o (node k x (node l y ns)) (node l x ns) (node l y next))) ≡ get_member j (close (node l y ns))
 other_at j o k l x y ns next is other rest = grind (arith, nat_tests, first_other, alike_right, nat_list_cmp_total)
 
-inserted_other : (j k : List ℕ) (x : Node) (ns : Nodes) → same_key j k ≡ false → get_member j (close (insert k x ns)) ≡ get_member j (close ns)
+inserted_other : (j k : List ℕ) (x : Node) (ns : Nodes) → same_key j k ≡ false →
+    get_member j (close (insert k x ns)) ≡ get_member j (close ns)
 inserted_other j k x no_nodes other = first_other j k (close_node x) no_members other
-inserted_other j k x (node l y ns) other = other_at j (slice_cmp nat_cmp k l) k l x y ns (insert k x ns) refl other (inserted_other j k x ns other)
+inserted_other j k x (node l y ns) other = other_at j (slice_cmp nat_cmp k l) k l x y ns (insert k x ns) refl other
+    (inserted_other j k x ns other)
 
 -- the keys are among those that are known
 only_at : (keys : List (List ℕ)) (o : Ordering) (k l : List ℕ) (x y : Node) (ns next : Nodes) → IsTrue (list_any (same_key k) keys)
@@ -69,8 +71,8 @@ only_at keys Less k l x y ns next known all rest = both_true known all
 only_at keys Equal k l x y ns next known all rest = all
 only_at keys Greater k l x y ns next known all rest = both_true (left _ _ all) rest
 
-inserted_only : (keys : List (List ℕ)) (k : List ℕ) (x : Node) (ns : Nodes) → IsTrue (list_any (same_key k) keys) → IsTrue (has_only keys (close ns)) →
-    IsTrue (has_only keys (close (insert k x ns)))
+inserted_only : (keys : List (List ℕ)) (k : List ℕ) (x : Node) (ns : Nodes) → IsTrue (list_any (same_key k) keys) →
+    IsTrue (has_only keys (close ns)) → IsTrue (has_only keys (close (insert k x ns)))
 inserted_only keys k x no_nodes known all = both_true known refl
 inserted_only keys k x (node l y ns) known all = only_at keys _ k l x y ns _ known all (inserted_only keys k x ns known (right _ _ all))
 

@@ -27,7 +27,8 @@ safe_decimal : (n : ℕ) → n < 2 ^ 64 → are_safe (decimal n) ≡ true
 safe_decimal n small = safe_digits (decimal n) (decimal_is_IsNumeral n small).0.1
 
 -- no test of the writer finds such a byte
-none_found : (test : ℕ → Bool) (text : List ℕ) → ((c : ℕ) → is_safe c ≡ true → test c ≡ false) → are_safe text ≡ true → list_any test text ≡ false
+none_found : (test : ℕ → Bool) (text : List ℕ) → ((c : ℕ) → is_safe c ≡ true → test c ≡ false) → are_safe text ≡ true →
+    list_any test text ≡ false
 none_found test [] other safe = refl
 none_found test (c ∷ cs) other safe = grind (arith, nat_tests, none_found test cs other)
 
@@ -77,7 +78,8 @@ safe_capability : (c : Capability) → IsWellFormed c → IfSome (named c) (λ n
 unfolding capability_text
 safe_capability c well small = grind (arith, nat_tests, safe_decimal, safe_append, safe_access)
 
-pub quoted_capability : (c : Capability) → IsWellFormed c → IfSome (named c) (λ n. n < 2 ^ 64) → string_text (capability_text c) ≡ quoted (capability_text c)
+pub quoted_capability : (c : Capability) → IsWellFormed c → IfSome (named c) (λ n. n < 2 ^ 64) →
+    string_text (capability_text c) ≡ quoted (capability_text c)
 quoted_capability c well small = string_safe (capability_text c) (safe_capability c well small)
 
 pub quoted_state : (s : State) → string_text (state_text s) ≡ quoted (state_text s)

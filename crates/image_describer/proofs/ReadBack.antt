@@ -18,7 +18,8 @@ use Rattle.image_describer.proofs.Written.{both}
 
 -- ---- the reader of TOML, over any lines
 
-not_bom : (started : Bool) (es : List Expression) (text : List ℕ) → IsLinesText false started es text → AllPrinted es → (first text == 239) ≡ false
+not_bom : (started : Bool) (es : List Expression) (text : List ℕ) → IsLinesText false started es text → AllPrinted es →
+    (first text == 239) ≡ false
 not_bom started [] text is printed = rw is
 not_bom started (e ∷ es) text is printed =
     let (this, rest, whole, line, more) = is in
@@ -37,7 +38,8 @@ parsed es text n s is printed ran =
 
 -- parts of a text, one after the other
 joined : (a b c d e : List ℕ) → a ++ (b ++ (c ++ (d ++ (e ++ [])))) ≡ a ++ b ++ c ++ d ++ e
-joined a b c d e = ap (λ (t : List ℕ). a ++ (b ++ (c ++ (d ++ t)))) (append-nil e) ∙ sym (append_assoc _ d e ∙ append_assoc _ c _ ∙ append_assoc a b _)
+joined a b c d e = ap (λ (t : List ℕ). a ++ (b ++ (c ++ (d ++ t)))) (append-nil e)
+    ∙ sym (append_assoc _ d e ∙ append_assoc _ c _ ∙ append_assoc a b _)
 
 -- ---- a description
 
@@ -46,7 +48,8 @@ module _ {A : Type 0} (f : A → List Pair) (P : Members → A → Type 0) (May 
   are_read [] may = tt
   are_read (x ∷ xs) may = (one x may.0, are_read xs may.1)
 
-module _ {A : Type 0} (f : A → List Pair) (g : A → List (List ℕ × Option (List ℕ))) (t : A → List ℕ) (name : List ℕ) (is_bare : key_text name ≡ name)
+module _ {A : Type 0} (f : A → List Pair) (g : A → List (List ℕ × Option (List ℕ))) (t : A → List ℕ) (name : List ℕ)
+    (is_bare : key_text name ≡ name)
     (is : (x : A) → t x ≡ codes "\n[[" ++ name ++ codes "]]\n" ++ field_lines (g x))
     (May : A → Type 0) (one : (x : A) → May x → SpellFields (g x) (f x)) where
   all_fields : (xs : List A) → ByRecursion May xs → AllFields f g t name is_bare is xs
@@ -95,10 +98,12 @@ module _ (d : Description) (fields : HasFields d) (may : CanBeSpelled d) where
   banks_may = recursion_from_All SpellsBank d.banks.items may.banks
 
   processes_may : ByRecursion MayProcess d.processes.items
-  processes_may = recursion_from_All MayProcess d.processes.items (both IsProcessEntry SpellsProcess d.processes.items fields.processes may.processes)
+  processes_may = recursion_from_All MayProcess d.processes.items (both IsProcessEntry SpellsProcess d.processes.items fields.processes
+      may.processes)
 
   nodes_may : ByRecursion MayNode d.nodes.items
-  nodes_may = recursion_from_All MayNode d.nodes.items (both (λ (n : NodeEntry). AreSlots 0 n.slots.items) SpellsNode d.nodes.items fields.nodes may.nodes)
+  nodes_may = recursion_from_All MayNode d.nodes.items (both (λ (n : NodeEntry). AreSlots 0 n.slots.items) SpellsNode d.nodes.items
+      fields.nodes may.nodes)
 
   pages_may : ByRecursion SpellsPage d.pages.items
   pages_may = recursion_from_All SpellsPage d.pages.items may.pages
@@ -117,17 +122,20 @@ module _ (d : Description) (fields : HasFields d) (may : CanBeSpelled d) where
   bare_page = bare (codes "page") refl
 
   bank_fields_all : AllFields bank_pairs bank_fields bank_text (codes "bank") bare_bank bank_is d.banks.items
-  bank_fields_all = all_fields bank_pairs bank_fields bank_text (codes "bank") bare_bank bank_is SpellsBank bank_spelled d.banks.items banks_may
+  bank_fields_all = all_fields bank_pairs bank_fields bank_text (codes "bank") bare_bank bank_is SpellsBank bank_spelled d.banks.items
+      banks_may
 
   process_fields_all : AllFields process_pairs process_fields process_text (codes "process") bare_process process_is d.processes.items
   process_fields_all = all_fields process_pairs process_fields process_text (codes "process") bare_process process_is MayProcess
       (λ p m. process_spelled p m.0 m.1) d.processes.items processes_may
 
   node_fields_all : AllFields node_pairs node_fields node_text (codes "node") bare_node node_is d.nodes.items
-  node_fields_all = all_fields node_pairs node_fields node_text (codes "node") bare_node node_is MayNode (λ n m. node_spelled n m.0 m.1) d.nodes.items nodes_may
+  node_fields_all = all_fields node_pairs node_fields node_text (codes "node") bare_node node_is MayNode (λ n m. node_spelled n m.0 m.1)
+      d.nodes.items nodes_may
 
   page_fields_all : AllFields page_pairs page_fields page_text (codes "page") bare_page page_is d.pages.items
-  page_fields_all = all_fields page_pairs page_fields page_text (codes "page") bare_page page_is SpellsPage page_spelled d.pages.items pages_may
+  page_fields_all = all_fields page_pairs page_fields page_text (codes "page") bare_page page_is SpellsPage page_spelled d.pages.items
+      pages_may
 
   abbrev parts : List ℕ
   parts = field_lines (image_fields d) ++
@@ -145,7 +153,8 @@ module _ (d : Description) (fields : HasFields d) (may : CanBeSpelled d) where
       (λ none. refl) (lines_of_tables bank_pairs bank_fields bank_text (codes "bank") bare_bank bank_is d.banks.items bank_fields_all)
       (append_lines true process_lines (node_lines ++ (page_lines ++ [])) (flat_map process_text d.processes.items)
       (flat_map node_text d.nodes.items ++ (flat_map page_text d.pages.items ++ []))
-      (λ none. refl) (lines_of_tables process_pairs process_fields process_text (codes "process") bare_process process_is d.processes.items process_fields_all)
+      (λ none. refl) (lines_of_tables process_pairs process_fields process_text (codes "process") bare_process process_is d.processes.items
+      process_fields_all)
       (append_lines true node_lines (page_lines ++ []) (flat_map node_text d.nodes.items) (flat_map page_text d.pages.items ++ [])
       (λ none. refl) (lines_of_tables node_pairs node_fields node_text (codes "node") bare_node node_is d.nodes.items node_fields_all)
       (append_lines true page_lines [] (flat_map page_text d.pages.items) [] (λ none. refl)
@@ -158,10 +167,12 @@ module _ (d : Description) (fields : HasFields d) (may : CanBeSpelled d) where
       (append_printed bank_lines (process_lines ++ (node_lines ++ (page_lines ++ [])))
       (printed_tables bank_pairs bank_fields bank_text (codes "bank") bare_bank bank_is d.banks.items bank_fields_all)
       (append_printed process_lines (node_lines ++ (page_lines ++ []))
-      (printed_tables process_pairs process_fields process_text (codes "process") bare_process process_is d.processes.items process_fields_all)
+      (printed_tables process_pairs process_fields process_text (codes "process") bare_process process_is d.processes.items
+      process_fields_all)
       (append_printed node_lines (page_lines ++ [])
       (printed_tables node_pairs node_fields node_text (codes "node") bare_node node_is d.nodes.items node_fields_all)
-      (append_printed page_lines [] (printed_tables page_pairs page_fields page_text (codes "page") bare_page page_is d.pages.items page_fields_all) tt))))
+      (append_printed page_lines [] (printed_tables page_pairs page_fields page_text (codes "page") bare_page page_is d.pages.items
+      page_fields_all) tt))))
 
   -- what the reader has in the end
   ran : (n : Nodes) × (s : List (List ℕ)) × (run (no_nodes, []) all_lines ≡ Some (n, s)) × IsDescription (close n) d
@@ -181,26 +192,32 @@ module _ (d : Description) (fields : HasFields d) (may : CanBeSpelled d) where
       (are_read process_pairs IsProcess MayProcess (λ p m. process_read p m.0 m.1) d.processes.items processes_may)
       (puts1.others (codes "process") refl ∙ chain_other ps (codes "process") no_members (close n0) chain refl) in
       let (n3, made3, o3, puts3, says3) =
-      list_read node_pairs IsNode d.nodes.items (codes "node") n2 (are_read node_pairs IsNode MayNode (λ n m. node_read n m.0 m.1) d.nodes.items nodes_may)
-      (puts2.others (codes "node") refl ∙ puts1.others (codes "node") refl ∙ chain_other ps (codes "node") no_members (close n0) chain refl) in
+      list_read node_pairs IsNode d.nodes.items (codes "node") n2 (are_read node_pairs IsNode MayNode (λ n m. node_read n m.0 m.1)
+      d.nodes.items nodes_may)
+      (puts2.others (codes "node") refl ∙ puts1.others (codes "node") refl ∙ chain_other ps (codes "node") no_members (close n0) chain refl)
+      in
       let (n4, made4, o4, puts4, says4) =
       list_read page_pairs IsPage d.pages.items (codes "page") n3 (are_read page_pairs IsPage SpellsPage page_read d.pages.items pages_may)
       (puts3.others (codes "page") refl ∙ puts2.others (codes "page") refl ∙ puts1.others (codes "page") refl
       ∙ chain_other ps (codes "page") no_members (close n0) chain refl) in
       let top : run (no_nodes, []) top_lines ≡ Some (n0, []) =
       run_pairs (keyed ps) [] no_nodes refl ∙ ap (λ (o : Option Nodes). option_map (λ r. (r, [])) o) made0 in
-      let (t1, ran1) = run_list n0 [] (codes "bank") banks (process_lines ++ (node_lines ++ (page_lines ++ []))) n1 (all_tables bank_pairs d.banks.items) made1
+      let (t1, ran1) = run_list n0 [] (codes "bank") banks (process_lines ++ (node_lines ++ (page_lines ++ []))) n1
+      (all_tables bank_pairs d.banks.items) made1
       in
-      let (t2, ran2) = run_list n1 t1 (codes "process") processes (node_lines ++ (page_lines ++ [])) n2 (all_tables process_pairs d.processes.items) made2 in
+      let (t2, ran2) = run_list n1 t1 (codes "process") processes (node_lines ++ (page_lines ++ [])) n2
+      (all_tables process_pairs d.processes.items) made2 in
       let (t3, ran3) = run_list n2 t2 (codes "node") nodes (page_lines ++ []) n3 (all_tables node_pairs d.nodes.items) made3 in
       let (t4, ran4) = run_list n3 t3 (codes "page") pages [] n4 (all_tables page_pairs d.pages.items) made4 in (
         n4,
         t4,
         run-append (no_nodes, []) top_lines (bank_lines ++ (process_lines ++ (node_lines ++ (page_lines ++ []))))
-            ∙ ap (λ (o : Option Document). option_and_then (λ e. run e (bank_lines ++ (process_lines ++ (node_lines ++ (page_lines ++ []))))) o) top
+            ∙ ap (λ (o : Option Document). option_and_then (λ e. run e (bank_lines ++
+            (process_lines ++ (node_lines ++ (page_lines ++ []))))) o) top
             ∙ ran1 ∙ ran2 ∙ ran3 ∙ ran4,
         whole_read d may o1 o2 o3 o4 (close n4)
-            (chain_append ps ((codes "bank", o1) ∷ (codes "process", o2) ∷ (codes "node", o3) ∷ (codes "page", o4) ∷ []) no_members (close n0) (close n4) chain
+            (chain_append ps ((codes "bank", o1) ∷ (codes "process", o2) ∷ (codes "node", o3) ∷ (codes "page", o4) ∷ []) no_members
+            (close n0) (close n4) chain
             (close n1, puts1, (close n2, puts2, (close n3, puts3, (close n4, puts4, refl))))) says1 says2 says3 says4,
       )
 
@@ -208,7 +225,8 @@ module _ (d : Description) (fields : HasFields d) (may : CanBeSpelled d) where
   unfolding description_text
   parts_are = grind (arith, nat_tests, joined)
 
-  pub read_again : (text : List ℕ) → text ≡ description_text d → (table : Members) × (parse_document text ≡ Some table) × IsDescription table d
+  pub read_again : (text : List ℕ) → text ≡ description_text d → (table : Members) × (parse_document text ≡ Some table)
+      × IsDescription table d
   read_again text is =
       let (n, s, runs, said) = ran in
       (close n, ap parse_document (is ∙ sym parts_are) ∙ parsed all_lines parts n s lines_are lines_printed runs, said)

@@ -8,7 +8,8 @@ use Rattle.model.specs.declared.answer.Refusal.TheVariants as refusal
 
 module _ {S : Type 0} {parts : S → Parts} {Continues : S → S → Type 0} {s t : S} where
   -- a call that ended well looked, and one that failed is passed on
-  pub looked_once : {T : Type 0} {x : T} → OnlyReads parts Continues s t (let r : Result T Refusal = Ok x in r) → HasLooked parts Continues s t
+  pub looked_once : {T : Type 0} {x : T} → OnlyReads parts Continues s t (let r : Result T Refusal = Ok x in r) →
+      HasLooked parts Continues s t
   looked_once reads = record { same = reads.same; continues = reads.snapshots.continues }
 
   pub read_failed : {T U : Type 0} {e : Refusal} (r : Result U Refusal) → IsErrAnd r (λ y. y ≡ e) →
@@ -22,20 +23,24 @@ module _ {S : Type 0} {parts : S → Parts} {Continues : S → S → Type 0} {s 
   }
 
   -- a call that does no more ends well, or without memory
-  pub looked_well : {T : Type 0} {x : T} → HasLooked parts Continues s t → OnlyReads parts Continues s t (let r : Result T Refusal = Ok x in r)
+  pub looked_well : {T : Type 0} {x : T} → HasLooked parts Continues s t → OnlyReads parts Continues s t
+      (let r : Result T Refusal = Ok x in r)
   looked_well looked = read_well looked.same looked.continues
 
   pub read_short : {U : Type 0} (r : Result U Refusal) → HasLooked parts Continues s t → IsErrAnd r (λ y. y ≡ refusal.NoMemory) →
       OnlyReads parts Continues s t r
   read_short (Ok y) looked same = absurd same
   read_short {U} (Err y) looked same =
-      subst (λ (e : Refusal). OnlyReads parts Continues s t (let q : Result U Refusal = Err e in q)) (sym same) (out_of_memory looked.same looked.continues)
+      subst (λ (e : Refusal). OnlyReads parts Continues s t (let q : Result U Refusal = Err e in q)) (sym same)
+      (out_of_memory looked.same looked.continues)
 
-module _ {S : Type 0} {parts : S → Parts} {Continues : S → S → Type 0} (twice : (s t u : S) → Continues s t → Continues t u → Continues s u) {s t u : S} where
+module _ {S : Type 0} {parts : S → Parts} {Continues : S → S → Type 0} (twice : (s t u : S) → Continues s t → Continues t u → Continues s u)
+    {s t u : S} where
   pub looked_twice : HasLooked parts Continues s t → HasLooked parts Continues t u → HasLooked parts Continues s u
   looked_twice one two = record { same = two.same ∙ one.same; continues = twice s t u one.continues two.continues }
 
-  pub looked_on : {T : Type 0} {r : Result T Refusal} → HasLooked parts Continues s t → OnlyReads parts Continues t u r → OnlyReads parts Continues s u r
+  pub looked_on : {T : Type 0} {r : Result T Refusal} → HasLooked parts Continues s t → OnlyReads parts Continues t u r →
+      OnlyReads parts Continues s u r
   looked_on looked reads = reads_on looked.same looked.continues twice reads
 
   pub reads_after : {T U : Type 0} {x : T} {r : Result U Refusal} → OnlyReads parts Continues s t (let q : Result T Refusal = Ok x in q) →

@@ -17,7 +17,8 @@ rising_distinct [] rising = tt
 rising_distinct (n ∷ ns) rising = grind (arith, nat_tests, rising_distinct ns rising.1, All-contains)
 
 -- nor where two lists share none
-pub distinct_both : (ns ms : List ℕ) → AreDistinct ns → AreDistinct ms → ((n : ℕ) → Contains ns n → Contains ms n → ⊥) → AreDistinct (ns ++ ms)
+pub distinct_both : (ns ms : List ℕ) → AreDistinct ns → AreDistinct ms → ((n : ℕ) → Contains ns n → Contains ms n → ⊥) →
+    AreDistinct (ns ++ ms)
 distinct_both [] ms one other apart = other
 distinct_both (n ∷ ns) ms one other apart = (
   (λ there. elim (Contains-append_cases ns ms n there) [

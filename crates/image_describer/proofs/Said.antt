@@ -16,8 +16,8 @@ use Rattle.image_describer.proofs.Written.{spells_slots, spells_space, spells_st
 said_at : {A : Type 0} (P : Data → A → Type 0) (o : Option Data) (d : Data) (x : A) → o ≡ Some d → P d x → IsSomeAnd o (λ e. P e x)
 said_at P o d x is says = subst (λ (r : Option Data). IsSomeAnd r (λ e. P e x)) (sym is) says
 
-said_or : {A : Type 0} (default : A) (P : Data → A → Type 0) (o r : Option Data) (x : A) → o ≡ r → MatchOption r (x ≡ default) (λ e. P e x) →
-    MatchOption o (x ≡ default) (λ e. P e x)
+said_or : {A : Type 0} (default : A) (P : Data → A → Type 0) (o r : Option Data) (x : A) → o ≡ r →
+    MatchOption r (x ≡ default) (λ e. P e x) → MatchOption o (x ≡ default) (λ e. P e x)
 said_or default P o r x is says = subst (λ (r : Option Data). MatchOption r (x ≡ default) (λ e. P e x)) (sym is) says
 
 -- a key of letters stands for itself
@@ -33,7 +33,8 @@ module _ (ps : List Pair) (ms : Members) (chain : Chain ps no_members ms) (apart
 -- Banks.
 abbrev pub bank_pairs : BankEntry → List Pair
 bank_pairs b =
-    (codes "number", Some (number_data b.number)) ∷ (codes "owner", Some (number_data b.owner)) ∷ (codes "limit", Some (wide_data b.limit)) ∷ []
+    (codes "number", Some (number_data b.number)) ∷ (codes "owner", Some (number_data b.owner)) ∷ (codes "limit", Some (wide_data b.limit))
+    ∷ []
 
 module _ (b : BankEntry) (may : SpellsBank b) where
   pub bank_spelled : SpellFields (bank_fields b) (bank_pairs b)
@@ -46,12 +47,24 @@ module _ (b : BankEntry) (may : SpellsBank b) where
 abbrev pub process_pairs : ProcessEntry → List Pair
 process_pairs p =
     (codes "root", Some (number_data p.root)) ∷ (codes "annex", Some (number_data p.annex)) ∷ (codes "owner", Some (number_data p.owner)) ∷
-    (codes "state", Some (state_data p.state)) ∷ (codes "key", data_unless (p.key == 0) (number_data p.key)) ∷ (codes "words", words_data p.words) ∷
+    (codes "state", Some (state_data p.state)) ∷ (codes "key", data_unless (p.key == 0) (number_data p.key)) ∷
+    (codes "words", words_data p.words) ∷
     (codes "space", space_data p.space) ∷ (codes "registers", list_data slot_data p.registers.items) ∷ []
 
 module _ (p : ProcessEntry) (entry : IsProcessEntry p) (may : SpellsProcess p) where
   pub process_spelled : SpellFields (process_fields p) (process_pairs p)
-  process_spelled = grind (arith, nat_tests, bare, deeper, spells_number, spells_state, spells_number_unless, spells_four, spells_space, spells_slots)
+  process_spelled = grind (
+    arith,
+    nat_tests,
+    bare,
+    deeper,
+    spells_number,
+    spells_state,
+    spells_number_unless,
+    spells_four,
+    spells_space,
+    spells_slots,
+  )
 
   pub process_read : IsRead process_pairs IsProcess p
   process_read = record {
@@ -59,15 +72,19 @@ module _ (p : ProcessEntry) (entry : IsProcessEntry p) (may : SpellsProcess p) w
     apart = refl;
     reads = λ ms chain. record {
       known = chain_only (process_pairs p)
-          (codes "root" ∷ codes "annex" ∷ codes "owner" ∷ codes "state" ∷ codes "key" ∷ codes "words" ∷ codes "space" ∷ codes "registers" ∷ []) no_members
+          (codes "root" ∷ codes "annex" ∷ codes "owner" ∷ codes "state" ∷ codes "key" ∷ codes "words" ∷ codes "space" ∷ codes "registers" ∷
+          []) no_members
           ms chain refl refl;
       root = said_at IsNumber _ _ p.root (value_at (process_pairs p) ms chain refl 0 (omega arith)) (may.numbers.0, refl);
       annex = said_at IsNumber _ _ p.annex (value_at (process_pairs p) ms chain refl 1 (omega arith)) (may.numbers.1, refl);
       owner = said_at IsNumber _ _ p.owner (value_at (process_pairs p) ms chain refl 2 (omega arith)) (may.numbers.2, refl);
       state = said_at IsState _ _ p.state (value_at (process_pairs p) ms chain refl 3 (omega arith)) (says_state p.state entry.state);
-      key = said_or 0 IsNumber _ _ p.key (value_at (process_pairs p) ms chain refl 4 (omega arith)) (says_number_unless 0 p.key may.numbers.3);
-      words = said_or _ AreFour _ _ p.words (value_at (process_pairs p) ms chain refl 5 (omega arith)) (says_four p.words may.words.0 may.words.1);
-      space = said_or _ IsCapability _ _ p.space (value_at (process_pairs p) ms chain refl 6 (omega arith)) (says_space p.space entry.space may.space);
+      key = said_or 0 IsNumber _ _ p.key (value_at (process_pairs p) ms chain refl 4 (omega arith))
+          (says_number_unless 0 p.key may.numbers.3);
+      words = said_or _ AreFour _ _ p.words (value_at (process_pairs p) ms chain refl 5 (omega arith))
+          (says_four p.words may.words.0 may.words.1);
+      space = said_or _ IsCapability _ _ p.space (value_at (process_pairs p) ms chain refl 6 (omega arith))
+          (says_space p.space entry.space may.space);
       registers = said_or [] (IsList IsSlot) _ _ p.registers.items (value_at (process_pairs p) ms chain refl 7 (omega arith))
           (says_slots p.registers.items entry.registers.held may.registers);
     };
@@ -91,7 +108,8 @@ module _ (n : NodeEntry) (entry : AreSlots 0 n.slots.items) (may : SpellsNode n)
       known = chain_only (node_pairs n) (codes "number" ∷ codes "owner" ∷ codes "slots" ∷ []) no_members ms chain refl refl;
       number = said_at IsNumber _ _ n.number (value_at (node_pairs n) ms chain refl 0 (omega arith)) (may.0, refl);
       owner = said_at IsNumber _ _ n.owner (value_at (node_pairs n) ms chain refl 1 (omega arith)) (may.1, refl);
-      slots = said_or [] (IsList IsSlot) _ _ n.slots.items (value_at (node_pairs n) ms chain refl 2 (omega arith)) (says_slots n.slots.items entry.held may.2);
+      slots = said_or [] (IsList IsSlot) _ _ n.slots.items (value_at (node_pairs n) ms chain refl 2 (omega arith))
+          (says_slots n.slots.items entry.held may.2);
     };
   }
 
@@ -113,7 +131,8 @@ module _ (p : PageEntry) (may : SpellsPage p) where
       known = chain_only (page_pairs p) (codes "number" ∷ codes "owner" ∷ codes "words" ∷ []) no_members ms chain refl refl;
       number = said_at IsNumber _ _ p.number (value_at (page_pairs p) ms chain refl 0 (omega arith)) (may.0, refl);
       owner = said_at IsNumber _ _ p.owner (value_at (page_pairs p) ms chain refl 1 (omega arith)) (may.1, refl);
-      words = said_or [] (IsList IsWord) _ _ p.words.items (value_at (page_pairs p) ms chain refl 2 (omega arith)) (says_words p.words.items may.2);
+      words = said_or [] (IsList IsWord) _ _ p.words.items (value_at (page_pairs p) ms chain refl 2 (omega arith))
+          (says_words p.words.items may.2);
     };
   }
 
@@ -144,7 +163,8 @@ module _ (d : Description) (may : CanBeSpelled d) (banks processes nodes pages :
       let at = value_at (whole_pairs d banks processes nodes pages) ms chain refl in
       record {
         known = chain_only (whole_pairs d banks processes nodes pages)
-            (codes "nodes" ∷ codes "pages" ∷ codes "log" ∷ codes "layout" ∷ codes "age" ∷ codes "ranges" ∷ codes "bank" ∷ codes "process" ∷ codes "node" ∷ codes
+            (codes "nodes" ∷ codes "pages" ∷ codes "log" ∷ codes "layout" ∷ codes "age" ∷ codes "ranges" ∷ codes "bank" ∷ codes "process" ∷
+            codes "node" ∷ codes
             "page" ∷ []) no_members ms chain refl refl;
         geometry = record {
           nodes = said_at IsNumber _ _ d.geometry.nodes (at 0 (omega arith)) (may.geometry.0, refl);
@@ -153,7 +173,8 @@ module _ (d : Description) (may : CanBeSpelled d) (banks processes nodes pages :
         };
         layout = said_or 1 IsNumber _ _ d.layout (at 3 (omega arith)) (says_number_unless 1 d.layout may.layout);
         age = said_or 0 IsNumber _ _ d.age (at 4 (omega arith)) (says_number_unless 0 d.age may.age);
-        ranges = said_or (whole_ranges d.geometry) (IsList IsRange) _ _ d.ranges.items (at 5 (omega arith)) (says_ranges d.geometry d.ranges.items may.ranges);
+        ranges = said_or (whole_ranges d.geometry) (IsList IsRange) _ _ d.ranges.items (at 5 (omega arith))
+            (says_ranges d.geometry d.ranges.items may.ranges);
         banks = said_or [] (IsList (IsTable IsBank)) _ _ d.banks.items (at 6 (omega arith)) says_banks;
         processes = said_or [] (IsList (IsTable IsProcess)) _ _ d.processes.items (at 7 (omega arith)) says_processes;
         nodes = said_or [] (IsList (IsTable IsNode)) _ _ d.nodes.items (at 8 (omega arith)) says_nodes;

@@ -7,15 +7,17 @@ use Rattle.std.proofs.Common.{◌≡◌, ◌∷◌, ◌++◌, ◌∙◌}
 use Rattle.model.specs.declared.object.Content.TheVariants as content
 
 -- what holds of all of one list holds of all of the other
-all_same : {A : Type 0} (R : A → A → Type 0) (P : A → Type 0) → ((x y : A) → R x y → P y → P x) → (xs ys : List A) → Each R xs ys → All P ys → All P xs
+all_same : {A : Type 0} (R : A → A → Type 0) (P : A → Type 0) → ((x y : A) → R x y → P y → P x) → (xs ys : List A) → Each R xs ys →
+    All P ys → All P xs
 all_same R P back [] ys each all = All-nil P
 all_same R P back (x ∷ xs) [] each all = absurd each
 all_same R P back (x ∷ xs) (y ∷ ys) each all =
-    All-cons P x xs (back x y each.0 (all 0 y (omega arith))) (all_same R P back xs ys each.1 (λ k d inside. all (suc k) d (omega (arith, inside))))
+    All-cons P x xs (back x y each.0 (all 0 y (omega arith))) (all_same R P back xs ys each.1
+    (λ k d inside. all (suc k) d (omega (arith, inside))))
 
 -- and their numbers are the same
-numbers_same : {A : Type 0} (R : A → A → Type 0) (number : A → ℕ) → ((x y : A) → R x y → number x ≡ number y) → (xs ys : List A) → Each R xs ys →
-    map number xs ≡ map number ys
+numbers_same : {A : Type 0} (R : A → A → Type 0) (number : A → ℕ) → ((x y : A) → R x y → number x ≡ number y) → (xs ys : List A) →
+    Each R xs ys → map number xs ≡ map number ys
 numbers_same R number same [] [] each = refl
 numbers_same R number same [] (y ∷ ys) each = absurd each
 numbers_same R number same (x ∷ xs) [] each = absurd each
@@ -26,13 +28,28 @@ same_root : (p q : ProcessEntry) (f g : Frame) → IsSameProcess p q → f ≡ g
 same_root p q f g same frames is = grind (arith, nat_tests)
 
 same_annex : (p q : ProcessEntry) (f g : Frame) → IsSameProcess p q → f ≡ g → IsDescribedAnnex q g → IsDescribedAnnex p f
-same_annex p q f g same frames is = (is.0, rw same.registers is.1, frames ∙ is.2 ∙ ap (λ (n : ℕ). first_frame n (content.Annex is.0)) (sym same.owner))
+same_annex p q f g same frames is = (
+  is.0,
+  rw same.registers is.1,
+  frames ∙ is.2
+      ∙ ap (λ (n : ℕ). first_frame n (content.Annex is.0)) (sym same.owner),
+)
 
 same_node : (m n : NodeEntry) (f g : Frame) → IsSameNode m n → f ≡ g → IsDescribedNode n g → IsDescribedNode m f
-same_node m n f g same frames is = (is.0, rw same.slots is.1, frames ∙ is.2 ∙ ap (λ (k : ℕ). first_frame k (content.Node is.0)) (sym same.owner))
+same_node m n f g same frames is = (
+  is.0,
+  rw same.slots is.1,
+  frames ∙ is.2
+      ∙ ap (λ (k : ℕ). first_frame k (content.Node is.0)) (sym same.owner),
+)
 
 same_page : (p q : PageEntry) (f g : Frame) → IsSamePage p q → f ≡ g → IsDescribedPage q g → IsDescribedPage p f
-same_page p q f g same frames is = (is.0, rw same.words is.1, frames ∙ is.2 ∙ ap (λ (k : ℕ). first_frame k (content.Page is.0)) (sym same.owner))
+same_page p q f g same frames is = (
+  is.0,
+  rw same.words is.1,
+  frames ∙ is.2
+      ∙ ap (λ (k : ℕ). first_frame k (content.Page is.0)) (sym same.owner),
+)
 
 module _ (d e : Description) (same : IsSame d e) where
   same_numbers : node_numbers d ++ page_numbers d ≡ node_numbers e ++ page_numbers e
@@ -42,9 +59,11 @@ module _ (d e : Description) (same : IsSame d e) where
   pub same_described : (frames : List Frame) → IsDescribed e frames → IsDescribed d frames
   same_described frames is = record {
     count = is.count ∙ ap (λ (g : Geometry). object_count g) (sym same.geometry);
-    banks = subst (λ (bs : List BankEntry). All (λ b. frame_at frames b.number ≡ first_frame b.owner (content.Bank b.limit)) bs) (sym same.banks) is.banks;
+    banks = subst (λ (bs : List BankEntry). All (λ b. frame_at frames b.number ≡ first_frame b.owner (content.Bank b.limit)) bs)
+        (sym same.banks) is.banks;
     roots = all_same IsSameProcess (λ p. IsDescribedRoot p (frame_at frames p.root))
-        (λ p q one root. same_root p q (frame_at frames p.root) (frame_at frames q.root) one (ap (frame_at frames) one.root) root) _ _ same.processes is.roots;
+        (λ p q one root. same_root p q (frame_at frames p.root) (frame_at frames q.root) one (ap (frame_at frames) one.root) root) _ _
+        same.processes is.roots;
     annexes = all_same IsSameProcess (λ p. IsDescribedAnnex p (frame_at frames p.annex))
         (λ p q one annex. same_annex p q (frame_at frames p.annex) (frame_at frames q.annex) one (ap (frame_at frames) one.annex) annex) _
         _ same.processes is.annexes;

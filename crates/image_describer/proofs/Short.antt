@@ -29,12 +29,14 @@ bank_kind g n other bank kind = absurd cc
 
 -- the entries of slots and of words that a frame holds
 module _ (g : Geometry) (age : ℕ) where
-  pub slots_short : (first : ℕ) (entries : List SlotEntry) (slots : List Cap) → AreSlots first entries → HoldsNamed entries slots → AreKeptSlots g age slots →
-      All SpellsSlot entries
+  pub slots_short : (first : ℕ) (entries : List SlotEntry) (slots : List Cap) → AreSlots first entries → HoldsNamed entries slots →
+      AreKeptSlots g age slots → All SpellsSlot entries
   slots_short first entries slots are holds kept = all_from SpellsSlot _ (λ s there.
       let place = All-contains (λ (t : SlotEntry). (first ≤ t.index) × (t.index < 32)) _ s are.places there in
-      let held : IsKeptCap g age (fresh_cap (named_at entries s.index)) = all_got (IsKeptCap g age) slots _ _ kept.each (holds.each s.index place.1) in
-      let is : named_at entries s.index ≡ unwrap_or s.capability Void = first_of (λ t. t.index) (λ t. unwrap_or t.capability Void) Void _ s are.distinct
+      let held : IsKeptCap g age (fresh_cap (named_at entries s.index)) = all_got (IsKeptCap g age) slots _ _ kept.each
+      (holds.each s.index place.1) in
+      let is : named_at entries s.index ≡ unwrap_or s.capability Void = first_of (λ t. t.index) (λ t. unwrap_or t.capability Void) Void _ s
+      are.distinct
       there in (
         omega (arith, place.1),
         held_wide g age _ (subst (Follows g age 0) is held),
@@ -94,18 +96,21 @@ module _ (p : Plan) (plan : IsPlan p) (age : ℕ) (fs : List Frame) (d : Descrip
 
     not_free : role_of c ≢ role.Free → is_free (content_at os n) ≢ true
     not_free other free =
-        let same : role_of (map_content fresh_cap (content_at os n)) ≡ role_of (content_at os n) = (mapped fresh_cap (content_at os n)).role in
+        let same : role_of (map_content fresh_cap (content_at os n)) ≡ role_of (content_at os n) =
+        (mapped fresh_cap (content_at os n)).role in
         other (sym (ap (λ (f : Frame). f.header.role) frame_is) ∙ same ∙ free_role (content_at os n) free)
 
     owner_short : role_of c ≢ role.Free → IsShort owner
     owner_short other =
         let bank : IsTrue (is_bank (content_at os (owner_at os n))) = sound.sound.owners n (not_free other) in
-        let few : owner_at os n < g.nodes = bank_kind g (owner_at os n) (content_at os (owner_at os n)) bank (sound.sound.kinds (owner_at os n)) in
+        let few : owner_at os n < g.nodes = bank_kind g (owner_at os n) (content_at os (owner_at os n)) bank
+        (sound.sound.kinds (owner_at os n)) in
         subst IsShort owner_is (omega (arith, few, plan.geometry.most_nodes))
 
   -- the numbers that are named
   node_named : (n : ℕ) → Contains (node_numbers d) n → n < g.nodes
-  node_named n there = rw (← describes.geometry) (All-contains (λ (k : ℕ). k < d.geometry.nodes) (node_numbers d) n describes.numbers.nodes there)
+  node_named n there = rw (← describes.geometry) (All-contains (λ (k : ℕ). k < d.geometry.nodes) (node_numbers d) n describes.numbers.nodes
+      there)
 
   abbrev bank_numbers : List ℕ
   bank_numbers = map (λ b. b.number) d.banks.items
@@ -137,12 +142,14 @@ module _ (p : Plan) (plan : IsPlan p) (age : ℕ) (fs : List Frame) (d : Descrip
 
   page_number : (q : PageEntry) → Contains d.pages.items q → q.number < object_count g
   page_number q there = subst (λ (h : Geometry). q.number < object_count h) describes.geometry
-      (All-contains (λ (k : ℕ). (d.geometry.nodes ≤ k) × (k < object_count d.geometry)) _ _ describes.numbers.pages (contains_map (λ p. p.number) q _ there)).1
+      (All-contains (λ (k : ℕ). (d.geometry.nodes ≤ k) × (k < object_count d.geometry)) _ _ describes.numbers.pages
+      (contains_map (λ p. p.number) q _ there)).1
 
   -- the objects
   banks_short : All SpellsBank d.banks.items
   banks_short = all_from SpellsBank d.banks.items (λ b there.
-      let is = All-contains (λ (c : BankEntry). frame_at (plain_frames os) c.number ≡ first_frame c.owner (content.Bank c.limit)) d.banks.items b
+      let is = All-contains (λ (c : BankEntry). frame_at (plain_frames os) c.number ≡ first_frame c.owner (content.Bank c.limit))
+      d.banks.items b
       describes.frames.banks there in
       let few = bank_number b there in (
         omega (arith, few, plan.geometry.most_nodes),
@@ -153,15 +160,24 @@ module _ (p : Plan) (plan : IsPlan p) (age : ℕ) (fs : List Frame) (d : Descrip
   processes_short : All SpellsProcess d.processes.items
   processes_short = all_from SpellsProcess d.processes.items (λ q there.
       let entry = All-contains IsProcessEntry d.processes.items q describes.fields.processes there in
-      let (state, space, is_state, is_space, is) = All-contains (λ (r : ProcessEntry). IsDescribedRoot r (frame_at (plain_frames os) r.root)) d.processes.items
+      let (state, space, is_state, is_space, is) = All-contains (λ (r : ProcessEntry). IsDescribedRoot r
+      (frame_at (plain_frames os) r.root)) d.processes.items
       q describes.frames.roots there in
-      let (slots, holds, annex_is) = All-contains (λ (r : ProcessEntry). IsDescribedAnnex r (frame_at (plain_frames os) r.annex)) d.processes.items q
+      let (slots, holds, annex_is) = All-contains (λ (r : ProcessEntry). IsDescribedAnnex r (frame_at (plain_frames os) r.annex))
+      d.processes.items q
       describes.frames.annexes there in
       let few = root_number q there in
       let few_annex = annex_number q there in
-      let root : Content Cap = content.Root (record { state = state; words = q.words; key = q.key; annex = q.annex; space = fresh_cap space }) in
+      let root : Content Cap = content.Root (record {
+        state = state;
+        words = q.words;
+        key = q.key;
+        annex = q.annex;
+        space = fresh_cap space;
+      }) in
       let kept_root : MayBeKept g age root = kept q.root q.owner root is (omega (arith, few)) in
-      let kept_annex : MayBeKept g age (content.Annex slots) = kept q.annex q.owner (content.Annex slots) annex_is (omega (arith, few_annex)) in
+      let kept_annex : MayBeKept g age (content.Annex slots) = kept q.annex q.owner (content.Annex slots) annex_is
+      (omega (arith, few_annex)) in
       record {
         numbers = (
           omega (arith, few, plan.geometry.most_nodes),
@@ -177,7 +193,8 @@ module _ (p : Plan) (plan : IsPlan p) (age : ℕ) (fs : List Frame) (d : Descrip
   nodes_short : All SpellsNode d.nodes.items
   nodes_short = all_from SpellsNode _ (λ n there.
       let entry = All-contains (λ (m : NodeEntry). AreSlots 0 m.slots.items) _ n describes.fields.nodes there in
-      let (slots, holds, is) = All-contains (λ (m : NodeEntry). IsDescribedNode m (frame_at (plain_frames os) m.number)) _ n describes.frames.nodes there in
+      let (slots, holds, is) = All-contains (λ (m : NodeEntry). IsDescribedNode m (frame_at (plain_frames os) m.number)) _ n
+      describes.frames.nodes there in
       let few = node_number n there in (
         omega (arith, few, plan.geometry.most_nodes),
         owner_short _ _ _ is (λ same. absurd cc),
@@ -187,7 +204,8 @@ module _ (p : Plan) (plan : IsPlan p) (age : ℕ) (fs : List Frame) (d : Descrip
   pages_short : All SpellsPage d.pages.items
   pages_short = all_from SpellsPage _ (λ q there.
       let entry = All-contains (λ (r : PageEntry). AreWords r.words.items) _ q describes.fields.pages there in
-      let (words, holds, is) = All-contains (λ (r : PageEntry). IsDescribedPage r (frame_at (plain_frames os) r.number)) _ q describes.frames.pages there in
+      let (words, holds, is) = All-contains (λ (r : PageEntry). IsDescribedPage r (frame_at (plain_frames os) r.number)) _ q
+      describes.frames.pages there in
       let few = page_number q there in
       let most = numbers_few in (
         omega (arith, few, most),
@@ -199,7 +217,8 @@ module _ (p : Plan) (plan : IsPlan p) (age : ℕ) (fs : List Frame) (d : Descrip
   ranges_short are =
       let most = numbers_few in
       let inside : All (IsInside g) p.ranges = All-from_recursion (IsInside g) p.ranges (ranges_inside g 0 p.ranges plan.cover) in
-      let short : All (λ (r : HomeRange). SpellsRange (numbers_of r)) p.ranges = All-weaker (IsInside g) (λ (r : HomeRange). SpellsRange (numbers_of r))
+      let short : All (λ (r : HomeRange). SpellsRange (numbers_of r)) p.ranges =
+      All-weaker (IsInside g) (λ (r : HomeRange). SpellsRange (numbers_of r))
       (λ r in_it. (omega (arith, in_it, most), omega (arith, in_it, most))) p.ranges inside in
       subst (All SpellsRange) (sym are) (All-map SpellsRange numbers_of p.ranges short)
 

@@ -33,20 +33,21 @@ module _ {E : Type 0} (number : E → ℕ) (Tells : E → Type 0) (kind : Role) 
           Contains-append_right (map number es) (number e ∷ []) n (rw (← same) (contains_here (number e) []))
     ]);
     below = All-push (λ f. number f < count + 1) es e
-        (All-weaker (λ f. number f < count) (λ f. number f < count + 1) (λ f under. omega (arith, under)) es tell.below) (omega (arith, at));
+        (All-weaker (λ f. number f < count) (λ f. number f < count + 1) (λ f under. omega (arith, under)) es tell.below)
+        (omega (arith, at));
     rising = rw (map_both number es (e ∷ [])) (rising_more (map number es) (number e) tell.rising (All-map (λ n. n < number e) number es
         (All-weaker (λ f. number f < count) (λ f. number f < number e) (λ f under. omega (arith, under, at)) es tell.below)));
   }
 
   -- the next number is described
-  pub tell_next : (count : ℕ) (es next : List E) (o : Option E) → TellBelow count es → MayTell number Tells kind os count o → next ≡ es ++ option_to_list o →
-      TellBelow (count + 1) next
+  pub tell_next : (count : ℕ) (es next : List E) (o : Option E) → TellBelow count es → MayTell number Tells kind os count o →
+      next ≡ es ++ option_to_list o → TellBelow (count + 1) next
   tell_next count es next None tell may made = subst (TellBelow (count + 1)) (sym (made ∙ append-nil es)) (tell_less count es tell may)
   tell_next count es next (Some e) tell may made = subst (TellBelow (count + 1)) (sym made) (tell_more count es e tell may.0 may.1)
 
   -- all are described where all else is free
-  pub tell_all : (count : ℕ) (es : List E) → TellBelow count es → kind ≢ role.Free → ((n : ℕ) → count ≤ n → role_of (content_at os n) ≡ role.Free) →
-      TellAll number Tells kind os es
+  pub tell_all : (count : ℕ) (es : List E) → TellBelow count es → kind ≢ role.Free →
+      ((n : ℕ) → count ≤ n → role_of (content_at os n) ≡ role.Free) → TellAll number Tells kind os es
   tell_all count es tell some free = grind (arith, nat_tests)
 
 -- past the last header all is free

@@ -121,7 +121,8 @@ abbrev pub list_data : {A : Type 0} → (A → Data) → List A → Option Data
 list_data g [] = None
 list_data g (x ∷ xs) = Some (array (items g (x ∷ xs)))
 
-module _ {A : Type 0} (f : A → List ℕ) (g : A → Data) (P : Data → A → Type 0) (May : A → Type 0) (spell : (x : A) → May x → Spells 1 (f x) (g x))
+module _ {A : Type 0} (f : A → List ℕ) (g : A → Data) (P : Data → A → Type 0) (May : A → Type 0)
+    (spell : (x : A) → May x → Spells 1 (f x) (g x))
     (say : (x : A) → May x → P (g x) x) where
   spells_some : (xs : List A) → All May xs → SpellsOption (list_unless_empty f xs) (list_data g xs)
   spells_some [] may = tt
@@ -171,7 +172,8 @@ same_number m n is = grind (arith, nat_tests, is)
 pub spells_number_unless : (default n : ℕ) → IsShort n → SpellsOption (number_unless default n) (data_unless (n == default) (number_data n))
 spells_number_unless default n short = spells_unless _ _ _ (deeper 0 2 _ _ (omega arith) (spells_number n short))
 
-pub says_number_unless : (default n : ℕ) → IsShort n → MatchOption (data_unless (n == default) (number_data n)) (n ≡ default) (λ d. IsNumber d n)
+pub says_number_unless : (default n : ℕ) → IsShort n → MatchOption (data_unless (n == default) (number_data n)) (n ≡ default)
+    (λ d. IsNumber d n)
 says_number_unless default n short = says_unless (n == default) (number_data n) n default IsNumber (same_number n default) (short, refl)
 
 -- the words of a process
@@ -184,10 +186,12 @@ words_data words = data_unless (list_all (λ w. w == 0) words) (array (items wid
 
 module _ (words : List ℕ) (four : length words ≡ 4) (wide : All IsWide words) where
   pub spells_four : SpellsOption (words_unless_zeros words) (words_data words)
-  spells_four = spells_unless _ _ _ (deeper 1 2 _ _ (omega arith) (spells_all wide_text wide_data 0 IsWideNumber IsWide spells_wide says_wide words wide))
+  spells_four = spells_unless _ _ _ (deeper 1 2 _ _ (omega arith) (spells_all wide_text wide_data 0 IsWideNumber IsWide spells_wide
+      says_wide words wide))
 
   pub says_four : MatchOption (words_data words) (words ≡ 0 ∷ 0 ∷ 0 ∷ 0 ∷ []) (λ d. AreFour d words)
-  says_four = says_unless (list_all (λ w. w == 0) words) (array (items wide_data words)) words (0 ∷ 0 ∷ 0 ∷ 0 ∷ []) AreFour (four_zeros words four)
+  says_four = says_unless (list_all (λ w. w == 0) words) (array (items wide_data words)) words (0 ∷ 0 ∷ 0 ∷ 0 ∷ []) AreFour
+      (four_zeros words four)
       (four, says_all wide_text wide_data 0 IsWideNumber IsWide spells_wide says_wide words wide)
 
 -- an address space
@@ -195,7 +199,8 @@ abbrev pub space_data : Option Capability → Option Data
 space_data (Some Void) = None
 space_data space = Some (held_data space)
 
-pub spells_space : (space : Option Capability) → IsSpaceEntry space → NamesWide space → SpellsOption (space_unless_void space) (space_data space)
+pub spells_space : (space : Option Capability) → IsSpaceEntry space → NamesWide space →
+    SpellsOption (space_unless_void space) (space_data space)
 spells_space (Some Void) is wide = tt
 spells_space (Some (Page o a)) is wide = deeper 0 2 (held_text (Some (Page o a))) (held_data (Some (Page o a))) (omega arith)
     (spells_held (Some (Page o a)) is.0 wide)
@@ -227,9 +232,10 @@ two_ranges : (g : Geometry) (rs : List NumberRange) (x : NumberRange) → 2 ≤ 
 two_ranges g (n ∷ p ∷ []) x least most = refl
 two_ranges g rs x least most = absurd (grind (arith, nat_tests))
 
-pub second_range : (g : Geometry) (rs : List NumberRange) (x : NumberRange) → 2 ≤ length rs → length rs < 3 → is_range (get_or rs 0 x) 0 g.nodes ≡ true
-    → (b : Bool) → b ≡ is_range (get_or rs 1 x) g.nodes g.pages → b ≡ are_whole g rs
-second_range g rs x least most whole b is = is ∙ sym (two_ranges g rs x least most ∙ ap (λ (a : Bool). a && is_range (get_or rs 1 x) g.nodes g.pages) whole)
+pub second_range : (g : Geometry) (rs : List NumberRange) (x : NumberRange) → 2 ≤ length rs → length rs < 3 →
+    is_range (get_or rs 0 x) 0 g.nodes ≡ true → (b : Bool) → b ≡ is_range (get_or rs 1 x) g.nodes g.pages → b ≡ are_whole g rs
+second_range g rs x least most whole b is = is ∙ sym (two_ranges g rs x least most
+    ∙ ap (λ (a : Bool). a && is_range (get_or rs 1 x) g.nodes g.pages) whole)
 
 abbrev pub ranges_data : Geometry → List NumberRange → Option Data
 ranges_data g rs = data_unless (are_whole g rs) (array (items range_data rs))
@@ -239,4 +245,5 @@ module _ (g : Geometry) (rs : List NumberRange) (short : All SpellsRange rs) whe
   spells_ranges = spells_unless _ _ _ (spells_all range_text range_data 1 IsRange SpellsRange spells_range says_range rs short)
 
   pub says_ranges : MatchOption (ranges_data g rs) (rs ≡ whole_ranges g) (λ d. IsList IsRange d rs)
-  says_ranges = says_unless _ _ rs _ (IsList IsRange) (whole_is g rs) (says_all range_text range_data 1 IsRange SpellsRange spells_range says_range rs short)
+  says_ranges = says_unless _ _ rs _ (IsList IsRange) (whole_is g rs) (says_all range_text range_data 1 IsRange SpellsRange spells_range
+      says_range rs short)

@@ -26,10 +26,14 @@ arrow_to_has holder at c o target is = rw is (contains_here (record { holder = h
 
 arrow_once : (holder : ℕ) (at : Place) (c : Capability) (o : Option ℕ) → IsOnce (arrow_to holder at c o)
 arrow_once holder at c None = tt
-arrow_once holder at c (Some target) = ((λ h. contains_none (record { holder = holder; place = at; capability = c; target = target }) h), tt)
+arrow_once holder at c (Some target) = (
+  (λ h. contains_none (record { holder = holder; place = at; capability = c; target = target }) h),
+  tt,
+)
 
 -- an arrow of a capability that is held
-arrow_held : (os : List Object) (holder : ℕ) (at : Place) (c : Capability) (a : Arrow) → Holds os holder at c → Contains (arrow_of holder at c) a → IsArrow os a
+arrow_held : (os : List Object) (holder : ℕ) (at : Place) (c : Capability) (a : Arrow) → Holds os holder at c →
+    Contains (arrow_of holder at c) a → IsArrow os a
 arrow_held os holder at c a holds h =
     let found = in_arrow_to holder at c (named c) a h in
     let made : Arrow = record { holder = holder; place = at; capability = c; target = found.0 } in
@@ -37,7 +41,8 @@ arrow_held os holder at c a holds h =
     subst (IsArrow os) found.2 is
 
 -- where arrows begin
-holder_is : (holder : ℕ) (at : Place) (c : Capability) (a : Arrow) → Contains (arrow_of holder at c) a → (a.holder ≡ holder) × (a.place ≡ at)
+holder_is : (holder : ℕ) (at : Place) (c : Capability) (a : Arrow) → Contains (arrow_of holder at c) a →
+    (a.holder ≡ holder) × (a.place ≡ at)
 holder_is holder at c a h =
     let found = in_arrow_to holder at c (named c) a h in
     (ap (λ (b : Arrow). b.holder) (sym found.2), ap (λ (b : Arrow). b.place) (sym found.2))
@@ -56,11 +61,12 @@ in_slots : (holder : ℕ) (at : ℕ → Place) (slots : List SlotEntry) (a : Arr
     → (s : SlotEntry) × Contains slots s × Contains (arrow_of holder (at s.index) (value_of s)) a
 in_slots holder at slots a h = contains_flat (λ s. arrow_of holder (at s.index) (value_of s)) a slots h
 
-slots_once : (holder : ℕ) (at : ℕ → Place) (slots : List SlotEntry) → ((i : ℕ) → index_of (at i) ≡ i) → AreDistinct (map (λ s. s.index) slots) →
-    IsOnce (arrows_at holder at slots)
+slots_once : (holder : ℕ) (at : ℕ → Place) (slots : List SlotEntry) → ((i : ℕ) → index_of (at i) ≡ i) →
+    AreDistinct (map (λ s. s.index) slots) → IsOnce (arrows_at holder at slots)
 slots_once holder at slots same distinct =
     once_flat (λ s. arrow_of holder (at s.index) (value_of s)) (λ a. index_of a.place) (λ s. s.index) slots (once_distinct _ distinct)
-    (λ s there. arrow_once holder (at s.index) (value_of s) (named (value_of s))) (λ s a there. ap index_of (holder_is _ _ _ a there).1 ∙ same s.index)
+    (λ s there. arrow_once holder (at s.index) (value_of s) (named (value_of s)))
+    (λ s a there. ap index_of (holder_is _ _ _ a there).1 ∙ same s.index)
 
 slots_holder : (holder : ℕ) (at : ℕ → Place) (slots : List SlotEntry) (a : Arrow) → Contains (arrows_at holder at slots) a →
     (a.holder ≡ holder) × (i : ℕ) × (a.place ≡ at i)
@@ -112,9 +118,11 @@ module _ (g : Geometry) (w : World) (d : Description) (describes : Describes g w
 
   arrows_once : IsOnce (arrows d)
   arrows_once = once_append (flat_map process_arrows d.processes.items) (flat_map node_arrows d.nodes.items)
-      (once_flat process_arrows (λ a. a.holder) (λ p. p.root) d.processes.items (once_distinct (map (λ p. p.root) d.processes.items) roots_distinct)
+      (once_flat process_arrows (λ a. a.holder) (λ p. p.root) d.processes.items
+      (once_distinct (map (λ p. p.root) d.processes.items) roots_distinct)
       (λ p there. process_once p (registers_are p there).distinct) process_holder)
-      (once_flat node_arrows (λ a. a.holder) (λ n. n.number) d.nodes.items (once_distinct (map (λ n. n.number) d.nodes.items) nodes_distinct)
+      (once_flat node_arrows (λ a. a.holder) (λ n. n.number) d.nodes.items (once_distinct (map (λ n. n.number) d.nodes.items)
+      nodes_distinct)
       (λ n there. slots_once n.number place.Slot n.slots.items (λ i. refl) (slots_are n there).distinct)
       (λ n a there. (slots_holder n.number place.Slot n.slots.items a there).0)) (λ a process node.
       let one = contains_flat process_arrows a d.processes.items process in
@@ -140,8 +148,8 @@ module _ (g : Geometry) (w : World) (d : Description) (describes : Describes g w
       ap (λ (n : ℕ). slot_at w.objects n i) (annex_is p there)
       ∙ ap (λ (o : Object). slice_index_or (slots_in o.content) i Void) (annex_reported g w d describes p there).2
 
-  slot_is : (n : NodeEntry) (there : Contains d.nodes.items n) (i : ℕ) → slot_at w.objects n.number i ≡ slice_index_or (node_reported g w d describes n there).0
-      i Void
+  slot_is : (n : NodeEntry) (there : Contains d.nodes.items n) (i : ℕ) → slot_at w.objects n.number i
+      ≡ slice_index_or (node_reported g w d describes n there).0 i Void
   slot_is n there i = ap (λ (o : Object). slice_index_or (slots_in o.content) i Void) (node_reported g w d describes n there).2
 
   node_is : (n : NodeEntry) → Contains d.nodes.items n → IsTrue (is_node (content_at w.objects n.number))
@@ -171,10 +179,12 @@ module _ (g : Geometry) (w : World) (d : Description) (describes : Describes g w
   ]
 
   -- the description has the holder
-  process_of : (e : Entry) → IsOf d e → IsTrue (is_process w.objects (number_of e)) → (p : ProcessEntry) × Contains d.processes.items p × (p.root ≡ number_of e)
+  process_of : (e : Entry) → IsOf d e → IsTrue (is_process w.objects (number_of e)) →
+      (p : ProcessEntry) × Contains d.processes.items p × (p.root ≡ number_of e)
   process_of (OfBank b) there is = absurd (not_both _ is (ap (λ (o : Object). is_root o.content) (bank_reported g w d describes b there)))
   process_of (OfRoot p) there is = (p, there, refl)
-  process_of (OfAnnex p) there is = absurd (not_both _ is (ap (λ (o : Object). is_root o.content) (annex_reported g w d describes p there).2))
+  process_of (OfAnnex p) there is = absurd (not_both _ is (ap (λ (o : Object). is_root o.content)
+      (annex_reported g w d describes p there).2))
   process_of (OfNode n) there is = absurd (not_both _ is (ap (λ (o : Object). is_root o.content) (node_reported g w d describes n there).2))
   process_of (OfPage p) there is = absurd (not_both _ is (ap (λ (o : Object). is_root o.content) (page_reported g w d describes p there).1))
 
@@ -209,34 +219,37 @@ module _ (g : Geometry) (w : World) (d : Description) (describes : Describes g w
   process_has : (p : ProcessEntry) (a : Arrow) → Contains d.processes.items p → Contains (process_arrows p) a → Contains (arrows d) a
   process_has p a there h = Contains-append_left _ _ a (flat_contains process_arrows p a _ there h)
 
-  space_has : (p : ProcessEntry) (c : Capability) (target : ℕ) → Contains d.processes.items p → (root_at w.objects p.root).space ≡ c → named c ≡ Some target →
-      HasArrow p.root place.Space c target
+  space_has : (p : ProcessEntry) (c : Capability) (target : ℕ) → Contains d.processes.items p → (root_at w.objects p.root).space ≡ c →
+      named c ≡ Some target → HasArrow p.root place.Space c target
   space_has p c target there is names =
       let value : unwrap_or p.space Void ≡ c = sym (space_is p there) ∙ is in
-      process_has p _ there (Contains-append_left (arrow_of p.root place.Space (unwrap_or p.space Void)) (arrows_at p.root place.Register p.registers.items) _
+      process_has p _ there (Contains-append_left (arrow_of p.root place.Space (unwrap_or p.space Void))
+      (arrows_at p.root place.Register p.registers.items) _
       (rw value (arrow_to_has p.root place.Space c (named c) target names)))
 
-  slot_has : (holder : ℕ) (at : ℕ → Place) (slots : List SlotEntry) (s : SlotEntry) (i : ℕ) (c : Capability) (target : ℕ) → Contains slots s → s.index ≡ i →
-      value_of s ≡ c → named c ≡ Some target
+  slot_has : (holder : ℕ) (at : ℕ → Place) (slots : List SlotEntry) (s : SlotEntry) (i : ℕ) (c : Capability) (target : ℕ) →
+      Contains slots s → s.index ≡ i → value_of s ≡ c → named c ≡ Some target
       → Contains (arrows_at holder at slots) (record { holder = holder; place = at i; capability = c; target = target })
-  slot_has holder at slots s i c target there is value names = flat_contains (λ s. arrow_of holder (at s.index) (value_of s)) s _ slots there
+  slot_has holder at slots s i c target there is value names = flat_contains (λ s. arrow_of holder (at s.index) (value_of s)) s _ slots
+      there
       (rw is (rw value (arrow_to_has _ _ c _ _ names)))
 
-  register_has : (p : ProcessEntry) (i : ℕ) (c : Capability) (target : ℕ) → Contains d.processes.items p → register_at w.objects p.root i ≡ c →
-      named c ≡ Some target → HasArrow p.root (place.Register i) c target
+  register_has : (p : ProcessEntry) (i : ℕ) (c : Capability) (target : ℕ) → Contains d.processes.items p →
+      register_at w.objects p.root i ≡ c → named c ≡ Some target → HasArrow p.root (place.Register i) c target
   register_has p i c target there is names =
       let annex = annex_reported g w d describes p there in
       let found = said_slot 1 _ _ (registers_are p there) annex.1 i c _ (sym (register_is p there i) ∙ is) names in
       process_has p _ there (Contains-append_right _ _ _ (slot_has _ place.Register _ _ i c _ found.1 found.2 found.3 names))
 
-  node_has : (n : NodeEntry) (i : ℕ) (c : Capability) (target : ℕ) → Contains d.nodes.items n → slot_at w.objects n.number i ≡ c → named c ≡ Some target →
-      HasArrow n.number (place.Slot i) c target
+  node_has : (n : NodeEntry) (i : ℕ) (c : Capability) (target : ℕ) → Contains d.nodes.items n → slot_at w.objects n.number i ≡ c →
+      named c ≡ Some target → HasArrow n.number (place.Slot i) c target
   node_has n i c target there is names =
       let node = node_reported g w d describes n there in
       let found = said_slot 0 _ _ (slots_are n there) node.1 i c _ (sym (slot_is n there i) ∙ is) names in
       Contains-append_right _ _ _ (flat_contains node_arrows n _ _ there (slot_has _ place.Slot _ _ i c _ found.1 found.2 found.3 names))
 
-  held_has : (holder : ℕ) (at : Place) (c : Capability) (target : ℕ) → Holds w.objects holder at c → named c ≡ Some target → HasArrow holder at c target
+  held_has : (holder : ℕ) (at : Place) (c : Capability) (target : ℕ) → Holds w.objects holder at c → named c ≡ Some target →
+      HasArrow holder at c target
   held_has holder at c target holds names = grind (arith, nat_tests, process_at, space_has, register_has, node_at, node_has)
 
   in_arrows : (a : Arrow) → IsArrow w.objects a → Contains (arrows d) a

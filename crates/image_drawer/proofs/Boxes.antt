@@ -48,8 +48,10 @@ boxes_once d distinct =
     let N : List ℕ = map (λ n. n.number) d.nodes.items in
     let P : List ℕ = map (λ p. p.number) d.pages.items in
     let nodes : AreDistinct (B ++ R ++ A ++ N) = distinct_left _ P distinct in
-    once_append _ P (once_append _ N (once_distinct _ (distinct_left _ A (distinct_left _ N nodes))) (once_distinct N (distinct_right _ N nodes))
-    (λ n one two. distinct_apart (B ++ R ++ A) N nodes n (Contains-append_left _ A n one) two)) (once_distinct P (distinct_right _ P distinct))
+    once_append _ P (once_append _ N (once_distinct _ (distinct_left _ A (distinct_left _ N nodes)))
+    (once_distinct N (distinct_right _ N nodes))
+    (λ n one two. distinct_apart (B ++ R ++ A) N nodes n (Contains-append_left _ A n one) two))
+    (once_distinct P (distinct_right _ P distinct))
     (λ n one two. distinct_apart (B ++ R ++ A ++ N) P distinct n (elim (Contains-append_cases _ N n one) [
       | inl left ↦ Contains-append_left _ N n (Contains-append_left _ A n left)
       | inr right ↦ Contains-append_right _ N n right
@@ -68,13 +70,14 @@ in_joined owner number p h = grind (arith, nat_tests, contains_none, joined_none
 joined_once : (owner number : ℕ) → IsOnce (joined owner number)
 joined_once owner number = elim (cases_eq owner number) [
   | inl is ↦ subst (λ (ps : List (ℕ × ℕ)). IsOnce ps) (sym (joined_none owner number is)) tt
-  | inr differ ↦ subst (λ (ps : List (ℕ × ℕ)). IsOnce ps) (sym (joined_some owner number differ)) ((λ h. contains_none (owner, number) h), tt)
+  | inr differ ↦ subst (λ (ps : List (ℕ × ℕ)). IsOnce ps) (sym (joined_some owner number differ))
+      ((λ h. contains_none (owner, number) h), tt)
 ]
 
 -- What the parts of the description of a world say.
 module _ (g : Geometry) (w : World) (d : Description) (describes : Describes g w d) where
-  has_box : (n owner : ℕ) (c : Content Capability) → object_at w.objects n ≡ record { owner = owner; content = c } → is_free c ≡ false → is_annex c ≡ false
-      → HasBox w.objects n × (owner_at w.objects n ≡ owner)
+  has_box : (n owner : ℕ) (c : Content Capability) → object_at w.objects n ≡ record { owner = owner; content = c } → is_free c ≡ false →
+      is_annex c ≡ false → HasBox w.objects n × (owner_at w.objects n ≡ owner)
   has_box n owner c is free annex = (
     (ap (λ (o : Object). is_free o.content) is ∙ free, ap (λ (o : Object). is_annex o.content) is ∙ annex),
     ap (λ (o : Object). o.owner) is,
@@ -83,16 +86,19 @@ module _ (g : Geometry) (w : World) (d : Description) (describes : Describes g w
   abbrev IsPart : ℕ × ℕ → Type 0
   IsPart p = HasBox w.objects p.1 × (owner_at w.objects p.1 ≡ p.0)
 
-  part_from : {X : Type 0} (f : X → ℕ × ℕ) (xs : List X) (p : ℕ × ℕ) → ((x : X) → Contains xs x → IsPart (f x)) → Contains (map f xs) p → IsPart p
+  part_from : {X : Type 0} (f : X → ℕ × ℕ) (xs : List X) (p : ℕ × ℕ) → ((x : X) → Contains xs x → IsPart (f x)) → Contains (map f xs) p →
+      IsPart p
   part_from f xs p each h = let found = map_contains f p xs h in subst IsPart found.2 (each found.0 found.1)
 
   part_reported : (p : ℕ × ℕ) → Contains (parts d) p → IsPart p
   part_reported p h = elim (Contains-append_cases (bank_parts d ++ root_parts d ++ node_parts d) (page_parts d) p h) [
     | inr page ↦ part_from (λ p. (p.owner, p.number)) d.pages.items p
-        (λ p there. let reported = page_reported g w d describes p there in has_box p.number p.owner (content.Page reported.0) reported.1 refl refl) page
+        (λ p there. let reported = page_reported g w d describes p there in
+        has_box p.number p.owner (content.Page reported.0) reported.1 refl refl) page
     | inl rest ↦ elim (Contains-append_cases (bank_parts d ++ root_parts d) (node_parts d) p rest) [
       | inr node ↦ part_from (λ n. (n.owner, n.number)) d.nodes.items p
-          (λ n there. let reported = node_reported g w d describes n there in has_box n.number n.owner (content.Node reported.0) reported.2 refl refl) node
+          (λ n there. let reported = node_reported g w d describes n there in
+          has_box n.number n.owner (content.Node reported.0) reported.2 refl refl) node
       | inl more ↦ elim (Contains-append_cases (bank_parts d) (root_parts d) p more) [
         | inr root ↦ part_from (λ p. (p.owner, p.root)) d.processes.items p
             (λ p there. let reported = root_reported g w d describes p there in has_box p.root p.owner _ reported.3 refl refl) root
@@ -102,22 +108,25 @@ module _ (g : Geometry) (w : World) (d : Description) (describes : Describes g w
     ]
   ]
 
-  same_owner : (n owner : ℕ) (c : Content Capability) → object_at w.objects n ≡ record { owner = owner; content = c } → Contains (parts d) (owner, n) →
-      Contains (parts d) (owner_at w.objects n, n)
+  same_owner : (n owner : ℕ) (c : Content Capability) → object_at w.objects n ≡ record { owner = owner; content = c } →
+      Contains (parts d) (owner, n) → Contains (parts d) (owner_at w.objects n, n)
   same_owner n owner c is there = subst (λ (m : ℕ). Contains (parts d) (m, n)) (sym (ap (λ (o : Object). o.owner) is)) there
 
   entry_part : (e : Entry) → IsOf d e → HasBox w.objects (number_of e) → Contains (parts d) (owner_at w.objects (number_of e), number_of e)
-  entry_part (OfBank b) there has = same_owner _ _ _ (bank_reported g w d describes b there) (Contains-append_left _ _ _ (Contains-append_left _ _ _
+  entry_part (OfBank b) there has = same_owner _ _ _ (bank_reported g w d describes b there)
+      (Contains-append_left _ _ _ (Contains-append_left _ _ _
       (Contains-append_left _ _ _ (contains_map (λ b. (b.owner, b.number)) b _ there))))
   entry_part (OfRoot p) there has = same_owner p.root p.owner _ (root_reported g w d describes p there).3
       (Contains-append_left (bank_parts d ++ root_parts d ++ node_parts d) (page_parts d) (p.owner, p.root)
       (Contains-append_left (bank_parts d ++ root_parts d) (node_parts d) (p.owner, p.root)
-      (Contains-append_right (bank_parts d) (root_parts d) (p.owner, p.root) (contains_map (λ p. (p.owner, p.root)) p d.processes.items there))))
+      (Contains-append_right (bank_parts d) (root_parts d) (p.owner, p.root)
+      (contains_map (λ p. (p.owner, p.root)) p d.processes.items there))))
   entry_part (OfAnnex p) there has =
       let wrong = sym has.1 ∙ ap (λ (o : Object). is_annex o.content) (annex_reported g w d describes p there).2 in cc
   entry_part (OfNode n) there has = same_owner n.number n.owner _ (node_reported g w d describes n there).2
       (Contains-append_left (bank_parts d ++ root_parts d ++ node_parts d) (page_parts d) (n.owner, n.number)
-      (Contains-append_right (bank_parts d ++ root_parts d) (node_parts d) (n.owner, n.number) (contains_map (λ n. (n.owner, n.number)) n d.nodes.items there)))
+      (Contains-append_right (bank_parts d ++ root_parts d) (node_parts d) (n.owner, n.number)
+      (contains_map (λ n. (n.owner, n.number)) n d.nodes.items there)))
   entry_part (OfPage p) there has = same_owner p.number p.owner _ (page_reported g w d describes p there).1
       (Contains-append_right (bank_parts d ++ root_parts d ++ node_parts d) (page_parts d) (p.owner, p.number)
       (contains_map (λ p. (p.owner, p.number)) p d.pages.items there))
@@ -129,7 +138,8 @@ module _ (g : Geometry) (w : World) (d : Description) (describes : Describes g w
   ]
 
   in_boxes : (n : ℕ) → HasBox w.objects n → Contains (boxes d) n
-  in_boxes n has = subst (λ (ns : List ℕ). Contains ns n) (boxes_are d) (contains_map owned (owner_at w.objects n, n) (parts d) (reported_part n has))
+  in_boxes n has = subst (λ (ns : List ℕ). Contains ns n) (boxes_are d) (contains_map owned (owner_at w.objects n, n) (parts d)
+      (reported_part n has))
 
   of_boxes : (n : ℕ) → Contains (boxes d) n → HasBox w.objects n
   of_boxes n h =
@@ -149,7 +159,8 @@ module _ (g : Geometry) (w : World) (d : Description) (describes : Describes g w
       subst (IsOwner w.objects) pair.0 (reported.0, reported.1, pair.1)
 
   owners_once : IsOnce (owners d)
-  owners_once = rw (← owners_are d) (once_flat joined_part owned owned (parts d) (rw (boxes_are d) (boxes_once d describes.numbers.distinct))
+  owners_once = rw (← owners_are d) (once_flat joined_part owned owned (parts d)
+      (rw (boxes_are d) (boxes_once d describes.numbers.distinct))
       (λ p there. joined_once p.0 p.1) (λ p q there. sym (ap owned (in_joined p.0 p.1 q there).0)))
 
 pub boxes_are_objects : BoxesAreObjects

@@ -17,7 +17,8 @@ listed_map f n [] = refl
 listed_map f n (x ∷ xs) = ap (λ (b : Bool). (f x == n) || b) (listed_map f n xs)
 
 pub box_listed : (n : ℕ) (d : Description) → is_listed n (boxes d)
-    ≡ (list_any (λ b. b.number == n) d.banks.items || list_any (λ p. p.root == n) d.processes.items || list_any (λ m. m.number == n) d.nodes.items || list_any
+    ≡ (list_any (λ b. b.number == n) d.banks.items || list_any (λ p. p.root == n) d.processes.items || list_any (λ m. m.number == n)
+    d.nodes.items || list_any
     (λ p. p.number == n) d.pages.items)
 box_listed n d = grind (arith, nat_tests, list_any-append {X = ℕ}, listed_map)
 
@@ -34,7 +35,8 @@ module _ (d : Description) (numbers : HasNumbers d) where
       (λ p there. let below = in_range d (OfRoot p) numbers there in omega (arith, below))
 
   nodes_below : All (λ n. Below n.number) d.nodes.items
-  nodes_below = all_from (λ (n : NodeEntry). Below n.number) d.nodes.items (λ n there. let below = in_range d (OfNode n) numbers there in omega (arith, below))
+  nodes_below = all_from (λ (n : NodeEntry). Below n.number) d.nodes.items (λ n there. let below = in_range d (OfNode n) numbers there in
+      omega (arith, below))
 
   pub holding_below : (o : ℕ) → All Below (holding_processes o d.processes.items ++ holding_nodes o d.nodes.items)
   holding_below o = All-append Below _ _ (All-map Below (λ p. p.root) _ (All-filter _ (λ p. Below p.root) _ roots_below))
@@ -47,7 +49,8 @@ module _ (d : Description) (numbers : HasNumbers d) where
       (All-append Below (map (λ b. b.number) d.banks.items ++ map (λ p. p.root) d.processes.items) (map (λ n. n.number) d.nodes.items)
       (All-append Below (map (λ b. b.number) d.banks.items) (map (λ p. p.root) d.processes.items)
       (All-map Below (λ b. b.number) d.banks.items
-      (all_from (λ (b : BankEntry). Below b.number) d.banks.items (λ b there. let below = in_range d (OfBank b) numbers there in omega (arith, below))))
+      (all_from (λ (b : BankEntry). Below b.number) d.banks.items (λ b there. let below = in_range d (OfBank b) numbers there in
+      omega (arith, below))))
       (All-map Below (λ p. p.root) d.processes.items roots_below))
       (All-map Below (λ n. n.number) d.nodes.items nodes_below))
       (All-map Below (λ p. p.number) d.pages.items
@@ -84,7 +87,8 @@ adds_both ms ns was between now first second = record {
 -- one number more
 pub adds_more : (ns : List ℕ) (i d : ℕ) (was now : List Bool) → i < length ns → Adds (take i ns) was now → get_or ns i d < length now →
     Adds (take (i + 1) ns) was (slice_set now (get_or ns i d) true)
-adds_more ns i d was now within adds below = rw (take_more ns i d within) (adds_both (take i ns) (get_or ns i d ∷ []) was now _ adds (adds_one now _ below))
+adds_more ns i d was now within adds below = rw (take_more ns i d within) (adds_both (take i ns) (get_or ns i d ∷ []) was now _ adds
+    (adds_one now _ below))
 
 -- an empty set has no number
 none_marked : (count n : ℕ) → is_marked (replicate count false) n ≡ false
@@ -92,8 +96,8 @@ none_marked (suc c) (suc n) = none_marked c n
 none_marked count n = refl
 
 -- an empty set gets an object, and those that hold it
-pub holders_marked : (count o : ℕ) (ns : List ℕ) (now : List Bool) → o < count → Adds ns (slice_set (replicate count false) o true) now → (n : ℕ) →
-    is_marked now n ≡ is_listed n (o ∷ ns)
+pub holders_marked : (count o : ℕ) (ns : List ℕ) (now : List Bool) → o < count → Adds ns (slice_set (replicate count false) o true) now →
+    (n : ℕ) → is_marked now n ≡ is_listed n (o ∷ ns)
 holders_marked count o ns now within adds n =
     let none = replicate count false in
     let one = adds_one none o (subst (λ (k : ℕ). o < k) (sym (length-replicate count false)) within) in

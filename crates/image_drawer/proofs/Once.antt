@@ -4,14 +4,16 @@ use Rattle.image_drawer.proofs.Names.{Contains-append_right, AreDistinct, contai
 use Rattle.std.proofs.Common.{◌≡◌, ◌∷◌, ◌++◌, ◌∙◌}
 
 -- what is in one of the lists
-pub contains_flat : {X Y : Type 0} (f : X → List Y) (y : Y) (xs : List X) → Contains (flat_map f xs) y → (x : X) × Contains xs x × Contains (f x) y
+pub contains_flat : {X Y : Type 0} (f : X → List Y) (y : Y) (xs : List X) → Contains (flat_map f xs) y →
+    (x : X) × Contains xs x × Contains (f x) y
 contains_flat f y [] h = absurd (contains_none y h)
 contains_flat f y (x ∷ xs) h = elim (Contains-append_cases (f x) (flat_map f xs) y h) [
   | inl here ↦ (x, contains_here x xs, here)
   | inr there ↦ let found = contains_flat f y xs there in (found.0, contains_there found.0 x xs found.1, found.2)
 ]
 
-pub flat_contains : {X Y : Type 0} (f : X → List Y) (x : X) (y : Y) (xs : List X) → Contains xs x → Contains (f x) y → Contains (flat_map f xs) y
+pub flat_contains : {X Y : Type 0} (f : X → List Y) (x : X) (y : Y) (xs : List X) → Contains xs x → Contains (f x) y →
+    Contains (flat_map f xs) y
 flat_contains f x y [] h k = absurd (contains_none x h)
 flat_contains {X} {Y} f x y (z ∷ xs) h k = elim (contains_cases x z xs h) [
   | inl is ↦ Contains-append_left (f z) (flat_map f xs) y (subst (λ (v : X). Contains (f v) y) (sym is) k)

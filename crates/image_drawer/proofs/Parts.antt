@@ -15,8 +15,8 @@ kept_one {X} t g x xs true is = ap (λ (b : Bool). flat_map g (if b then x ∷ f
 kept_one {X} t g x xs false is = ap (λ (b : Bool). flat_map g (if b then x ∷ filter t xs else filter t xs)) is
 
 -- what is made of the items that are kept is what is kept of all that is made
-kept_flat : {X Y : Type 0} (t : X → Bool) (q : Y → Bool) (f g : X → List Y) → ((x : X) → filter q (f x) ≡ (if t x then g x else [])) → (xs : List X) →
-    flat_map g (filter t xs) ≡ filter q (flat_map f xs)
+kept_flat : {X Y : Type 0} (t : X → Bool) (q : Y → Bool) (f g : X → List Y) → ((x : X) → filter q (f x) ≡ (if t x then g x else [])) →
+    (xs : List X) → flat_map g (filter t xs) ≡ filter q (flat_map f xs)
 kept_flat t q f g on [] = refl
 kept_flat {Y = Y} t q f g on (x ∷ xs) = grind (arith, nat_tests, kept_flat t q f g on xs, kept_one, filter-append)
 
@@ -45,14 +45,16 @@ module _ (inside : ℕ → Bool) where
   abbrev both : Arrow → Bool
   both a = inside a.holder && inside a.target
 
-  slot_kept : (h : ℕ) (p : Place) (c : Capability) (o : Option ℕ) → filter ends (arrow_to h p c o) ≡ (if is_inside inside o then arrow_to h p c o else [])
+  slot_kept : (h : ℕ) (p : Place) (c : Capability) (o : Option ℕ) → filter ends (arrow_to h p c o)
+      ≡ (if is_inside inside o then arrow_to h p c o else [])
   slot_kept h p c None = refl
   slot_kept h p c (Some n) = refl
 
-  slots_kept : (h : ℕ) (at : ℕ → Place) (slots : List SlotEntry) → arrows_at h at (filter (λ s. leads_inside inside s.capability) slots) ≡ filter ends
-      (arrows_at h at slots)
+  slots_kept : (h : ℕ) (at : ℕ → Place) (slots : List SlotEntry) → arrows_at h at (filter (λ s. leads_inside inside s.capability) slots)
+      ≡ filter ends (arrows_at h at slots)
   slots_kept h at slots =
-      kept_flat (λ (s : SlotEntry). leads_inside inside s.capability) ends (λ (s : SlotEntry). arrow_of h (at s.index) (unwrap_or s.capability Void))
+      kept_flat (λ (s : SlotEntry). leads_inside inside s.capability) ends (λ (s : SlotEntry). arrow_of h (at s.index)
+      (unwrap_or s.capability Void))
       (λ (s : SlotEntry). arrow_of h (at s.index) (unwrap_or s.capability Void))
       (λ s. slot_kept h (at s.index) (unwrap_or s.capability Void) (named (unwrap_or s.capability Void))) slots
 
@@ -92,19 +94,22 @@ module _ (inside : ℕ → Bool) where
       (one_both h false is (at s.index) (unwrap_or s.capability Void) (named (unwrap_or s.capability Void)))
       ∙ slots_both h false is at slots
 
-  process_both : (p : ProcessEntry) (b : Bool) → inside p.root ≡ b → filter both (process_arrows p) ≡ (if b then filter ends (process_arrows p) else [])
+  process_both : (p : ProcessEntry) (b : Bool) → inside p.root ≡ b → filter both (process_arrows p)
+      ≡ (if b then filter ends (process_arrows p) else [])
   process_both p true is =
       let first : List Arrow = arrow_of p.root place.Space (unwrap_or p.space Void) in
       let rest : List Arrow = arrows_at p.root place.Register p.registers.items in
       filter-append both first rest
-      ∙ ap (λ (vs : List Arrow). vs ++ filter both rest) (one_both p.root true is place.Space (unwrap_or p.space Void) (named (unwrap_or p.space Void)))
+      ∙ ap (λ (vs : List Arrow). vs ++ filter both rest) (one_both p.root true is place.Space (unwrap_or p.space Void)
+      (named (unwrap_or p.space Void)))
       ∙ ap (λ (vs : List Arrow). filter ends first ++ vs) (slots_both p.root true is place.Register p.registers.items)
       ∙ sym (filter-append ends first rest)
   process_both p false is =
       let first : List Arrow = arrow_of p.root place.Space (unwrap_or p.space Void) in
       let rest : List Arrow = arrows_at p.root place.Register p.registers.items in
       filter-append both first rest
-      ∙ ap (λ (vs : List Arrow). vs ++ filter both rest) (one_both p.root false is place.Space (unwrap_or p.space Void) (named (unwrap_or p.space Void)))
+      ∙ ap (λ (vs : List Arrow). vs ++ filter both rest) (one_both p.root false is place.Space (unwrap_or p.space Void)
+      (named (unwrap_or p.space Void)))
       ∙ slots_both p.root false is place.Register p.registers.items
 
   -- Owners
@@ -127,7 +132,8 @@ module _ (inside : ℕ → Bool) where
     ns = filter (λ (n : NodeEntry). inside n.number) d.nodes.items
 
     bank_boxes : map (λ b. b.number) e.banks.items ≡ filter inside (map (λ b. b.number) d.banks.items)
-    bank_boxes = ap (λ (bs : List BankEntry). map (λ b. b.number) bs) part.banks ∙ kept_map inside (λ (b : BankEntry). b.number) d.banks.items
+    bank_boxes = ap (λ (bs : List BankEntry). map (λ b. b.number) bs) part.banks
+        ∙ kept_map inside (λ (b : BankEntry). b.number) d.banks.items
 
     process_boxes : map (λ p. p.root) e.processes.items ≡ filter inside (map (λ p. p.root) d.processes.items)
     process_boxes = zip_map (IsPartOfProcess inside) (λ p. p.root) (λ p. p.root) (λ p q is. is.root) ps _ part.processes
@@ -138,7 +144,8 @@ module _ (inside : ℕ → Bool) where
         ∙ kept_map inside (λ (n : NodeEntry). n.number) _
 
     page_boxes : map (λ p. p.number) e.pages.items ≡ filter inside (map (λ p. p.number) d.pages.items)
-    page_boxes = ap (λ (qs : List PageEntry). map (λ p. p.number) qs) part.pages ∙ kept_map inside (λ (p : PageEntry). p.number) d.pages.items
+    page_boxes = ap (λ (qs : List PageEntry). map (λ p. p.number) qs) part.pages
+        ∙ kept_map inside (λ (p : PageEntry). p.number) d.pages.items
 
     bank_owners : flat_map (λ b. joined b.owner b.number) e.banks.items ≡ filter (λ (p : ℕ × ℕ). inside p.1)
         (flat_map (λ b. joined b.owner b.number) d.banks.items)
@@ -148,7 +155,8 @@ module _ (inside : ℕ → Bool) where
 
     process_owners : flat_map (λ p. joined p.owner p.root) e.processes.items ≡ filter (λ (p : ℕ × ℕ). inside p.1)
         (flat_map (λ p. joined p.owner p.root) d.processes.items)
-    process_owners = zip_flat (IsPartOfProcess inside) (λ (p : ProcessEntry). joined p.owner p.root) (λ (p : ProcessEntry). joined p.owner p.root)
+    process_owners = zip_flat (IsPartOfProcess inside) (λ (p : ProcessEntry). joined p.owner p.root)
+        (λ (p : ProcessEntry). joined p.owner p.root)
         (λ p q is. ap (λ (o : ℕ). joined o q.root) is.owner ∙ ap (λ (n : ℕ). joined p.owner n) is.root) ps _ part.processes
         ∙ kept_flat (λ (p : ProcessEntry). inside p.root) (λ (p : ℕ × ℕ). inside p.1) (λ (p : ProcessEntry). joined p.owner p.root)
         (λ (p : ProcessEntry). joined p.owner p.root) (λ p. owner_kept p.owner p.root) _
@@ -167,7 +175,8 @@ module _ (inside : ℕ → Bool) where
         (λ (p : PageEntry). joined p.owner p.number) (λ p. owner_kept p.owner p.number) d.pages.items
 
     process_part : flat_map process_arrows e.processes.items ≡ filter both (flat_map process_arrows d.processes.items)
-    process_part = zip_flat (IsPartOfProcess inside) process_arrows (λ (p : ProcessEntry). filter ends (process_arrows p)) process_kept ps _ part.processes
+    process_part = zip_flat (IsPartOfProcess inside) process_arrows (λ (p : ProcessEntry). filter ends (process_arrows p)) process_kept ps _
+        part.processes
         ∙ kept_flat (λ (p : ProcessEntry). inside p.root) both process_arrows (λ (p : ProcessEntry). filter ends (process_arrows p))
         (λ p. process_both p (inside p.root) refl) _
 
@@ -176,8 +185,8 @@ module _ (inside : ℕ → Bool) where
         ∙ kept_flat (λ (n : NodeEntry). inside n.number) both node_arrows (λ (n : NodeEntry). filter ends (node_arrows n))
         (λ n. slots_both n.number (inside n.number) refl place.Slot n.slots.items) _
 
-  four : {X : Type 0} (q : X → Bool) (ks bs cs ds ws xs ys zs : List X) → ks ≡ filter q ws → bs ≡ filter q xs → cs ≡ filter q ys → ds ≡ filter q zs →
-      ks ++ bs ++ cs ++ ds ≡ filter q (ws ++ xs ++ ys ++ zs)
+  four : {X : Type 0} (q : X → Bool) (ks bs cs ds ws xs ys zs : List X) → ks ≡ filter q ws → bs ≡ filter q xs → cs ≡ filter q ys →
+      ds ≡ filter q zs → ks ++ bs ++ cs ++ ds ≡ filter q (ws ++ xs ++ ys ++ zs)
   four {X} q ks bs cs ds ws xs ys zs one two three last = rw (one, two, three, last) (simp filter-append)
 
 pub part_is_shown : PartIsShown

@@ -18,7 +18,8 @@ whats_fresh (c ∷ cs) = ap (λ (ds : List Capability). c ∷ ds) (whats_fresh c
 
 content_back : (c : Content Capability) → map_content what (map_content fresh_cap c) ≡ c
 content_back (content.Node slots) = ap (λ (cs : List Capability). let x : Content Capability = content.Node cs in x) (whats_fresh slots)
-content_back (content.Annex registers) = ap (λ (cs : List Capability). let x : Content Capability = content.Annex cs in x) (whats_fresh registers)
+content_back (content.Annex registers) = ap (λ (cs : List Capability). let x : Content Capability = content.Annex cs in x)
+    (whats_fresh registers)
 content_back other = refl
 
 -- the object of a plain frame
@@ -48,18 +49,20 @@ entry_of : (entries : List SlotEntry) (i : ℕ) → named_at entries i ≢ Void 
 entry_of [] i some = absurd (some refl)
 entry_of (s ∷ entries) i some = grind (arith, nat_tests, entry_of entries i, contains_here, first_there, first_beyond, contains_there)
 
-module _ (first : ℕ) (entries : List SlotEntry) (slots : List Capability) (are : AreSlots first entries) (says : SaysSlots entries slots) where
-  pub slot_said : (s : SlotEntry) → Contains entries s → slice_index_or slots s.index Void ≡ unwrap_or s.capability Void
-  slot_said s there = says.each s.index (All-contains (λ (t : SlotEntry). (first ≤ t.index) × (t.index < 32)) _ s are.places there).1
-      ∙ first_of (λ t. t.index) value_of Void _ s are.distinct there
+module _ (first : ℕ) (entries : List SlotEntry) (slots : List Capability) (are : AreSlots first entries) (says : SaysSlots entries slots)
+  where
+    pub slot_said : (s : SlotEntry) → Contains entries s → slice_index_or slots s.index Void ≡ unwrap_or s.capability Void
+    slot_said s there = says.each s.index (All-contains (λ (t : SlotEntry). (first ≤ t.index) × (t.index < 32)) _ s are.places there).1
+        ∙ first_of (λ t. t.index) value_of Void _ s are.distinct there
 
-  pub said_slot : (i : ℕ) (c : Capability) (target : ℕ) → slice_index_or slots i Void ≡ c → named c ≡ Some target
-      → (s : SlotEntry) × Contains entries s × (s.index ≡ i) × (unwrap_or s.capability Void ≡ c)
-  said_slot i c target is names = grind (arith, nat_tests, entry_of, get_or_past)
+    pub said_slot : (i : ℕ) (c : Capability) (target : ℕ) → slice_index_or slots i Void ≡ c → named c ≡ Some target
+        → (s : SlotEntry) × Contains entries s × (s.index ≡ i) × (unwrap_or s.capability Void ≡ c)
+    said_slot i c target is names = grind (arith, nat_tests, entry_of, get_or_past)
 
 -- The objects that are named.
 module _ (g : Geometry) (w : World) (d : Description) (describes : Describes g w d) where
-  pub bank_reported : (b : BankEntry) → Contains d.banks.items b → object_at w.objects b.number ≡ record { owner = b.owner; content = content.Bank b.limit }
+  pub bank_reported : (b : BankEntry) → Contains d.banks.items b → object_at w.objects b.number
+      ≡ record { owner = b.owner; content = content.Bank b.limit }
   bank_reported b there = object_back _ _ _ (sym (plain_at _ _) ∙
       All-contains (λ (b : BankEntry). frame_at (plain_frames w.objects) b.number ≡ first_frame b.owner (content.Bank b.limit)) _ b
       describes.frames.banks there)
@@ -70,23 +73,27 @@ module _ (g : Geometry) (w : World) (d : Description) (describes : Describes g w
         content = content.Root (record { state = state; words = p.words; key = p.key; annex = p.annex; space = space });
       })
   root_reported p there =
-      let root = All-contains (λ (p : ProcessEntry). IsDescribedRoot p (frame_at (plain_frames w.objects) p.root)) _ p describes.frames.roots there in
+      let root = All-contains (λ (p : ProcessEntry). IsDescribedRoot p (frame_at (plain_frames w.objects) p.root)) _ p
+      describes.frames.roots there in
       (root.0, root.1, root.3, object_back _ _ _ (sym (plain_at _ _) ∙ root.4))
 
   pub annex_reported : (p : ProcessEntry) → Contains d.processes.items p
       → (registers : List Capability) × SaysSlots p.registers.items registers ×
       (object_at w.objects p.annex ≡ record { owner = p.owner; content = content.Annex registers })
   annex_reported p there =
-      let annex = All-contains (λ (p : ProcessEntry). IsDescribedAnnex p (frame_at (plain_frames w.objects) p.annex)) _ p describes.frames.annexes there in (
+      let annex = All-contains (λ (p : ProcessEntry). IsDescribedAnnex p (frame_at (plain_frames w.objects) p.annex)) _ p
+      describes.frames.annexes there in (
         map what annex.0,
         slots_said _ _ annex.1,
         object_back _ _ _ (sym (plain_at _ _) ∙ annex.2),
       )
 
   pub node_reported : (n : NodeEntry) → Contains d.nodes.items n
-      → (slots : List Capability) × SaysSlots n.slots.items slots × (object_at w.objects n.number ≡ record { owner = n.owner; content = content.Node slots })
+      → (slots : List Capability) × SaysSlots n.slots.items slots × (object_at w.objects n.number
+      ≡ record { owner = n.owner; content = content.Node slots })
   node_reported n there =
-      let node = All-contains (λ (n : NodeEntry). IsDescribedNode n (frame_at (plain_frames w.objects) n.number)) _ n describes.frames.nodes there
+      let node = All-contains (λ (n : NodeEntry). IsDescribedNode n (frame_at (plain_frames w.objects) n.number)) _ n describes.frames.nodes
+      there
       in (
         map what node.0,
         slots_said _ _ node.1,
@@ -96,7 +103,8 @@ module _ (g : Geometry) (w : World) (d : Description) (describes : Describes g w
   pub page_reported : (p : PageEntry) → Contains d.pages.items p →
       (words : List ℕ) × (object_at w.objects p.number ≡ record { owner = p.owner; content = content.Page words })
   page_reported p there =
-      let page = All-contains (λ (p : PageEntry). IsDescribedPage p (frame_at (plain_frames w.objects) p.number)) _ p describes.frames.pages there in
+      let page = All-contains (λ (p : PageEntry). IsDescribedPage p (frame_at (plain_frames w.objects) p.number)) _ p describes.frames.pages
+      there in
       (page.0, object_back _ _ _ (sym (plain_at _ _) ∙ page.2))
 
   -- what isn't named is free

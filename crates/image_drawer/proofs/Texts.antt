@@ -5,9 +5,11 @@ use Rattle.image_drawer.proofs.Names.{spaced, RunFault, Writes, text_fails, writ
 use Rattle.std.proofs.Common.{◌≡◌, ◌+◌, ◌<◌, ◌≤◌, ◌∷◌, ◌++◌, ◌∙◌}
 
 -- the texts of lists of items
-pub flat_map-flat_map : {A B C : Type 0} (f : B → List C) (h : A → List B) (xs : List A) → flat_map f (flat_map h xs) ≡ flat_map (λ x. flat_map f (h x)) xs
+pub flat_map-flat_map : {A B C : Type 0} (f : B → List C) (h : A → List B) (xs : List A) →
+    flat_map f (flat_map h xs) ≡ flat_map (λ x. flat_map f (h x)) xs
 flat_map-flat_map f h [] = refl
-flat_map-flat_map {A} {B} {C} f h (x ∷ xs) = flat_map-append f (h x) (flat_map h xs) ∙ ap (λ (l : List C). flat_map f (h x) ++ l) (flat_map-flat_map f h xs)
+flat_map-flat_map {A} {B} {C} f h (x ∷ xs) = flat_map-append f (h x) (flat_map h xs)
+    ∙ ap (λ (l : List C). flat_map f (h x) ++ l) (flat_map-flat_map f h xs)
 
 module _ {A : Type 0} (text : A → List ℕ) (xs : List A) where
   texts_more : (i : ℕ) (d : A) → i < length xs → flat_map text (take (i + 1) xs) ≡ flat_map text (take i xs) ++ text (get_or xs i d)
@@ -17,7 +19,8 @@ module _ {A : Type 0} (text : A → List ℕ) (xs : List A) where
       ∙ flat_map-append text (take i xs) (get_or xs i d ∷ [])
       ∙ ap (λ (l : List ℕ). flat_map text (take i xs) ++ l) (append-nil (text (get_or xs i d)))
 
-  texts_split : (i : ℕ) (d : A) → i < length xs → flat_map text xs ≡ (flat_map text (take i xs) ++ text (get_or xs i d)) ++ flat_map text (drop (i + 1) xs)
+  texts_split : (i : ℕ) (d : A) → i < length xs → flat_map text xs ≡ (flat_map text (take i xs) ++ text (get_or xs i d)) ++ flat_map text
+      (drop (i + 1) xs)
   texts_split i d lt = ap (λ (l : List A). flat_map text l) (sym (take-append-drop _ xs))
       ∙ flat_map-append text (take (i + 1) xs) (drop (i + 1) xs)
       ∙ ap (λ (l : List ℕ). l ++ flat_map text (drop (i + 1) xs)) (texts_more i d lt)
@@ -27,13 +30,14 @@ module _ {A : Type 0} (text : A → List ℕ) (xs : List A) where
       → Wrote a b (flat_map text (take i xs)) → Writes b c (Err e) (text (get_or xs i d)) → Writes a c (Err e) whole
   place_fails a b c e i d whole is lt before one = writes_fail a b c e _ _ _ whole (is ∙ texts_split i d lt) before one
 
-  pub item_fails : (a b c : Written) (e : RunFault) (i : ℕ) (x : A) (whole : List ℕ) → whole ≡ flat_map text xs → i < length xs → x ≡ get_or xs i x
-      → Wrote a b (flat_map text (take i xs)) → Writes b c (Err e) (text x) → Writes a c (Err e) whole
-  item_fails a b c e i x whole is lt here before one = place_fails a b c e i x whole is lt before (subst (λ (y : A). Writes b c (Err e) (text y)) here one)
+  pub item_fails : (a b c : Written) (e : RunFault) (i : ℕ) (x : A) (whole : List ℕ) → whole ≡ flat_map text xs → i < length xs →
+      x ≡ get_or xs i x → Wrote a b (flat_map text (take i xs)) → Writes b c (Err e) (text x) → Writes a c (Err e) whole
+  item_fails a b c e i x whole is lt here before one = place_fails a b c e i x whole is lt before
+      (subst (λ (y : A). Writes b c (Err e) (text y)) here one)
 
   -- all were written
-  pub all_written : (a b : Written) (i : ℕ) (whole : List ℕ) → whole ≡ flat_map text xs → length xs ≤ i → Wrote a b (flat_map text (take i xs)) →
-      Wrote a b whole
+  pub all_written : (a b : Written) (i : ℕ) (whole : List ℕ) → whole ≡ flat_map text xs → length xs ≤ i →
+      Wrote a b (flat_map text (take i xs)) → Wrote a b whole
   all_written a b i whole is le before = subst (Wrote a b) (ap (λ (l : List A). flat_map text l) (take_all i xs le) ∙ sym is) before
 
 -- a text could not be written, and another was to follow
@@ -50,10 +54,12 @@ module _ (A B C D whole : List ℕ) (is : whole ≡ ((A ++ B) ++ C) ++ D) (a b :
   first_fails e w = text_fails a b e ((A ++ B) ++ C) D whole is (fails_before a b e (A ++ B) C (fails_before a b e A B w))
 
   pub second_fails : (c : Written) (e : RunFault) → Wrote a b A → Writes b c (Err e) B → Writes a c (Err e) whole
-  second_fails c e one w = text_fails a c e ((A ++ B) ++ C) D whole is (fails_before a c e (A ++ B) C (writes_after a b c (Err e) A B one w))
+  second_fails c e one w = text_fails a c e ((A ++ B) ++ C) D whole is (fails_before a c e (A ++ B) C
+      (writes_after a b c (Err e) A B one w))
 
   pub third_fails : (c d : Written) (e : RunFault) → Wrote a b A → Wrote b c B → Writes c d (Err e) C → Writes a d (Err e) whole
-  third_fails c d e one two w = text_fails a d e ((A ++ B) ++ C) D whole is (writes_after a c d (Err e) (A ++ B) C (wrote_trans a b c A B one two) w)
+  third_fails c d e one two w = text_fails a d e ((A ++ B) ++ C) D whole is
+      (writes_after a c d (Err e) (A ++ B) C (wrote_trans a b c A B one two) w)
 
   pub fourth_written : (c d f : Written) (r : Result (Unit {0}) RunFault) → Wrote a b A → Wrote b c B → Wrote c d C → Writes d f r D →
       Writes a f r whole
@@ -69,8 +75,8 @@ pub three_written : (a b c d : Written) (r : Result (Unit {0}) RunFault) (A B C 
     Wrote b c B → Writes c d r C → Writes a d r whole
 three_written a b c d r A B C whole is one two w = two_written a c d r (A ++ B) C whole is (wrote_trans a b c A B one two) w
 
-pub flat_map-four : {A B : Type 0} (f : A → List B) (ps qs rs ss : List A) → flat_map f (ps ++ qs ++ rs ++ ss) ≡ flat_map f ps ++ flat_map f qs ++ flat_map f rs
-    ++ flat_map f ss
+pub flat_map-four : {A B : Type 0} (f : A → List B) (ps qs rs ss : List A) →
+    flat_map f (ps ++ qs ++ rs ++ ss) ≡ flat_map f ps ++ flat_map f qs ++ flat_map f rs ++ flat_map f ss
 flat_map-four {A} {B} f ps qs rs ss =
     flat_map-append f (ps ++ qs ++ rs) ss
     ∙ ap (λ (l : List B). l ++ flat_map f ss) (flat_map-append f (ps ++ qs) rs)
@@ -78,12 +84,14 @@ flat_map-four {A} {B} f ps qs rs ss =
 
 -- Lines as they are put together.
 pub arrow_put : (holder target : ℕ) (place kind style : List ℕ)
-    → (((((((decimal holder ++ 32 ∷ codes "->") ++ 32 ∷ decimal target) ++ 32 ∷ codes "[label=\"") ++ place) ++ kind) ++ codes "\"") ++ style) ++ codes "]"
+    → (((((((decimal holder ++ 32 ∷ codes "->") ++ 32 ∷ decimal target) ++ 32 ∷ codes "[label=\"") ++ place) ++ kind) ++ codes "\"") ++
+    style) ++ codes "]"
     ≡ spaced (decimal holder ∷ codes "->" ∷ decimal target ∷ (codes "[label=\"" ++ place ++ kind ++ codes "\"" ++ style ++ codes "]") ∷ [])
 arrow_put holder target place kind style = grind (arith, nat_tests, append_assoc)
 
 pub process_put : (root annex key : ℕ) (state : List ℕ)
-    → (((((((decimal root ++ 32 ∷ codes "[label=\"process") ++ 32 ∷ decimal root) ++ 32 ∷ codes "annex") ++ 32 ∷ decimal annex) ++ codes "\\n") ++ state) ++ 32
+    → (((((((decimal root ++ 32 ∷ codes
+    "[label=\"process") ++ 32 ∷ decimal root) ++ 32 ∷ codes "annex") ++ 32 ∷ decimal annex) ++ codes "\\n") ++ state) ++ 32
     ∷ codes "key") ++ 32 ∷ decimal key
     ≡ spaced (decimal root ∷
     (codes "[label=\"" ++ spaced (codes "process" ∷ decimal root ∷ codes "annex" ∷ decimal annex ∷ []) ++ next_line
@@ -91,9 +99,11 @@ pub process_put : (root annex key : ℕ) (state : List ℕ)
 process_put root annex key state = grind (arith, nat_tests, append_assoc)
 
 pub cluster_put : (owner number : ℕ)
-    → (((((codes "subgraph cluster_" ++ decimal owner) ++ 32 ∷ codes "{ label=\"bank") ++ 32 ∷ decimal owner) ++ codes "\"") ++ 32 ∷ decimal number) ++ 32 ∷
+    → (((((codes "subgraph cluster_" ++ decimal owner) ++ 32 ∷ codes "{ label=\"bank") ++ 32 ∷ decimal owner) ++ codes "\"") ++ 32 ∷ decimal
+    number) ++ 32 ∷
     codes "}"
-    ≡ spaced ((codes "subgraph cluster_" ++ decimal owner) ∷ codes "{" ∷ codes "label=\"bank" ∷ (decimal owner ++ codes "\"") ∷ decimal number ∷ codes "}" ∷ [])
+    ≡ spaced ((codes "subgraph cluster_" ++ decimal owner) ∷ codes "{" ∷ codes "label=\"bank" ∷ (decimal owner ++ codes "\"") ∷ decimal
+    number ∷ codes "}" ∷ [])
 cluster_put owner number = simp append_assoc
 
 -- a box in three pieces

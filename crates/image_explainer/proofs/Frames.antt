@@ -17,8 +17,8 @@ module _ (g : Geometry) (age n at : ℕ) (image : Image) (form : Shape) (run : L
       FitsOr g age n (shaped_at image at form) found
   node_at node read unpacked fits = subst (λ (b : List ℕ). FitsOr g age n b found) (unpacked ∙ ap (shape_bytes form) read) fits
 
-  pub page_at : IsShapeFor g n form → g.nodes ≤ n → length run ≡ 512 * form.sectors → run ≡ sectors_from image at form.sectors → FitsOr g age n run found →
-      FitsOr g age n (shaped_at image at form) found
+  pub page_at : IsShapeFor g n form → g.nodes ≤ n → length run ≡ 512 * form.sectors → run ≡ sectors_from image at form.sectors →
+      FitsOr g age n run found → FitsOr g age n (shaped_at image at form) found
   page_at fits_shape page size read fits =
       subst (λ (b : List ℕ). FitsOr g age n b found) (sym (block_page g n form run fits_shape page size) ∙ ap (shape_bytes form) read) fits
 
@@ -26,10 +26,12 @@ module _ (g : Geometry) (age n at : ℕ) (image : Image) (form : Shape) (run : L
 module _ (size : ℕ) (image : Image) (p : Plan) (h : CheckpointHeader) (es : List Entry) (n at : ℕ) (form : Shape)
     (there : at ≡ frame_sector p h.generation es n) (as_is : form ≡ shape_of p n) where
   frame_there : shaped_at image at form ≡ frame_in image p h.generation es n
-  frame_there = ap (λ (s : ℕ). shaped_at image s form) there ∙ ap (λ (s : Shape). shaped_at image (frame_sector p h.generation es n) s) as_is
+  frame_there = ap (λ (s : ℕ). shaped_at image s form) there ∙ ap (λ (s : Shape). shaped_at image (frame_sector p h.generation es n) s)
+      as_is
 
-  pub frame_fault : (part : FramePart) → ((m : ℕ) → m < n → IsWholeFrame image p h es m) → HasPlan image size p → HasHeader image p h → HasDirectory image p h es → n < p.geometry.nodes + p.geometry.pages
-      → FitsOr p.geometry h.age n (shaped_at image at form) (Some part) → IsFault size image (fault.Frame n (nat_le p.geometry.nodes n) part)
+  pub frame_fault : (part : FramePart) → ((m : ℕ) → m < n → IsWholeFrame image p h es m) → HasPlan image size p → HasHeader image p h →
+      HasDirectory image p h es → n < p.geometry.nodes + p.geometry.pages →
+      FitsOr p.geometry h.age n (shaped_at image at form) (Some part) → IsFault size image (fault.Frame n (nat_le p.geometry.nodes n) part)
   frame_fault part before plan header directory inside broken =
       let b = subst (λ (b : List ℕ). FitsOr p.geometry h.age n b (Some part)) frame_there broken in
       ((p, h, es, plan, header, directory, (n, inside, b.0)), (p, h, es, plan, header, directory, inside, refl, before, b.0, b.1))

@@ -9,10 +9,12 @@ pub second_wins : (first second : Bool) (m n : ℕ) → second ≡ true → (fir
 second_wins first second m n is less = grind (arith, nat_tests)
 
 -- the header of the slot that wins is none
-module _ (log : ℕ) (first first_gate second second_gate : List ℕ) (slot : ℕ) (lt : slot < 2) (wins : slot_of first first_gate second second_gate ≡ Some slot)
+module _ (log : ℕ) (first first_gate second second_gate : List ℕ) (slot : ℕ) (lt : slot < 2)
+    (wins : slot_of first first_gate second second_gate ≡ Some slot)
   where
     pub chosen : (r : ControlFlow SectorFault CheckpointHeader)
-        → MatchControlFlow r (λ h. IsHeader log h × (picked slot first second ≡ header_bytes h)) (RefusesHeader (1 + 2 * slot) log (picked slot first second))
+        → MatchControlFlow r (λ h. IsHeader log h × (picked slot first second ≡ header_bytes h))
+        (RefusesHeader (1 + 2 * slot) log (picked slot first second))
         → MatchControlFlow r (HasHeaderIn log first first_gate second second_gate) (HasNoneIn log first first_gate second second_gate)
     chosen r is = grind (arith, nat_tests)
 
@@ -21,7 +23,8 @@ module _ (image : Image) (size log : ℕ) (p : Plan) (same : log ≡ p.geometry.
   pub at_slot : (slot : ℕ) → slot < 2 → picked slot (image 1) (image 3) ≡ image (1 + 2 * slot)
   at_slot slot lt = grind (arith, nat_tests)
 
-  committed_there : (slot : ℕ) → slot < 2 → committed_slot image ≡ Some slot → committed_bytes image ≡ Some (picked slot (image 1) (image 3))
+  committed_there : (slot : ℕ) → slot < 2 → committed_slot image ≡ Some slot →
+      committed_bytes image ≡ Some (picked slot (image 1) (image 3))
   committed_there slot lt wins = ap (option_at image) wins ∙ ap (λ (b : List ℕ). Some b) (sym (at_slot slot lt))
 
   found_header : (h : CheckpointHeader) → HasHeaderIn log (image 1) (image 2) (image 3) (image 4) h → HasHeader image p h

@@ -24,7 +24,8 @@ module _ (p : Plan) (is : IsPlan p) where
   abbrev front : List ℕ
   front =
       codes "EROSCKPT" ++ half_number (version_number p.version) ++ half_number (length p.ranges)
-      ++ number p.geometry.nodes ++ number p.geometry.pages ++ number p.geometry.log ++ number p.half_0 ++ number p.half_1 ++ number p.total ++ ranges_bytes
+      ++ number p.geometry.nodes ++ number p.geometry.pages ++ number p.geometry.log ++ number p.half_0 ++ number p.half_1 ++ number p.total
+      ++ ranges_bytes
       all_ranges
 
   begins : superblock_bytes p ≡ codes "EROSCKPT" ++ (half_number (version_number p.version) ++ (half_number (length p.ranges) ++ rest))
@@ -40,12 +41,15 @@ module _ (p : Plan) (is : IsPlan p) where
 
   pub marked : HasMark (superblock_bytes p)
   marked = record {
-    magic = ap (take 8) begins ∙ take_at (codes "EROSCKPT") (half_number (version_number p.version) ++ (half_number (length p.ranges) ++ rest)) 8 refl;
+    magic = ap (take 8) begins ∙ take_at (codes "EROSCKPT") (half_number (version_number p.version) ++
+        (half_number (length p.ranges) ++ rest)) 8 refl;
     version = (
       p.version,
       ap (λ (b : List ℕ). take 4 (drop 8 b)) begins
-          ∙ ap (take 4) (drop_at (codes "EROSCKPT") (half_number (version_number p.version) ++ (half_number (length p.ranges) ++ rest)) 8 refl)
-          ∙ take_at (half_number (version_number p.version)) (half_number (length p.ranges) ++ rest) 4 (length-half (version_number p.version)),
+          ∙ ap (take 4) (drop_at (codes "EROSCKPT") (half_number (version_number p.version) ++ (half_number (length p.ranges) ++ rest)) 8
+          refl)
+          ∙ take_at (half_number (version_number p.version)) (half_number (length p.ranges) ++ rest) 4
+          (length-half (version_number p.version)),
     );
     blank = ap (drop 256) ends ∙ drop_at front (zeros 256) 256 front_long;
   }

@@ -4,8 +4,8 @@ use Rattle.image_explainer.proofs.Names.{none_noted, HasRoot, IsMatched, Matches
 use Rattle.std.proofs.Common.{◌+◌, ◌<◌, ◌≤◌}
 
 -- past the notes there is no root
-pub all_matched : (fs : List Frame) (notes : List (Option Noted)) (n : ℕ) → AreNoted fs notes → length notes ≤ n → ((p : ℕ) → p < n → IsMatched fs p) →
-    (p : ℕ) → IsMatched fs p
+pub all_matched : (fs : List Frame) (notes : List (Option Noted)) (n : ℕ) → AreNoted fs notes → length notes ≤ n →
+    ((p : ℕ) → p < n → IsMatched fs p) → (p : ℕ) → IsMatched fs p
 all_matched fs notes n noted past each p = elim (cases_lt p n) [
   | inl before ↦ each p before
   | inr beyond ↦ λ a root. absurd (none_noted fs notes noted p a (get_or_past notes p None (omega (arith, past, beyond))) root)

@@ -10,7 +10,8 @@ pub misnamed_here : (p : Parts) (n i : ℕ) (held : List Cap) (d : Cap) (hs ks :
     → hs ≡ p.headers → h ≡ header_at hs n → ks ≡ p.headers → current ≡ current_count ks (slice_index_or held i d).what →
     (IsNamed (frames_of p) (slice_index_or held i d) → ⊥)
     → IsMisnamed (frames_of p) (record { holder = n; role = h.role; index = i; held = slice_index_or held i d; current = current })
-misnamed_here p n i held d hs ks h current all inside table is other reported broken = grind (arith, nat_tests, get_or_default, header_read, table_read)
+misnamed_here p n i held d hs ks h current all inside table is other reported broken =
+    grind (arith, nat_tests, get_or_default, header_read, table_read)
 
 -- those before it are named
 pub named_before : (fs : List Frame) (n i : ℕ) (held : List Cap) → held ≡ caps_in (frame_at fs n).content →
@@ -31,6 +32,6 @@ module _ (fs : List Frame) (c : Content Cap) (n : ℕ) (is : c ≡ (frame_at fs 
   nothing_there none = grind (arith, nat_tests)
 
 -- nothing was found among what an object holds
-pub none_found : (fs : List Frame) (n : ℕ) (found : Option Misnamed) → found ≡ None → IfNone found (All (IsNamed fs) (caps_in (frame_at fs n).content)) →
-    All (IsNamed fs) (caps_in (frame_at fs n).content)
+pub none_found : (fs : List Frame) (n : ℕ) (found : Option Misnamed) → found ≡ None →
+    IfNone found (All (IsNamed fs) (caps_in (frame_at fs n).content)) → All (IsNamed fs) (caps_in (frame_at fs n).content)
 none_found fs n found is named = subst (λ (o : Option Misnamed). IfNone o (All (IsNamed fs) (caps_in (frame_at fs n).content))) is named

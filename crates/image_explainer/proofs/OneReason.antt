@@ -10,11 +10,13 @@ module _ (size : ℕ) (image : Image) where
   some_header : (p : Plan) (h : CheckpointHeader) → HasHeader image p h → HasNoHeader image → ⊥
   some_header p h header none = let never : None ≡ Some (header_bytes h) = sym (ap (option_at image) none) ∙ header.spelt in cc
 
-  good_header : (p q : Plan) (h : CheckpointHeader) → HasPlan image size p → HasPlan image size q → HasHeader image q h → HasBadHeader image p → ⊥
-  good_header p q h one other header broken = subst (HasBadHeader image) (same_plan image size p q one other) broken h header.fits header.spelt
+  good_header : (p q : Plan) (h : CheckpointHeader) → HasPlan image size p → HasPlan image size q → HasHeader image q h →
+      HasBadHeader image p → ⊥
+  good_header p q h one other header broken = subst (HasBadHeader image) (same_plan image size p q one other) broken h header.fits
+      header.spelt
 
-  same_both : (p q : Plan) (g h : CheckpointHeader) → HasPlan image size p → HasPlan image size q → HasHeader image p g → HasHeader image q h →
-      HasBadDirectory image p g → HasBadDirectory image q h
+  same_both : (p q : Plan) (g h : CheckpointHeader) → HasPlan image size p → HasPlan image size q → HasHeader image p g →
+      HasHeader image q h → HasBadDirectory image p g → HasBadDirectory image q h
   same_both p q g h one other first second broken =
       let plans : p ≡ q = same_plan image size p q one other in
       let first_there : HasHeader image q g = subst (λ (x : Plan). HasHeader image x g) plans first in
@@ -81,8 +83,8 @@ module _ (size : ℕ) (image : Image) where
   abbrev AreWhole : Plan → CheckpointHeader → List Entry → Type 0
   AreWhole p h es = (n : ℕ) → n < p.geometry.nodes + p.geometry.pages → IsWholeFrame image p h es n
 
-  all_same : (p q : Plan) (g h : CheckpointHeader) (ds es : List Entry) → HasPlan image size p → HasPlan image size q → HasHeader image p g →
-      HasHeader image q h
+  all_same : (p q : Plan) (g h : CheckpointHeader) (ds es : List Entry) → HasPlan image size p → HasPlan image size q →
+      HasHeader image p g → HasHeader image q h
       → HasDirectory image p g ds → HasDirectory image q h es → AreWhole p g ds → AreWhole q h es
   all_same p q g h ds es one other first second here there whole =
       let plans : p ≡ q = same_plan image size p q one other in

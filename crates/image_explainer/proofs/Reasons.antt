@@ -27,9 +27,18 @@ inconsistent fs (fault.Bank u) is = (is.0, is.1, unbanked_refuted fs u is.2)
 explained_frames : (size : ℕ) (c : Image) (saved : SavedFrames) (f : ImageFault) → Holds size c saved → BreaksFrames saved.frames f →
     IsExplainedBy size c (Some f)
 explained_frames size c saved (fault.Sectors f) holds is = absurd is
-explained_frames size c saved (fault.Capability m) holds is = (inr (saved, holds, inconsistent saved.frames (fault.Capability m) is), (saved, holds, is))
-explained_frames size c saved (fault.Process u) holds is = (inr (saved, holds, inconsistent saved.frames (fault.Process u) is), (saved, holds, is))
-explained_frames size c saved (fault.Bank u) holds is = (inr (saved, holds, inconsistent saved.frames (fault.Bank u) is), (saved, holds, is))
+explained_frames size c saved (fault.Capability m) holds is = (
+  inr (saved, holds, inconsistent saved.frames (fault.Capability m) is),
+  (saved, holds, is),
+)
+explained_frames size c saved (fault.Process u) holds is = (
+  inr (saved, holds, inconsistent saved.frames (fault.Process u) is),
+  (saved, holds, is),
+)
+explained_frames size c saved (fault.Bank u) holds is = (
+  inr (saved, holds, inconsistent saved.frames (fault.Bank u) is),
+  (saved, holds, is),
+)
 
 -- a fault of sectors
 pub explained_sectors : (size : ℕ) (c : Image) (f : SectorFault) → IsFault size c f → IsExplainedBy size c (Some (fault.Sectors f))
@@ -43,8 +52,8 @@ pub within_age : (size : ℕ) (c : Image) (saved : SavedFrames) → Holds size c
 within_age size c saved holds = subst (λ (x : SavedFrames). x.age ≤ 2 ^ 62) holds.2 holds.1.header.fits.age
 
 -- what was found among the frames of a store is so of the device beneath
-explained_found : (size : ℕ) (c : Image) (saved : SavedFrames) (found : Option ImageFault) → Holds size c saved → IsConsistentOr saved.frames found →
-    IsExplainedBy size c found
+explained_found : (size : ℕ) (c : Image) (saved : SavedFrames) (found : Option ImageFault) → Holds size c saved →
+    IsConsistentOr saved.frames found → IsExplainedBy size c found
 explained_found size c saved None holds is = (
   saved.geometry,
   saved_of saved,
@@ -70,7 +79,8 @@ opened_keepable disk device parts view opens geometry =
     let c = (disk device).seen in
     subst (λ (fs : List Frame). AreKeepable parts.geometry (2 ^ 64 - 1) fs) (sym opens.frames)
     (subst (λ (g : Geometry). AreKeepable g (2 ^ 64 - 1) saved.frames) (sym geometry)
-    (keepable_later saved.geometry saved.age (2 ^ 64 - 1) saved.frames (omega (arith, within_age size c saved opens.holds)) (keepable size c saved opens.holds)))
+    (keepable_later saved.geometry saved.age (2 ^ 64 - 1) saved.frames (omega (arith, within_age size c saved opens.holds))
+    (keepable size c saved opens.holds)))
 
 -- a store that was made of a device, and the device beneath it after a read
 module _ {D : Type 0} (disk : D → Disk) (device back : D) (parts : Parts) (view : View D) (opens : OpensStore disk device parts view)
@@ -85,7 +95,8 @@ module _ {D : Type 0} (disk : D → Disk) (device back : D) (parts : Parts) (vie
       (let r : Result (Option ImageFault) OpenFault = Ok found in Explains disk device back r)
   explains_found found is =
       let saved = view.snapshots.saved in (
-        explained_found (disk device).sectors (disk device).seen saved found opens.holds (subst (λ (fs : List Frame). IsConsistentOr fs found) opens.frames is),
+        explained_found (disk device).sectors (disk device).seen saved found opens.holds
+            (subst (λ (fs : List Frame). IsConsistentOr fs found) opens.frames is),
         looked,
         unfailed,
       )

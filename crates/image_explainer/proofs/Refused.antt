@@ -12,10 +12,12 @@ pub bad_still : {D : Type 0} (disk : D → Disk) (before mid : D) (reason : BadI
     IsBadBy (disk mid).seen (disk mid).sectors reason
 bad_still disk before mid reason refuses =
     subst (λ (n : ℕ). IsBadBy (disk mid).seen n reason) (sym refuses.only_reads.size)
-    (subst (λ (c : Image). IsBadBy c (disk before).sectors reason) (sym (agrees_is (disk mid).seen (disk before).seen refuses.only_reads.seen)) refuses.why.1)
+    (subst (λ (c : Image). IsBadBy c (disk before).sectors reason) (sym (agrees_is (disk mid).seen (disk before).seen
+    refuses.only_reads.seen)) refuses.why.1)
 
 -- and was then only read
-module _ {D : Type 0} (disk : D → Disk) (before mid back : D) (reason : BadImage) (refuses : Refuses disk before mid (open_fault.Bad reason))
+module _ {D : Type 0} (disk : D → Disk) (before mid back : D) (reason : BadImage)
+    (refuses : Refuses disk before mid (open_fault.Bad reason))
     (reads : ReadsOnly (disk mid) (disk back)) (now : CountsNow (disk mid)) where
   looked : OnlyReads (disk before) (disk back)
   looked = grind (arith, nat_tests)
@@ -33,8 +35,14 @@ module _ {D : Type 0} (disk : D → Disk) (before mid back : D) (reason : BadIma
             (cases_lt (disk mid).failures (disk back).failures),
       )
 
-  pub sectors_failed : (why : OpenFault) → IsNoReason why → (let r : Result SectorFault OpenFault = Err why in CountsOpen (disk mid) (disk back) r)
-      → (let r : Result (Option ImageFault) OpenFault = Err why in Explains disk before back r)
-  sectors_failed open_fault.Failed other counts = (record { is_why = omega (arith, counts.cause.0 refl, refuses.why.0); only_reads = looked }, tt)
+  pub sectors_failed : (why : OpenFault) → IsNoReason why → (let r : Result SectorFault OpenFault = Err why in
+      CountsOpen (disk mid) (disk back) r) → (let r : Result (Option ImageFault) OpenFault = Err why in Explains disk before back r)
+  sectors_failed open_fault.Failed other counts = (
+    record {
+      is_why = omega (arith, counts.cause.0 refl, refuses.why.0);
+      only_reads = looked;
+    },
+    tt,
+  )
   sectors_failed open_fault.NoMemory other counts = grind (arith, nat_tests)
   sectors_failed (open_fault.Bad reason) other counts = absurd other

@@ -4,7 +4,8 @@ use Rattle.image_explainer.proofs.Names.{IsCopy}
 use Rattle.std.proofs.Common.{◌≡◌, ◌+◌, ◌-◌, ◌*◌, ◌≤◌, ◌++◌, ◌∙◌}
 
 -- the sector of an image at a place of its copy
-copied : (image : Image) (bytes : List ℕ) (i : ℕ) → IsCopy image bytes → 512 * (i + 1) ≤ length bytes → take 512 (drop (512 * i) bytes) ≡ image i
+copied : (image : Image) (bytes : List ℕ) (i : ℕ) → IsCopy image bytes → 512 * (i + 1) ≤ length bytes →
+    take 512 (drop (512 * i) bytes) ≡ image i
 copied image bytes i copy inside = let place : 0 + i ≡ i = omega arith in copy i (omega (arith, inside)) ∙ ap image place
 
 take_none : (bytes : List ℕ) → take 0 bytes ≡ []
@@ -19,10 +20,12 @@ run_in image bytes at (suc n) copy inside =
     let size : 512 * suc n ≡ 512 + 512 * n = omega arith in
     let next : 512 * at + 512 ≡ 512 * (at + 1) = omega arith in
     let first : take 512 (drop (512 * at) bytes) ≡ image at = copied image bytes at copy (omega (arith, inside)) in
-    let rest : take (512 * n) (drop (512 * (at + 1)) bytes) ≡ sectors_from image (at + 1) n = run_in image bytes (at + 1) n copy (omega (arith, inside)) in
+    let rest : take (512 * n) (drop (512 * (at + 1)) bytes) ≡ sectors_from image (at + 1) n =
+    run_in image bytes (at + 1) n copy (omega (arith, inside)) in
     ap (λ (m : ℕ). take m (drop (512 * at) bytes)) size
     ∙ take-add 512 (512 * n) (drop (512 * at) bytes)
-    ∙ ap (λ (r : List ℕ). take 512 (drop (512 * at) bytes) ++ take (512 * n) r) (drop-drop 512 (512 * at) bytes ∙ ap (λ (m : ℕ). drop m bytes) next)
+    ∙ ap (λ (r : List ℕ). take 512 (drop (512 * at) bytes) ++ take (512 * n) r)
+    (drop-drop 512 (512 * at) bytes ∙ ap (λ (m : ℕ). drop m bytes) next)
     ∙ ap (λ (r : List ℕ). take 512 (drop (512 * at) bytes) ++ r) rest
     ∙ ap (λ (b : List ℕ). b ++ sectors_from image (at + 1) n) first
 
@@ -32,7 +35,8 @@ pub sectors_in : (image : Image) (bytes : List ℕ) (at n : ℕ) → IsCopy imag
 sectors_in image bytes at n copy inside =
     let size : at * 512 + 512 * n - at * 512 ≡ 512 * n = omega arith in
     let start : at * 512 ≡ 512 * at = omega arith in
-    ap (λ (m : ℕ). take m (drop (at * 512) bytes)) size ∙ ap (λ (m : ℕ). take (512 * n) (drop m bytes)) start ∙ run_in image bytes at n copy inside
+    ap (λ (m : ℕ). take m (drop (at * 512) bytes)) size ∙ ap (λ (m : ℕ). take (512 * n) (drop m bytes)) start
+    ∙ run_in image bytes at n copy inside
 
 -- one sector
 pub one_sector : (image : Image) (at : ℕ) (bytes : List ℕ) → bytes ≡ sectors_from image at 1 → bytes ≡ image at

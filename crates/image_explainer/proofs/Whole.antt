@@ -11,15 +11,16 @@ pub behind_slots : (p : Plan) (generation at : ℕ) → 1 ≤ p.geometry.log →
     at + 9 ≡ directory_sector p generation
 behind_slots p generation at some is = omega (arith, some, is)
 
-pub directory_inside : (p : Plan) (generation at n size : ℕ) → IsPlan p → at ≡ slot_sector p generation (p.geometry.log - 1) → n ≤ p.geometry.log →
-    p.total ≤ size
+pub directory_inside : (p : Plan) (generation at n size : ℕ) → IsPlan p → at ≡ slot_sector p generation (p.geometry.log - 1) →
+    n ≤ p.geometry.log → p.total ≤ size
     → 512 * (at + 9 + (n + 31) / 32) ≤ 512 * size
 directory_inside p generation at n size plan is few inside = grind (arith, nat_tests, behind_slots, half_within)
 
 -- the entries that were read are those of the image
 module _ (image : Image) (size : ℕ) (p : Plan) (h : CheckpointHeader) (es : List Entry) (at sector : ℕ) (run : List ℕ)
     (some : 1 ≤ p.geometry.log) (is : at ≡ slot_sector p h.generation (p.geometry.log - 1)) (here : sector ≡ at + 9)
-    (n : ℕ) (count : n ≡ h.entries) (read : run ≡ sectors_from image sector ((n + 31) / 32)) (spelt : take (16 * n) run ≡ directory_bytes es) where
+    (n : ℕ) (count : n ≡ h.entries) (read : run ≡ sectors_from image sector ((n + 31) / 32))
+    (spelt : take (16 * n) run ≡ directory_bytes es) where
   place : sector ≡ directory_sector p h.generation
   place = here ∙ behind_slots p h.generation at some is
 
@@ -34,7 +35,8 @@ module _ (image : Image) (size : ℕ) (p : Plan) (h : CheckpointHeader) (es : Li
       h,
       plan,
       header,
-      λ ds is_directory same_count same. no_spelling p.geometry es part (directory_in image p h.generation h.entries) fits spelt_there broken
+      λ ds is_directory same_count same. no_spelling p.geometry es part (directory_in image p h.generation h.entries) fits spelt_there
+          broken
           ds is_directory same,
     ),
     (p, h, es, plan, header, place, len ∙ count, fits, spelt_there, broken, first),

@@ -21,18 +21,20 @@ pub leaves_closed : (at n : ℕ) {old new : Disk} → AreBeside at n → LeavesC
 leaves_closed at n {old} {new} beside closed writes = λ c left. torn_closed at n old beside closed c (writes.crash c left)
 
 -- at each of its moments
-pub closed_run : (at n : ℕ) {old new : Disk} → AreBeside at n → LeavesClosed old → WritesAt at n old new → LeavesOnly old new (λ c. AreClosed c)
+pub closed_run : (at n : ℕ) {old new : Disk} → AreBeside at n → LeavesClosed old → WritesAt at n old new →
+    LeavesOnly old new (λ c. AreClosed c)
 closed_run at n {old} {new} beside closed writes = search (arith, leaves_weaker, torn_closed)
 
 -- one more of them
-pub closed_on : (at n : ℕ) {old mid new : Disk} → LeavesOnly old mid (λ c. AreClosed c) → AreBeside at n → LeavesClosed mid → WritesAt at n mid new →
-    LeavesOnly old new (λ c. AreClosed c)
+pub closed_on : (at n : ℕ) {old mid new : Disk} → LeavesOnly old mid (λ c. AreClosed c) → AreBeside at n → LeavesClosed mid →
+    WritesAt at n mid new → LeavesOnly old new (λ c. AreClosed c)
 closed_on at n {old} {mid} {new} first beside closed writes = search (arith, leaves_on, closed_run)
 
 -- ---- of the whole run
 
 before_or_none : (disk : Disk) (c : Image) → WasKeptOrHasNone disk c → IsBeforeOrNone disk c
-before_or_none disk c (d, left, kept) = ⊎_elim (λ same. inl (d, left, record { elsewhere = kept.elsewhere; committed = same })) inr kept.committed
+before_or_none disk c (d, left, kept) = ⊎_elim (λ same. inl (d, left, record { elsewhere = kept.elsewhere; committed = same })) inr
+    kept.committed
 
 -- the closing
 pub closing : {old new : Disk} → LeavesOnly old new (λ c. WasKeptOrHasNone old c) → LeavesOnly old new (λ c. IsBeforeOrNone old c)

@@ -22,7 +22,8 @@ five p fits = let within = half_within p 0 fits in omega (arith, within.0, withi
 behind : (at n : ℕ) (old new : Image) → 5 ≤ at → Elsewhere 2 1 old new → sectors_from new at n ≡ sectors_from old at n
 behind at n old new low change = same_sectors at n old new (λ i lt. change.after (at + i) (omega (arith, low)))
 
-module _ (p : Plan) (h : CheckpointHeader) (es : List Entry) (frames : List Frame) (old new : Image) (is : IsWritten p h es frames old) (first : h.sequence ≡ 0)
+module _ (p : Plan) (h : CheckpointHeader) (es : List Entry) (frames : List Frame) (old new : Image) (is : IsWritten p h es frames old)
+    (first : h.sequence ≡ 0)
     (change : Elsewhere 2 1 old new) (gate : is_open (new 2) ≡ true) where
   header_is : new 1 ≡ header_bytes h
   header_is = change.before 1 (omega arith) ∙ is.opening.header
@@ -31,7 +32,8 @@ module _ (p : Plan) (h : CheckpointHeader) (es : List Entry) (frames : List Fram
   header_counts = search (arith, header_is, sequences_reported)
 
   other_does_not : does_count (new 3) (new 4) 1 ≡ false
-  other_does_not = ap (λ (open' : Bool). open' && (sequence_in (new 3) % 2 == 1)) (ap is_open (change.after 4 (omega arith)) ∙ is.closed.second)
+  other_does_not = ap (λ (open' : Bool). open' && (sequence_in (new 3) % 2 == 1))
+      (ap is_open (change.after 4 (omega arith)) ∙ is.closed.second)
 
   committed : committed_bytes new ≡ Some (header_bytes h)
   committed = search (arith, first_alone, header_counts, other_does_not, header_is)
@@ -49,23 +51,35 @@ module _ (p : Plan) (h : CheckpointHeader) (es : List Entry) (frames : List Fram
 -- ---- while the gate is opened
 
 -- a gate that is torn is open over all of the image, or closed
-module _ (p : Plan) (h : CheckpointHeader) (es : List Entry) (frames : List Frame) (old c : Image) (is : IsWritten p h es frames old) (first : h.sequence ≡ 0)
+module _ (p : Plan) (h : CheckpointHeader) (es : List Entry) (frames : List Frame) (old c : Image) (is : IsWritten p h es frames old)
+    (first : h.sequence ≡ 0)
     (change : Elsewhere 2 1 old c) (size : ℕ) (header : IsHeader p.geometry.log h)
-    (directory : IsDirectory p.geometry es) (count : length es ≡ h.entries) (whole : p.total ≤ size) (keepable : AreKeepable p.geometry h.age frames) where
+    (directory : IsDirectory p.geometry es) (count : length es ≡ h.entries) (whole : p.total ≤ size)
+    (keepable : AreKeepable p.geometry h.age frames) where
   opening_by : (b : Bool) → is_open (c 2) ≡ b → HasNoHeader c ⊎ Holds size c (kept_of (state_of p h es frames))
-  opening_by true gate = inr (state_of p h es frames, denotes p h es frames old c is first change gate size header directory count whole keepable, refl)
-  opening_by false gate = inl (none_committed c (record { first = gate; second = ap is_open (change.after 4 (omega arith)) ∙ is.closed.second }))
+  opening_by true gate = inr (
+    state_of p h es frames,
+    denotes p h es frames old c is first change gate size header directory count whole
+        keepable,
+    refl,
+  )
+  opening_by false gate = inl (none_committed c (record {
+    first = gate;
+    second = ap is_open (change.after 4 (omega arith))
+        ∙ is.closed.second;
+  }))
 
   opening : HasNoHeader c ⊎ Holds size c (kept_of (state_of p h es frames))
   opening = opening_by (is_open (c 2)) refl
 
 -- until the gate is opened
-pub not_yet : {old mid : Disk} (saved : SavedFrames) → LeavesOnly old mid (λ c. IsBeforeOrNone old c) → LeavesOnly old mid (λ c. IsLeftWriting old saved c)
+pub not_yet : {old mid : Disk} (saved : SavedFrames) → LeavesOnly old mid (λ c. IsBeforeOrNone old c) →
+    LeavesOnly old mid (λ c. IsLeftWriting old saved c)
 not_yet {old} {mid} saved run = search (arith, leaves_weaker)
 
 -- and with it
-pub opening_run : (p : Plan) (h : CheckpointHeader) (es : List Entry) (frames : List Frame) {old mid new : Disk} → IsWritten p h es frames mid.seen →
-    h.sequence ≡ 0 → IsHeader p.geometry.log h → IsDirectory p.geometry es → length es ≡ h.entries
+pub opening_run : (p : Plan) (h : CheckpointHeader) (es : List Entry) (frames : List Frame) {old mid new : Disk} →
+    IsWritten p h es frames mid.seen → h.sequence ≡ 0 → IsHeader p.geometry.log h → IsDirectory p.geometry es → length es ≡ h.entries
     → p.total ≤ old.sectors → AreKeepable p.geometry h.age frames
     → LeavesOnly old mid (λ c. IsBeforeOrNone old c) → LeavesOnly mid new (λ c. Elsewhere 2 1 mid.seen c) →
     LeavesOnly old new (λ c. IsLeftWriting old (kept_of (state_of p h es frames)) c)
@@ -82,7 +96,13 @@ no_directory g = search arith
 
 -- and its header is within the limits
 pub header_fits : (room age : ℕ) → age ≤ 2 ^ 62 → IsHeader room (first_header age)
-header_fits room age most = record { entries = omega arith; age = most; generation = omega arith; sequence = omega arith; entries_fit = omega arith }
+header_fits room age most = record {
+  entries = omega arith;
+  age = most;
+  generation = omega arith;
+  sequence = omega arith;
+  entries_fit = omega arith;
+}
 
 -- ---- what is so where a call succeeds
 
@@ -112,18 +132,23 @@ all_written p h es frames front behind now fits has change directory placed zero
     }
 
 -- the gate lies before all clusters
-pub still_zeros : (p : Plan) (generation : ℕ) (es : List Entry) (old new : Image) → IsPlan p → Elsewhere 2 1 old new → EndInZeros p generation es old
-    → EndInZeros p generation es new
+pub still_zeros : (p : Plan) (generation : ℕ) (es : List Entry) (old new : Image) → IsPlan p → Elsewhere 2 1 old new →
+    EndInZeros p generation es old → EndInZeros p generation es new
 still_zeros p generation es old new fits change zeros = record {
-  home = λ a lt. subst (EndsInZeros p a) (sym (behind (home_place p a) (place_length p a) old new (places_within p a fits lt).0 change)) (zeros.home a lt);
+  home = λ a lt. subst (EndsInZeros p a) (sym (behind (home_place p a) (place_length p a) old new (places_within p a fits lt).0 change))
+      (zeros.home a lt);
   slots = λ j lt.
       let at = slot_sector p generation (entry_at es j).slot in
       let n : ℕ = (entry_at es j).object in
-      subst (EndsInZeros p n) (sym (behind at (place_length p n) old new (slot_behind p generation (entry_at es j).slot fits) change)) (zeros.slots j lt);
+      subst (EndsInZeros p n) (sym (behind at (place_length p n) old new (slot_behind p generation (entry_at es j).slot fits) change))
+      (zeros.slots j lt);
 }
 
 -- ---- sectors of the image
 
 -- a change of some sectors of an image is one of the image
 pub widened : (total at n : ℕ) (old new : Image) → at + n ≤ total → Elsewhere at n old new → Elsewhere 0 total old new
-widened total at n old new inside change = record { before = λ i lt. absurd (omega (arith, lt)); after = λ i le. change.after i (omega (arith, le, inside)) }
+widened total at n old new inside change = record {
+  before = λ i lt. absurd (omega (arith, lt));
+  after = λ i le. change.after i (omega (arith, le, inside));
+}

@@ -19,11 +19,13 @@ module _ (old mid new : Image) (p : Plan) (n : ℕ) (fits : IsPlan p) (lt : n < 
   stays_between so_far = search (arith, places_within)
 
   -- and leaves the others
-  other_stays : (a : ℕ) → IsObject p.geometry a → (home_place p a ≡ home_place p n → ⊥) → bytes_at new (home_place p a) p a ≡ bytes_at mid (home_place p a) p a
+  other_stays : (a : ℕ) → IsObject p.geometry a → (home_place p a ≡ home_place p n → ⊥) →
+      bytes_at new (home_place p a) p a ≡ bytes_at mid (home_place p a) p a
   other_stays a is differ = search (arith, same_shaped, places_apart)
 
   more : (frames : List Frame) → AreHomeTo p frames n mid
-      → ((a : ℕ) → IsObject p.geometry a → home_place p a ≡ home_place p n → bytes_at new (home_place p n) p a ≡ frame_bytes p.geometry a (frame_at frames a))
+      → ((a : ℕ) → IsObject p.geometry a → home_place p a ≡ home_place p n →
+      bytes_at new (home_place p n) p a ≡ frame_bytes p.geometry a (frame_at frames a))
       → AreHomeTo p frames (n + 1) new
   more frames so_far here a b is below same = search (arith, cases_eq, cases_lt, other_stays)
 
@@ -32,7 +34,8 @@ module _ (old mid new : Image) (p : Plan) (n : ℕ) (fits : IsPlan p) (lt : n < 
   one_more frames so_far here = more frames so_far here.frame
 
   -- one more ends in zeros
-  pub one_more_ends : (frames : List Frame) → IsFirstOf p n n → EndAtHome p n mid → LieAt p frames n (home_place p n) new → EndAtHome p (n + 1) new
+  pub one_more_ends : (frames : List Frame) → IsFirstOf p n n → EndAtHome p n mid → LieAt p frames n (home_place p n) new →
+      EndAtHome p (n + 1) new
   one_more_ends frames first so_far here a below = elim (cases_lt a n) [
     | inl before ↦
         let is : a < object_count p.geometry = omega (arith, before, lt) in
@@ -49,8 +52,8 @@ module _ (old mid new : Image) (p : Plan) (n : ℕ) (fits : IsPlan p) (lt : n < 
   ]
 
 -- what has the home of a lesser number is home
-pub is_there : (p : Plan) (frames : List Frame) (n first : ℕ) (image : Image) → first < n → home_place p first ≡ home_place p n → AreHomeTo p frames n image →
-    AreHomeTo p frames (n + 1) image
+pub is_there : (p : Plan) (frames : List Frame) (n first : ℕ) (image : Image) → first < n → home_place p first ≡ home_place p n →
+    AreHomeTo p frames n image → AreHomeTo p frames (n + 1) image
 is_there p frames n first image low home so_far a b is below same = elim (cases_lt b n) [
   | inl less ↦ so_far a b is less same
   | inr le ↦
@@ -59,8 +62,8 @@ is_there p frames n first image low home so_far a b is below same = elim (cases_
 ]
 
 -- and ends in zeros
-pub still_ends : (p : Plan) (n first : ℕ) (image : Image) → IsPlan p → n < object_count p.geometry → first < n → home_place p first ≡ home_place p n →
-    EndAtHome p n image → EndAtHome p (n + 1) image
+pub still_ends : (p : Plan) (n first : ℕ) (image : Image) → IsPlan p → n < object_count p.geometry → first < n →
+    home_place p first ≡ home_place p n → EndAtHome p n image → EndAtHome p (n + 1) image
 still_ends p n first image fits lt low home so_far a below = elim (cases_lt a n) [
   | inl before ↦ so_far a before
   | inr not_before ↦

@@ -6,7 +6,8 @@ use Rattle.std.proofs.Common.{◌≡◌, ◌+◌, ◌<◌, ◌≤◌}
 module _ (old new : Image) (kept : KeepsImage old new) where
   -- after the headers nothing changes
   behind : (at n : ℕ) → 5 ≤ at → sectors_from new at n ≡ sectors_from old at n
-  behind at n low = same_sectors at n old new (λ i lt. kept.elsewhere (at + i) (λ is. omega (arith, low, is)) (λ is. omega (arith, low, is)))
+  behind at n low = same_sectors at n old new (λ i lt. kept.elsewhere (at + i) (λ is. omega (arith, low, is))
+      (λ is. omega (arith, low, is)))
 
   same_directory : (p : Plan) (generation n : ℕ) → IsPlan p → directory_in new p generation n ≡ directory_in old p generation n
   same_directory p generation n fits = search (arith, half_behind, behind)

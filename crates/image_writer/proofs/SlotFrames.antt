@@ -13,8 +13,9 @@ shape_inside : (p : Plan) (n : ℕ) → shape_end (shape_of p n) ≤ 512 * place
 shape_inside p n = grind (arith, nat_tests)
 
 -- a filled block has the frames of all that have the home
-pub block_at : (p : Plan) (frames : List Frame) (n at k : ℕ) (block : List ℕ) (image : Image) → IsPlan p → IsObject p.geometry n → k ≡ place_length p n →
-    512 * k ≤ length block → sectors_from image at k ≡ take (512 * k) block → AreFramesOf p frames n block → EndsInZeros p n block → LieAt p frames n at image
+pub block_at : (p : Plan) (frames : List Frame) (n at k : ℕ) (block : List ℕ) (image : Image) → IsPlan p → IsObject p.geometry n →
+    k ≡ place_length p n → 512 * k ≤ length block → sectors_from image at k ≡ take (512 * k) block → AreFramesOf p frames n block →
+    EndsInZeros p n block → LieAt p frames n at image
 block_at p frames n at k block image fits is size le held filled ends = record {
   frame = λ a is_a same.
       let long : k ≡ place_length p a = size ∙ sym (one_length p a n fits is_a is same) in
@@ -25,8 +26,9 @@ block_at p frames n at k block image fits is size le held filled ends = record {
       subst (IsBlankFrom end) (sym (ap (sectors_from image at) (sym size) ∙ held)) (front_blank end (512 * k) block le (ends end behind));
 }
 
-pub block_written : {T E : Type 0} (result : Result T E) (p : Plan) (frames : List Frame) (n at k : ℕ) (block : List ℕ) (image : Image) → IsPlan p →
-    IsObject p.geometry n → k ≡ place_length p n → 512 * k ≤ length block → OnOk result (sectors_from image at k ≡ take (512 * k) block)
+pub block_written : {T E : Type 0} (result : Result T E) (p : Plan) (frames : List Frame) (n at k : ℕ) (block : List ℕ) (image : Image) →
+    IsPlan p → IsObject p.geometry n → k ≡ place_length p n → 512 * k ≤ length block →
+    OnOk result (sectors_from image at k ≡ take (512 * k) block)
     → AreFramesOf p frames n block → EndsInZeros p n block → OnOk result (LieAt p frames n at image)
 block_written {T} {E} result p frames n at k block image fits is size le held filled ends =
     on_ok_weaker result (λ there. block_at p frames n at k block image fits is size le there filled ends) held
@@ -57,11 +59,16 @@ module _ (p : Plan) (generation : ℕ) (es : List Entry) (i : ℕ) (mid new : Im
       let few : place_length p (entry_at es i).object ≤ 9 = slot_length p (entry_at es i).object in
       same_sectors at_slot n mid new
       (λ k inside. ⊎_elim (λ less. change.before (at_slot + k) (omega (arith, less, inside, short)))
-      (λ more. change.after (at_slot + k) (omega (arith, less_by (entry_at es i).slot (entry_at es j).slot more (is.apart j i before lt), few)))
+      (λ more. change.after (at_slot + k) (omega (
+        arith,
+        less_by (entry_at es i).slot (entry_at es j).slot more (is.apart j i before lt),
+        few,
+      )))
       (cases_lt (entry_at es j).slot (entry_at es i).slot))
 
   pub one_more_slot : (frames : List Frame) → AreInSlots p generation es frames i mid →
-      LieAt p frames (entry_at es i).object (slot_sector p generation (entry_at es i).slot) new → AreInSlots p generation es frames (i + 1) new
+      LieAt p frames (entry_at es i).object (slot_sector p generation (entry_at es i).slot) new →
+      AreInSlots p generation es frames (i + 1) new
   one_more_slot frames so_far here j below = elim (cases_lt j i) [
     | inl before ↦
         let was = so_far j before in
@@ -107,7 +114,8 @@ slots_stay p generation at long es frames mid new is place change so_far j lt = 
   frame = λ a is_a home. frame_stays p generation at long es mid new is place change j a lt ∙ (so_far j lt).frame a is_a home;
   zeros =
       let n : ℕ = (entry_at es j).object in
-      subst (EndsInZeros p n) (sym (slot_stays p generation at long es mid new is place change j (place_length p n) (slot_length p n) lt)) (so_far j lt).zeros;
+      subst (EndsInZeros p n) (sym (slot_stays p generation at long es mid new is place change j (place_length p n) (slot_length p n) lt))
+      (so_far j lt).zeros;
 }
 
 -- ---- what an image has of a frame

@@ -4,7 +4,8 @@ use Rattle.jobs.proofs.Names.{plan_for, built_text, TellsTotal}
 use Rattle.std.specs.Prelude.{Result, ◌↔◌, List}
 use Rattle.std.proofs.Common.{◌≡◌}
 
-pub refused_cause : (why : BuildFault) (P : Type 0) → ((let r : Result (Unit {0}) BuildFault = Err why in IsErrOf r Failed) ↔ P) → (why ≡ Failed) ↔ P
+pub refused_cause : (why : BuildFault) (P : Type 0) → ((let r : Result (Unit {0}) BuildFault = Err why in IsErrOf r Failed) ↔ P) →
+    (why ≡ Failed) ↔ P
 refused_cause why P caused = (λ is. caused.0 (ap (λ (f : BuildFault). Err f) is), λ rose. let is = caused.1 rose in cc)
 
 -- an image was built, and its total is told

@@ -7,12 +7,15 @@ use Rattle.layout.specs.declared.open_fault.OpenFault.TheVariants as opening
 use Rattle.image_builder.specs.declared.upgrade_fault.UpgradeFault.TheVariants as upgrade
 use Rattle.jobs.specs.declared.fault.Fault.TheVariants as fault
 
-pub upgrade_cause : (why : UpgradeFault) (P : Type 0) → ((let r : Result ℕ UpgradeFault = Err why in IsErrOf r upgrade.Failed) ↔ P) → (why ≡ upgrade.Failed) ↔ P
+pub upgrade_cause : (why : UpgradeFault) (P : Type 0) → ((let r : Result ℕ UpgradeFault = Err why in IsErrOf r upgrade.Failed) ↔ P) →
+    (why ≡ upgrade.Failed) ↔ P
 upgrade_cause why P caused = (λ is. caused.0 (ap (λ (f : UpgradeFault). Err f) is), λ rose. let is = caused.1 rose in cc)
 
-module _ {D E : Type 0} (l : NewLayout) (disk : D → Disk) (new_disk : E → Disk) (old : D) (before new : E) (output output_left : Written) (total : ℕ)
+module _ {D E : Type 0} (l : NewLayout) (disk : D → Disk) (new_disk : E → Disk) (old : D) (before new : E) (output output_left : Written)
+    (total : ℕ)
     (done : (upgrades : Upgrades l (disk old) (new_disk before) (new_disk new)) × (total ≡ (new_plan l upgrades.state.plan).total)) where
-  told_of : (Reported : List ℕ → Type 0) → Reported (line_of (upgraded_text l total)) → UpgradesAndTells l disk new_disk old before new Reported
+  told_of : (Reported : List ℕ → Type 0) → Reported (line_of (upgraded_text l total)) →
+      UpgradesAndTells l disk new_disk old before new Reported
   told_of Reported told = (done.0, subst (λ (n : ℕ). Reported (line_of (upgraded_text l n))) done.1 told)
 
   -- the total was reported, or couldn't be
@@ -28,8 +31,8 @@ never_old (Ok a) is reported = cc
 never_old (Err f) is reported = let same : f ≡ old_failed = cc in let other : fault.CannotWriteOutput ≡ old_failed = sym is ∙ same in cc
 
 -- what was only read was so whichever way its failure is reported
-pub read_reported : {D : Type 0} (disk : D → Disk) (was_closed : D → Type 0) (old : D) (reported other : Type 0) → (other → reported) → (reported → other) →
-    ReadsAndCloses disk was_closed old reported → ReadsAndCloses disk was_closed old other
+pub read_reported : {D : Type 0} (disk : D → Disk) (was_closed : D → Type 0) (old : D) (reported other : Type 0) → (other → reported) →
+    (reported → other) → ReadsAndCloses disk was_closed old reported → ReadsAndCloses disk was_closed old other
 read_reported disk was_closed old reported other back on read = (
   read.0,
   read.1,
@@ -43,10 +46,12 @@ read_reported disk was_closed old reported other back on read = (
 -- its failure isn't reported of an upgrade
 pub read_upgraded : {D : Type 0} (disk : D → Disk) (was_closed : D → Type 0) (old : D) (total : ℕ) →
     (let r : Result ℕ UpgradeFault = Ok total in ReadsAndCloses disk was_closed old (IsErrOf r (upgrade.Old opening.Failed)))
-    → (reported : Result (Unit {0}) Fault) → (IsErrOf reported old_failed → ⊥) → ReadsAndCloses disk was_closed old (IsErrOf reported old_failed)
+    → (reported : Result (Unit {0}) Fault) → (IsErrOf reported old_failed → ⊥) →
+    ReadsAndCloses disk was_closed old (IsErrOf reported old_failed)
 read_upgraded disk was_closed old total read reported never =
     let r : Result ℕ UpgradeFault = Ok total in
-    read_reported disk was_closed old (IsErrOf r (upgrade.Old opening.Failed)) (IsErrOf reported old_failed) (λ is. absurd (never is)) (λ is. cc) read
+    read_reported disk was_closed old (IsErrOf r (upgrade.Old opening.Failed)) (IsErrOf reported old_failed) (λ is. absurd (never is))
+    (λ is. cc) read
 
 -- of none it is
 pub read_refused : {D T : Type 0} (disk : D → Disk) (was_closed : D → Type 0) (old : D) (why : UpgradeFault) →

@@ -3,8 +3,8 @@ use Rattle.jobs.proofs.Names.{Writes, Written, Wrote, WroteFront, RunFault, Faul
 use Rattle.jobs.specs.declared.fault.Fault.TheVariants as fault
 
 -- what holds of an outcome where a text was written, and where not all of it was
-pub text_written : (old new : Written) (text : List ℕ) (Tells : Result (Unit {0}) Fault → Type 0) → ((a : Unit {0}) → Wrote old new text → Tells (Ok a)) →
-    (WroteFront old new text → Tells (Err fault.CannotWriteOutput)) → (wrote : Result (Unit {0}) RunFault) → Writes old new wrote text →
-    Tells (after_write wrote)
+pub text_written : (old new : Written) (text : List ℕ) (Tells : Result (Unit {0}) Fault → Type 0) →
+    ((a : Unit {0}) → Wrote old new text → Tells (Ok a)) → (WroteFront old new text → Tells (Err fault.CannotWriteOutput)) →
+    (wrote : Result (Unit {0}) RunFault) → Writes old new wrote text → Tells (after_write wrote)
 text_written old new text Tells whole front (Ok a) writes = whole a writes
 text_written old new text Tells whole front (Err e) writes = front writes.1

@@ -29,18 +29,19 @@ module _ {D S : Type 0} (disk : D → Disk) (view : S → View D) (parts : S →
     (sound_holds : (s : S) (c : Image) → (view s).usable → (disk (view s).beneath).may_leave c →
     Holds (disk (view s).beneath).sectors c (view s).snapshots.saved) where
   -- a store that can be used serves
-  pub is_up : (g : Geometry) (l : Live S) → (view l.store).usable → AreSoundTogether g (parts l.store) (view l.store).snapshots l.banks l.age l.frozen_age →
-      IsUp disk view parts g l
+  pub is_up : (g : Geometry) (l : Live S) → (view l.store).usable → AreSoundTogether g (parts l.store) (view l.store).snapshots l.banks
+      l.age l.frozen_age → IsUp disk view parts g l
   is_up g l store sound = search (arith, nat_tests, leaves_saved)
 
   -- a refusal that applies
-  pub refused : (l : Live S) (c : Command) (why : Refusal) → ((g : Geometry) → IsUp disk view parts g l → refusal_of g (running disk view parts l) c ≡ Some why)
-      →
+  pub refused : (l : Live S) (c : Command) (why : Refusal) → ((g : Geometry) → IsUp disk view parts g l →
+      refusal_of g (running disk view parts l) c ≡ Some why) →
       ServesUp disk view parts l c (answer.Refused why) l
   refused l c why applies g up = record {
     step = λ other. refused_step g (running disk view parts l) c why (applies g up);
     up = λ other. up;
-    leaves = leaves_here g (disk_at disk view parts l) (saved_of (view l.store).snapshots.saved ∷ []) (second (Up (running disk view parts l)) c)
+    leaves = leaves_here g (disk_at disk view parts l) (saved_of (view l.store).snapshots.saved ∷ [])
+        (second (Up (running disk view parts l)) c)
         (only_now (view l.store).beneath) up.leaves;
   }
 
@@ -61,34 +62,41 @@ module _ {D S : Type 0} (disk : D → Disk) (view : S → View D) (parts : S →
 
   module _ (l : Live S) (s : S) (continues : Continues disk (view l.store) (view s)) where
     continues_along : (g : Geometry) (c : Command) → IsUp disk view parts g l →
-        LeavesOne g (disk_at disk view parts l) (disk (view s).beneath) (saved_of (view l.store).snapshots.saved ∷ second (Up (running disk view parts l)) c)
+        LeavesOne g (disk_at disk view parts l) (disk (view s).beneath) (saved_of (view l.store).snapshots.saved ∷ second
+        (Up (running disk view parts l)) c)
     continues_along g c up = search (arith, nat_tests, leaves_along)
 
     pub evict_failed : (n : ℕ) → ServesUp disk view parts l (command.Evict n) (answer.Refused refusal.Fault) (with_store l s)
     evict_failed n = failed l (with_store l s) (command.Evict n) (λ g up. continues_along g (command.Evict n) up)
 
-    module _ (before : (parts l.store).failures ≡ (disk (view l.store).beneath).failures) (after : (parts s).failures ≡ (disk (view s).beneath).failures) where
+    module _ (before : (parts l.store).failures ≡ (disk (view l.store).beneath).failures)
+        (after : (parts s).failures ≡ (disk (view s).beneath).failures) where
       on_disk : (parts s).failures ≡ (parts l.store).failures → (disk (view s).beneath).failures ≡ (disk (view l.store).beneath).failures
       on_disk stayed = sym after ∙ stayed ∙ before
 
       -- processes act, at an age that doesn't fall
-      pub acted : (banks : BanksState) (age : ℕ) (c : Command) (a : Answer) → l.age ≤ age → Performs l.age (parts l.store) c a age (parts s) →
-          ((parts s).failures ≡ (parts l.store).failures → AreCounted (parts s).geometry (objects_in (parts s)) banks) →
-          ServesUp disk view parts l c a (record { store = s; banks = banks; age = age; frozen_age = l.frozen_age })
+      pub acted : (banks : BanksState) (age : ℕ) (c : Command) (a : Answer) → l.age ≤ age →
+          Performs l.age (parts l.store) c a age (parts s) → ((parts s).failures ≡ (parts l.store).failures →
+          AreCounted (parts s).geometry (objects_in (parts s)) banks) → ServesUp disk view parts l c a
+          (record { store = s; banks = banks; age = age; frozen_age = l.frozen_age })
       acted banks age c a later serves counted g up = record {
         step = λ other.
-            subst (λ (x : Snapshots FrozenFrames). Step g (Up (running disk view parts l)) c a (Up (running_of (parts s) x age l.frozen_age)))
+            subst (λ (x : Snapshots FrozenFrames). Step g (Up (running disk view parts l)) c a
+            (Up (running_of (parts s) x age l.frozen_age)))
             (sym (beside other))
-            (subst (λ (h : Geometry). Step h (Up (running disk view parts l)) c a (Up (running_of (parts s) (view l.store).snapshots age l.frozen_age)))
+            (subst (λ (h : Geometry). Step h (Up (running disk view parts l)) c a
+            (Up (running_of (parts s) (view l.store).snapshots age l.frozen_age)))
             up.sound.geometry (subst (λ (rs : List Bool). Step (parts l.store).geometry (Up (running disk view parts l)) c a
             (Up (record (running_of (parts s) (view l.store).snapshots age l.frozen_age) { renewed = rs })))
             (renewed_on (base_of (view l.store).snapshots) (parts l.store) (parts s) (serves.stays other).renews up.sound.risen)
             (serves.step (renewed_since (base_of (view l.store).snapshots) (frames_of (parts l.store)))
-            (frozen_of l.frozen_age (view l.store).snapshots.frozen) (saved_of (view l.store).snapshots.saved) (view l.store).snapshots.to_move other)));
+            (frozen_of l.frozen_age (view l.store).snapshots.frozen) (saved_of (view l.store).snapshots.saved)
+            (view l.store).snapshots.to_move other)));
         up = λ other.
             let stays = serves.stays other in
             let geometry : (parts s).geometry ≡ g = stays.geometry ∙ up.sound.geometry in
-            is_up g (record { store = s; banks = banks; age = age; frozen_age = l.frozen_age }) (continues.usable (on_disk (stayed other)) up.store)
+            is_up g (record { store = s; banks = banks; age = age; frozen_age = l.frozen_age })
+            (continues.usable (on_disk (stayed other)) up.store)
             (acts_sound (beside other) later geometry stays.renews
             (subst (λ (h : Geometry). IsSoundFrames h age (frames_of (parts s))) geometry stays.sound)
             (subst (λ (h : Geometry). AreCounted h (objects_in (parts s)) banks) geometry (counted (stayed other))) up.sound);
@@ -111,23 +119,27 @@ module _ {D S : Type 0} (disk : D → Disk) (view : S → View D) (parts : S →
             step = λ other.
                 subst (λ (r : Running). Step g (Up (running disk view parts l)) (command.Evict n) answer.Done (Up r))
                 (sym (same_running same beside l.age l.frozen_age))
-                (evict_step g (running disk view parts l) n (subst (λ (m : ℕ). n < m) (keepable_count g l.age (parts l.store) up.sound.now.keepable) within));
+                (evict_step g (running disk view parts l) n (subst (λ (m : ℕ). n < m)
+                (keepable_count g l.age (parts l.store) up.sound.now.keepable) within));
             up = λ other. is_up g (with_store l s) (continues.usable stayed up.store) (stays_sound same beside up.sound);
             leaves = continues_along g (command.Evict n) up;
           }
 
-  pub bad_number : (l : Live S) (n : ℕ) → length (parts l.store).headers ≤ n → ServesUp disk view parts l (command.Evict n) (answer.Refused refusal.BadNumber) l
+  pub bad_number : (l : Live S) (n : ℕ) → length (parts l.store).headers ≤ n →
+      ServesUp disk view parts l (command.Evict n) (answer.Refused refusal.BadNumber) l
   bad_number l n past = refused l (command.Evict n) refusal.BadNumber
-      (λ g up. evict_refused g (running disk view parts l) n (subst (λ (m : ℕ). m ≤ n) (keepable_count g l.age (parts l.store) up.sound.now.keepable) past))
+      (λ g up. evict_refused g (running disk view parts l) n (subst (λ (m : ℕ). m ≤ n)
+      (keepable_count g l.age (parts l.store) up.sound.now.keepable) past))
 
   -- ---- the stages of a checkpoint
 
   -- all was frozen
-  pub begun : (l : Live S) (s : S) (n : ℕ) → l.age < 2 ^ 62 → (view l.store).snapshots.frozen ≡ None → (view l.store).snapshots.saved.entries ≡ 0 →
-      parts s ≡ all_untouched (parts l.store) → n ≡ touched_count (parts l.store).touched →
-      (view s).snapshots ≡ freezing (all_frozen (frames_of (parts l.store)) (touched_count (parts l.store).touched)) (view l.store).snapshots →
-      (view s).beneath ≡ (view l.store).beneath → (view s).usable →
-      ServesUp disk view parts l command.Checkpoint (answer.Frozen n) (record { store = s; banks = l.banks; age = l.age + 1; frozen_age = l.age + 1 })
+  pub begun : (l : Live S) (s : S) (n : ℕ) → l.age < 2 ^ 62 → (view l.store).snapshots.frozen ≡ None →
+      (view l.store).snapshots.saved.entries ≡ 0 → parts s ≡ all_untouched (parts l.store) → n ≡ touched_count (parts l.store).touched →
+      (view s).snapshots ≡ freezing (all_frozen (frames_of (parts l.store)) (touched_count (parts l.store).touched))
+      (view l.store).snapshots → (view s).beneath ≡ (view l.store).beneath → (view s).usable →
+      ServesUp disk view parts l command.Checkpoint (answer.Frozen n) (record
+      { store = s; banks = l.banks; age = l.age + 1; frozen_age = l.age + 1 })
   begun l s n young none home same size beside beneath usable g up =
       let a = (view l.store).snapshots in
       let before = running disk view parts l in
@@ -161,7 +173,8 @@ module _ {D S : Type 0} (disk : D → Disk) (view : S → View D) (parts : S →
         now = world_at (l.age + 1) (frames i);
         touched = (ap (λ (p : Parts). p.touched) same ∙ ap untouched up.sound.geometry) i;
         renewed = (ap (λ (x : Snapshots FrozenFrames). renewed_since (base_of x) (frames_of (parts s))) beside
-            ∙ (ap (renewed_since (frames_of (parts l.store))) frames ∙ none_renewed g (frames_of (parts l.store)) up.sound.now.keepable.count)) i;
+            ∙ (ap (renewed_since (frames_of (parts l.store))) frames ∙ none_renewed g (frames_of (parts l.store))
+            up.sound.now.keepable.count)) i;
         frozen = frozen_of (l.age + 1) (beside i).frozen;
         saved = saved_of (beside i).saved;
         to_move = (beside i).to_move;
@@ -179,7 +192,8 @@ module _ {D S : Type 0} (disk : D → Disk) (view : S → View D) (parts : S →
           Step g (Up (running disk view parts l)) c a (Up (running_of (parts l.store) b l.age l.frozen_age)) →
           Step g (Up (running disk view parts l)) c a (Up (running disk view parts (with_store l s)))
       stepped same g b c a beside step =
-          subst (λ (r : Running). Step g (Up (running disk view parts l)) c a (Up r)) (sym (same_running same beside l.age l.frozen_age)) step
+          subst (λ (r : Running). Step g (Up (running disk view parts l)) c a (Up r)) (sym (same_running same beside l.age l.frozen_age))
+          step
 
       module _ (f : FrozenFrames) (frozen : (view l.store).snapshots.frozen ≡ Some f) where
         now_frozen : Frozen
@@ -203,7 +217,8 @@ module _ {D S : Type 0} (disk : D → Disk) (view : S → View D) (parts : S →
             stabilize_went same left reported beside usable g up = record {
               step = λ other.
                   stepped same g (stabilized n f (view l.store).snapshots) (command.Stabilize n) (answer.Left left) beside
-                  (subst (λ (X : Type 0). X) (λ i. Step g (Up (running disk view parts l)) (command.Stabilize n) (answer.Left (sym reported i))
+                  (subst (λ (X : Type 0). X) (λ i. Step g (Up (running disk view parts l)) (command.Stabilize n)
+                  (answer.Left (sym reported i))
                   (Up (record (running_of (parts l.store) (stabilized n f (view l.store).snapshots) l.age l.frozen_age) {
                     renewed = renewed_since (base_frozen (view l.store).snapshots f frozen i) (frames_of (parts l.store));
                   }))) (stabilize_step g (running disk view parts l) n now_frozen is_frozen));
@@ -223,7 +238,8 @@ module _ {D S : Type 0} (disk : D → Disk) (view : S → View D) (parts : S →
               (saved_of (view l.store).snapshots.saved ∷ second (Up (running disk view parts l)) command.Commit)
           unfolding now_frozen
           commit_along g up =
-              subst (λ (ss : List Saved). LeavesOne g (disk_at disk view parts l) (disk (view s).beneath) (saved_of (view l.store).snapshots.saved ∷ ss))
+              subst (λ (ss : List Saved). LeavesOne g (disk_at disk view parts l) (disk (view s).beneath)
+              (saved_of (view l.store).snapshots.saved ∷ ss))
               (sym (second_of_commit g (running disk view parts l) now_frozen is_frozen stable))
               (leaves_either up.sound.saved (next_sound up.sound f frozen) size moments)
 
@@ -233,12 +249,15 @@ module _ {D S : Type 0} (disk : D → Disk) (view : S → View D) (parts : S →
           unfolding now_frozen
           commit_went same generation reported beside usable g up = record {
             step = λ other.
-                stepped same g (stage.committed whole l.frozen_age f (view l.store).snapshots) command.Commit (answer.Committed generation) beside
+                stepped same g (stage.committed whole l.frozen_age f (view l.store).snapshots) command.Commit (answer.Committed generation)
+                beside
                 (subst (λ (X : Type 0). X) (λ i. Step g (Up (running disk view parts l)) command.Commit (answer.Committed (sym reported i))
-                (Up (record (running_of (parts l.store) (stage.committed whole l.frozen_age f (view l.store).snapshots) l.age l.frozen_age) {
+                (Up (record (running_of (parts l.store) (stage.committed whole l.frozen_age f (view l.store).snapshots) l.age
+                l.frozen_age) {
                   renewed = renewed_since (base_frozen (view l.store).snapshots f frozen i) (frames_of (parts l.store));
                 }))) (commit_step g (running disk view parts l) now_frozen is_frozen stable));
-            up = λ other. came same g (stage.committed whole l.frozen_age f (view l.store).snapshots) beside usable (committed_sound up.sound f frozen);
+            up = λ other. came same g (stage.committed whole l.frozen_age f (view l.store).snapshots) beside usable
+                (committed_sound up.sound f frozen);
             leaves = commit_along g up;
           }
 
@@ -251,7 +270,8 @@ module _ {D S : Type 0} (disk : D → Disk) (view : S → View D) (parts : S →
         migrate_along : (g : Geometry) → IsUp disk view parts g l →
             LeavesOne g (disk_at disk view parts l) (disk (view s).beneath)
             (saved_of (view l.store).snapshots.saved ∷ second (Up (running disk view parts l)) (command.Migrate n))
-        migrate_along g up = leaves_home g (disk_at disk view parts l) (disk (view s).beneath) (view l.store).snapshots n up.sound.saved size moments
+        migrate_along g up = leaves_home g (disk_at disk view parts l) (disk (view s).beneath) (view l.store).snapshots n up.sound.saved
+            size moments
 
         pub migrate_went : parts s ≡ parts l.store → (left : ℕ) → left ≡ (view l.store).snapshots.to_move - n →
             (view s).snapshots ≡ stage.moved n (view l.store).snapshots → (view s).usable →
@@ -300,8 +320,8 @@ module _ {D S : Type 0} (disk : D → Disk) (view : S → View D) (parts : S →
       stabilize_refused why n reported again moments = absurd reported
 
       -- nothing is saved, or it isn't reported
-      pub commit_refused : (why : Refusal) → IsCommitAnswer (disk (view l.store).beneath) (disk (view s).beneath) (left_in whole (view l.store).snapshots)
-          (view l.store).snapshots.saved.generation (Err why) →
+      pub commit_refused : (why : Refusal) → IsCommitAnswer (disk (view l.store).beneath) (disk (view s).beneath)
+          (left_in whole (view l.store).snapshots) (view l.store).snapshots.saved.generation (Err why) →
           (IsRefused {T = ℕ} (Err why) → s ≡ l.store) → ((f : FrozenFrames) → (view l.store).snapshots.frozen ≡ Some f → f.left ≡ 0 →
           LeavesEither (disk (view l.store).beneath) (disk (view s).beneath) (view l.store).snapshots.saved
           (next_saved whole l.frozen_age f (view l.store).snapshots.saved)) →
@@ -313,7 +333,11 @@ module _ {D S : Type 0} (disk : D → Disk) (view : S → View D) (parts : S →
           let f = some_left (view l.store).snapshots.frozen left (sym reported.1) in
           subst (λ (n : ℕ). ServesUp disk view parts l command.Commit (answer.Refused (refusal.NotStable n)) (with_store l s)) f.2
           (refused_again l s command.Commit (refusal.NotStable f.0.left) (again tt)
-          (λ g up. not_stable g (running disk view parts l) (record { world = world_at l.frozen_age f.0.frames; size = f.0.size; left = f.0.left })
+          (λ g up. not_stable g (running disk view parts l) (record {
+            world = world_at l.frozen_age f.0.frames;
+            size = f.0.size;
+            left = f.0.left;
+          })
           (frozen_some (view l.store).snapshots.frozen f.0 l.frozen_age f.1) (λ none. above left reported.2 (sym f.2 ∙ none))))
         where
           above : (n : ℕ) → 0 < n → n ≡ 0 → ⊥
@@ -344,7 +368,8 @@ pub commit_cause : (old new : Disk) (left : Option ℕ) (saved : ℕ) (why : Ref
 commit_cause old new left saved why reported = search (arith, nat_tests, other_cause, failed_cause)
 
 -- none of them needs no look at an object
-pub freeze_looks : (left : Option ℕ) (entries : ℕ) (why : Refusal) → IsFreezeAnswer {T = ℕ} left entries (Err why) → MakesNoDeviceCall (answer.Refused why) → ⊥
+pub freeze_looks : (left : Option ℕ) (entries : ℕ) (why : Refusal) → IsFreezeAnswer {T = ℕ} left entries (Err why) →
+    MakesNoDeviceCall (answer.Refused why) → ⊥
 freeze_looks left entries why reported is = search (arith, nat_tests)
 
 pub stabilize_looks : (old new : Disk) (left : Option ℕ) (count : ℕ) (why : Refusal) → IsStabilizeAnswer old new left count (Err why) →
@@ -356,8 +381,8 @@ pub commit_looks : (old new : Disk) (left : Option ℕ) (saved : ℕ) (why : Ref
 commit_looks old new left saved why reported is = search (arith, nat_tests)
 
 -- what is frozen can be committed at its age
-pub may_commit : {D S : Type 0} (disk : D → Disk) (view : S → View D) (parts : S → Parts) (l : Live S) → ((g : Geometry) × IsUp disk view parts g l) →
-    (f : FrozenFrames) → (view l.store).snapshots.frozen ≡ Some f →
+pub may_commit : {D S : Type 0} (disk : D → Disk) (view : S → View D) (parts : S → Parts) (l : Live S) →
+    ((g : Geometry) × IsUp disk view parts g l) → (f : FrozenFrames) → (view l.store).snapshots.frozen ≡ Some f →
     MayCommit whole l.frozen_age f (view l.store).snapshots.saved
 may_commit disk view parts l up f frozen =
     let sound = up.1.sound in
@@ -374,11 +399,12 @@ unfailed before after stayed = after ∙ stayed ∙ sym before
 -- what was only read is counted as it was
 pub counted_still : {p q : Parts} {banks : BanksState} → AreSameUnlessFailed p q → AreCounted p.geometry (objects_in p) banks →
     q.failures ≡ p.failures → AreCounted q.geometry (objects_in q) banks
-counted_still {p} {q} {banks} same counted stayed = subst (λ (r : Parts). AreCounted r.geometry (objects_in r) banks) (sym (same stayed)) counted
+counted_still {p} {q} {banks} same counted stayed = subst (λ (r : Parts). AreCounted r.geometry (objects_in r) banks) (sym (same stayed))
+    counted
 
 -- the device reports who failed
-pub caused : {p q : Parts} {old new : Disk} {c : Command} {age later : ℕ} {a : Answer} → p.failures ≡ old.failures → q.failures ≡ new.failures →
-    Performs age p c a later q → IsCaused old new a
+pub caused : {p q : Parts} {old new : Disk} {c : Command} {age later : ℕ} {a : Answer} → p.failures ≡ old.failures →
+    q.failures ≡ new.failures → Performs age p c a later q → IsCaused old new a
 caused {p} {q} {old} {new} {c} {age} {later} {a} before after serves = record {
   later = omega (arith, serves.later, before, after);
   exact = (
@@ -388,11 +414,12 @@ caused {p} {q} {old} {new} {c} {age} {later} {a} before after serves = record {
 }
 
 -- the frames of a store that is up are sound
-pub up_sound : {D S : Type 0} (disk : D → Disk) (view : S → View D) (parts : S → Parts) (l : Live S) → ((g : Geometry) × IsUp disk view parts g l) →
-    IsSoundFrames (parts l.store).geometry l.age (frames_of (parts l.store))
-up_sound disk view parts l up = subst (λ (g : Geometry). IsSoundFrames g l.age (frames_of (parts l.store))) (sym up.1.sound.geometry) up.1.sound.now
+pub up_sound : {D S : Type 0} (disk : D → Disk) (view : S → View D) (parts : S → Parts) (l : Live S) →
+    ((g : Geometry) × IsUp disk view parts g l) → IsSoundFrames (parts l.store).geometry l.age (frames_of (parts l.store))
+up_sound disk view parts l up = subst (λ (g : Geometry). IsSoundFrames g l.age (frames_of (parts l.store))) (sym up.1.sound.geometry)
+    up.1.sound.now
 
 -- what is counted of the banks of a store that is up
-pub up_counted : {D S : Type 0} (disk : D → Disk) (view : S → View D) (parts : S → Parts) (l : Live S) → ((g : Geometry) × IsUp disk view parts g l) →
-    AreCounted (parts l.store).geometry (objects_in (parts l.store)) l.banks
+pub up_counted : {D S : Type 0} (disk : D → Disk) (view : S → View D) (parts : S → Parts) (l : Live S) →
+    ((g : Geometry) × IsUp disk view parts g l) → AreCounted (parts l.store).geometry (objects_in (parts l.store)) l.banks
 up_counted disk view parts l up = search (arith, nat_tests)

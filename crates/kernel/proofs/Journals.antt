@@ -52,12 +52,14 @@ module _ (g : Geometry) (s : Running) (n : ℕ) where
         journal_unknown past = search (arith, nat_tests)
 
         module _ (known : n < object_count g) where
-          pub journal_no_page : is_page (content_at s.now.objects n) ≡ false → refusal_of g s (command.Journal n) ≡ Some (refusal.NotJournaled NotPage)
+          pub journal_no_page : is_page (content_at s.now.objects n) ≡ false →
+              refusal_of g s (command.Journal n) ≡ Some (refusal.NotJournaled NotPage)
           unfolding refusal_of
           journal_no_page other = search (arith, nat_tests)
 
           module _ (page : is_page (content_at s.now.objects n) ≡ true) where
-            pub journal_renewed : machine.is_saved_page s n ≡ false → refusal_of g s (command.Journal n) ≡ Some (refusal.NotJournaled Renewed)
+            pub journal_renewed : machine.is_saved_page s n ≡ false → refusal_of g s (command.Journal n)
+                ≡ Some (refusal.NotJournaled Renewed)
             unfolding refusal_of
             journal_renewed other = search (arith, nat_tests)
 
@@ -72,7 +74,8 @@ module _ (g : Geometry) (s : Running) (n : ℕ) where
         abbrev seconds : Bool → Option Frozen → Bool → Bool → Bool → List Saved
         seconds young frozen home page saved = elim (unless young refusal.Worn (elim frozen [
           | Some f ↦ Some refusal.CheckpointRunning
-          | None ↦ unless home refusal.MigrationPending (unless page (refusal.NotJournaled NotPage) (unless saved (refusal.NotJournaled Renewed) None))
+          | None ↦ unless home refusal.MigrationPending (unless page (refusal.NotJournaled NotPage)
+              (unless saved (refusal.NotJournaled Renewed) None))
         ])) [ None ↦ machine.journaled s n ∷ [] | Some why ↦ [] ]
 
         pub second_of_journal : is_page (content_at s.now.objects n) ≡ true → machine.is_saved_page s n ≡ true →
@@ -93,7 +96,8 @@ words_through f c is = search (arith, nat_tests)
 role_of_page : (c : Content Cap) → is_page c ≡ true → role_of c ≡ role.Page
 role_of_page c is = search (arith, nat_tests)
 
-kind_of_page : (g : Geometry) (n : ℕ) (words : List ℕ) (c : Content Cap) → is_page c ≡ true → IsOfKind g n c → IsOfKind {C = Cap} g n (content.Page words)
+kind_of_page : (g : Geometry) (n : ℕ) (words : List ℕ) (c : Content Cap) → is_page c ≡ true → IsOfKind g n c →
+    IsOfKind {C = Cap} g n (content.Page words)
 kind_of_page g n words c is kind = search (arith, nat_tests)
 
 kept_words : (g : Geometry) (age : ℕ) (c : Content Cap) → is_page c ≡ true → MayBeKept g age c → AreKeptWords 512 (words_in c)
@@ -159,8 +163,10 @@ module _ (fs : List Frame) (n : ℕ) (words : List ℕ) where
         each = λ m within. at_set (λ k f. k < object_count g → IsKeepable g age k f) fs n m page blank_frame (λ _. page_keepable)
             (λ less. sound.keepable.each m less) within;
       };
-      current = λ m. subst (λ (hs : List ObjectHeader). All (IsCurrent hs) (caps_in (frame_at (set fs n page) m).content)) (sym same_headers)
-          (at_set (λ k f. All (IsCurrent (headers fs)) (caps_in f.content)) fs n m page blank_frame (All-nil (IsCurrent (headers fs))) (sound.current m));
+      current = λ m. subst (λ (hs : List ObjectHeader). All (IsCurrent hs) (caps_in (frame_at (set fs n page) m).content))
+          (sym same_headers)
+          (at_set (λ k f. All (IsCurrent (headers fs)) (caps_in f.content)) fs n m page blank_frame (All-nil (IsCurrent (headers fs)))
+          (sound.current m));
       sound = subst (λ (os : List Object). IsSound g (record { objects = os; age = age })) (sym objects_after) world;
     }
 
@@ -169,13 +175,15 @@ module _ (fs : List Frame) (n : ℕ) (words : List ℕ) where
 not_twice : (b : Bool) → not (not b) ≡ b
 not_twice b = search (arith, nat_tests)
 
-module _ {g : Geometry} {p : Parts} {a : Snapshots FrozenFrames} {banks : BanksState} {age frozen_age : ℕ} (s : AreSoundTogether g p a banks age frozen_age)
+module _ {g : Geometry} {p : Parts} {a : Snapshots FrozenFrames} {banks : BanksState} {age frozen_age : ℕ}
+    (s : AreSoundTogether g p a banks age frozen_age)
     (n : ℕ) where
   abbrev r : Running
   r = running_of p a age frozen_age
 
   pub now_is : is_page_now p n ≡ is_page (content_at (objects_in p) n)
-  now_is = ap (λ (h : ObjectHeader). is_page_role h.role) (sym (header_in p.headers p.contents n)) ∙ page_at g age (frames_of p) n s.now.keepable
+  now_is = ap (λ (h : ObjectHeader). is_page_role h.role) (sym (header_in p.headers p.contents n))
+      ∙ page_at g age (frames_of p) n s.now.keepable
 
   module _ (none : a.frozen ≡ None) where
     same_count : n < object_count g → ((header_at p.headers n).allocations == (frame_at a.saved.frames n).header.allocations) ≡ not
@@ -214,20 +222,29 @@ module _ {g : Geometry} {p : Parts} {a : Snapshots FrozenFrames} {banks : BanksS
         saved_page : is_page (frame_at a.saved.frames n).content ≡ true
         saved_page = search (arith, nat_tests, content_page, saved_too)
 
-        pub saved_next : saved_of (journaled_saved (a.saved.age + 1) n (words_now p n) a.saved) ≡ machine.journaled (running_of p a age frozen_age) n
+        pub saved_next : saved_of (journaled_saved (a.saved.age + 1) n (words_now p n) a.saved)
+            ≡ machine.journaled (running_of p a age frozen_age) n
         saved_next = search (arith, nat_tests, objects_after, words_are)
 
-        world_next : IsSound g (record { objects = with_content (objects_of a.saved.frames) n (content.Page (words_now p n)); age = a.saved.age + 1 })
-        world_next = subst (λ (c : Content Capability). IsSound g (record { objects = with_content (objects_of a.saved.frames) n c; age = a.saved.age + 1 }))
+        world_next : IsSound g (record {
+          objects = with_content (objects_of a.saved.frames) n (content.Page (words_now p n));
+          age = a.saved.age + 1;
+        })
+        world_next = subst (λ (c : Content Capability). IsSound g (record {
+          objects = with_content (objects_of a.saved.frames) n c;
+          age = a.saved.age + 1;
+        }))
             words_are (journal_keeps_sound g r n s.now.sound s.saved.sound.sound (omega (arith, s.order, young)) none_refuses)
 
         frames_next : IsSoundFrames g (a.saved.age + 1) a.saved.frames
-        frames_next = frames_later g a.saved.age (a.saved.age + 1) a.saved.frames (omega arith) (omega (arith, s.order, young)) s.saved.sound
+        frames_next = frames_later g a.saved.age (a.saved.age + 1) a.saved.frames (omega arith) (omega (arith, s.order, young))
+            s.saved.sound
 
         pub sound_next : IsSoundSaved g (journaled_saved (a.saved.age + 1) n (words_now p n) a.saved)
         sound_next = search (arith, nat_tests, sound_after, frames_next, saved_page, known_now, words_kept, world_next)
 
-        base_next : base_of (journaled (a.saved.age + 1) n (words_now p n) a) ≡ set a.saved.frames n (with_words (words_now p n) (frame_at a.saved.frames n))
+        base_next : base_of (journaled (a.saved.age + 1) n (words_now p n) a)
+            ≡ set a.saved.frames n (with_words (words_now p n) (frame_at a.saved.frames n))
         base_next = base_saved (journaled (a.saved.age + 1) n (words_now p n) a) none
 
         pub together_next : AreSoundTogether g p (journaled (a.saved.age + 1) n (words_now p n) a) banks (age + 1) frozen_age
@@ -250,8 +267,8 @@ module _ {g : Geometry} {p : Parts} {a : Snapshots FrozenFrames} {banks : BanksS
         running_next = search (arith, nat_tests, base_next, renewed_after, base_saved, saved_next)
 
 -- what is saved besides, where nothing but what is saved may refuse it
-pub next_is : {F : Type 0} (age n : ℕ) (words : List ℕ) (o : Option F) (s : SavedFrames) (page saved b : Bool) → o ≡ None → s.entries ≡ 0 → page ≡ true →
-    saved ≡ b →
+pub next_is : {F : Type 0} (age n : ℕ) (words : List ℕ) (o : Option F) (s : SavedFrames) (page saved b : Bool) → o ≡ None → s.entries ≡ 0 →
+    page ≡ true → saved ≡ b →
     next_journaled age n words o s page saved ≡ (if b then Some (journaled_saved age n words s) else None)
 next_is age n words o s page saved b none home is_page is_saved = search (arith, nat_tests)
 
@@ -267,8 +284,9 @@ still_usable : {P : Type 0} → IsErrOf {T = ℕ} (Err (refusal.NotJournaled Ren
 still_usable either = search (arith, nat_tests)
 
 -- where it is refused with no read of an object, the store is the same
-pub unlooked_same : {S : Type 0} (was now : Disk) (left : Option ℕ) (s : SavedFrames) (known page saved : Bool) (why : Refusal) {old new : S} →
-    IsJournalAnswer was now left s known page saved (Err why) → (IsTurnedAway (Err why) → new ≡ old) → MakesNoDeviceCall (answer.Refused why) → new ≡ old
+pub unlooked_same : {S : Type 0} (was now : Disk) (left : Option ℕ) (s : SavedFrames) (known page saved : Bool) (why : Refusal)
+    {old new : S} → IsJournalAnswer was now left s known page saved (Err why) → (IsTurnedAway (Err why) → new ≡ old) →
+    MakesNoDeviceCall (answer.Refused why) → new ≡ old
 unlooked_same was now left s known paged saved why reported same is = search (arith, nat_tests)
 
 module _ {D S : Type 0} (disk : D → Disk) (view : S → View D) (parts : S → Parts)
@@ -276,7 +294,8 @@ module _ {D S : Type 0} (disk : D → Disk) (view : S → View D) (parts : S →
     (sound_holds : (s : S) (c : Image) → (view s).usable → (disk (view s).beneath).may_leave c →
     Holds (disk (view s).beneath).sectors c (view s).snapshots.saved) where
   pub too_old : (l : Live S) (n : ℕ) → 2 ^ 62 ≤ l.age → ServesUp disk view parts l (command.Journal n) (answer.Refused refusal.Worn) l
-  too_old l n old = refused disk view parts only_now sound_holds l (command.Journal n) refusal.Worn (λ g up. journal_worn g (running disk view parts l) n old)
+  too_old l n old = refused disk view parts only_now sound_holds l (command.Journal n) refusal.Worn
+      (λ g up. journal_worn g (running disk view parts l) n old)
 
   module _ (l : Live S) (s : S) (n : ℕ) (young : l.age < 2 ^ 62) where
     abbrev a : Snapshots FrozenFrames
@@ -299,9 +318,11 @@ module _ {D S : Type 0} (disk : D → Disk) (view : S → View D) (parts : S →
 
     module _ (size : new.sectors ≡ old.sectors)
         (run : LeavesOneOf (disk (view l.store).beneath) (disk (view s).beneath) (view l.store).snapshots.saved
-        (next_journaled ((view l.store).snapshots.saved.age + 1) n (words_now (parts l.store) n) (view l.store).snapshots.frozen (view l.store).snapshots.saved
+        (next_journaled ((view l.store).snapshots.saved.age + 1) n (words_now (parts l.store) n) (view l.store).snapshots.frozen
+        (view l.store).snapshots.saved
         (is_page_now (parts l.store) n) (is_still_saved (parts l.store) (view l.store).snapshots.saved n)))
-        (none : (view l.store).snapshots.frozen ≡ None) (home : (view l.store).snapshots.saved.entries ≡ 0) (page : is_page_now (parts l.store) n ≡ true) where
+        (none : (view l.store).snapshots.frozen ≡ None) (home : (view l.store).snapshots.saved.entries ≡ 0)
+        (page : is_page_now (parts l.store) n ≡ true) where
       run_by : (b : Bool) → is_still_saved (parts l.store) a.saved n ≡ b →
           LeavesOneOf old new a.saved (if b then Some (journaled_saved age n (words_now (parts l.store) n) a.saved) else None)
       run_by b is = search (arith, nat_tests, next_is)
@@ -313,7 +334,8 @@ module _ {D S : Type 0} (disk : D → Disk) (view : S → View D) (parts : S →
       along false is g up = leaves_along up.sound.saved size (run_by false is)
       along true is g up =
           let sound = up.sound in
-          subst (λ (ss : List Saved). LeavesOne g old new (saved_of a.saved ∷ ss)) (ap (λ (x : Saved). x ∷ []) (saved_next sound n none page is young)
+          subst (λ (ss : List Saved). LeavesOne g old new (saved_of a.saved ∷ ss))
+          (ap (λ (x : Saved). x ∷ []) (saved_next sound n none page is young)
           ∙ sym (second_of_journal g (running disk view parts l) n young (frozen_none a.frozen l.frozen_age none) home
           (page_now sound n none page) (saved_too sound n none page is young)))
           (leaves_either sound.saved (sound_next sound n none page is young) size (run_by true is))
@@ -323,8 +345,8 @@ module _ {D S : Type 0} (disk : D → Disk) (view : S → View D) (parts : S →
           (along (is_still_saved (parts l.store) a.saved n) refl)
 
       -- it isn't saved, or was rescinded since
-      pub not_saved : parts s ≡ parts l.store → is_still_saved (parts l.store) (view l.store).snapshots.saved n ≡ false → (view s).snapshots ≡ (view l.store).snapshots →
-          (view s).usable →
+      pub not_saved : parts s ≡ parts l.store → is_still_saved (parts l.store) (view l.store).snapshots.saved n ≡ false →
+          (view s).snapshots ≡ (view l.store).snapshots → (view s).usable →
           ServesUp disk view parts l (command.Journal n) (answer.Refused (refusal.NotJournaled Renewed)) (with_store l s)
       not_saved same other beside usable g up =
           let r = running disk view parts l in
@@ -340,10 +362,10 @@ module _ {D S : Type 0} (disk : D → Disk) (view : S → View D) (parts : S →
           }
 
       -- it is saved
-      pub journal_went : parts s ≡ parts l.store → is_still_saved (parts l.store) (view l.store).snapshots.saved n ≡ true → (generation : ℕ) →
-          generation ≡ (view l.store).snapshots.saved.generation + 2 →
-          (view s).snapshots ≡ journaled ((view l.store).snapshots.saved.age + 1) n (words_now (parts l.store) n) (view l.store).snapshots → (view s).usable →
-          ServesUp disk view parts l (command.Journal n) (answer.Journaled generation) (with_age l s (l.age + 1))
+      pub journal_went : parts s ≡ parts l.store → is_still_saved (parts l.store) (view l.store).snapshots.saved n ≡ true →
+          (generation : ℕ) → generation ≡ (view l.store).snapshots.saved.generation + 2 →
+          (view s).snapshots ≡ journaled ((view l.store).snapshots.saved.age + 1) n (words_now (parts l.store) n) (view l.store).snapshots →
+          (view s).usable → ServesUp disk view parts l (command.Journal n) (answer.Journaled generation) (with_age l s (l.age + 1))
       journal_went same is generation reported beside usable g up =
           let r = running disk view parts l in
           record {
@@ -362,14 +384,17 @@ module _ {D S : Type 0} (disk : D → Disk) (view : S → View D) (parts : S →
 
     -- it is refused
     pub journal_refused : (why : Refusal) → (disk (view s).beneath).sectors ≡ (disk (view l.store).beneath).sectors →
-        IsJournalAnswer (disk (view l.store).beneath) (disk (view s).beneath) (left_in whole (view l.store).snapshots) (view l.store).snapshots.saved
-        (nat_lt n (length (parts l.store).headers)) (is_page_now (parts l.store) n) (is_still_saved (parts l.store) (view l.store).snapshots.saved n)
+        IsJournalAnswer (disk (view l.store).beneath) (disk (view s).beneath) (left_in whole (view l.store).snapshots)
+        (view l.store).snapshots.saved
+        (nat_lt n (length (parts l.store).headers)) (is_page_now (parts l.store) n)
+        (is_still_saved (parts l.store) (view l.store).snapshots.saved n)
         (Err why) →
         (IsTurnedAway (Err why) → s ≡ l.store) → (IsRefused {T = ℕ} (Err why) → (view s).snapshots ≡ (view l.store).snapshots) →
         ((disk (view s).beneath).failures ≡ (disk (view l.store).beneath).failures → parts s ≡ parts l.store) →
         (IsErrOf {T = ℕ} (Err why) refusal.Fault ⊎ (view s).usable) →
         LeavesOneOf (disk (view l.store).beneath) (disk (view s).beneath) (view l.store).snapshots.saved
-        (next_journaled ((view l.store).snapshots.saved.age + 1) n (words_now (parts l.store) n) (view l.store).snapshots.frozen (view l.store).snapshots.saved
+        (next_journaled ((view l.store).snapshots.saved.age + 1) n (words_now (parts l.store) n) (view l.store).snapshots.frozen
+        (view l.store).snapshots.saved
         (is_page_now (parts l.store) n) (is_still_saved (parts l.store) (view l.store).snapshots.saved n)) →
         ServesUp disk view parts l (command.Journal n) (answer.Refused why) (with_store l s)
     journal_refused refusal.CheckpointRunning size reported away beside same usable run =
@@ -378,19 +403,26 @@ module _ {D S : Type 0} (disk : D → Disk) (view : S → View D) (parts : S →
         (λ g up. journal_running g (running disk view parts l) n young _ (frozen_some a.frozen f.0 l.frozen_age f.1))
     journal_refused refusal.MigrationPending size reported away beside same usable run =
         turned_away refusal.MigrationPending (away tt)
-        (λ g up. journal_pending g (running disk view parts l) n young (frozen_none a.frozen l.frozen_age (none_there a.frozen reported.1)) reported.2)
+        (λ g up. journal_pending g (running disk view parts l) n young (frozen_none a.frozen l.frozen_age (none_there a.frozen reported.1))
+        reported.2)
     journal_refused refusal.BadNumber size reported away beside same usable run =
         turned_away refusal.BadNumber (away tt)
-        (λ g up. journal_unknown g (running disk view parts l) n young (frozen_none a.frozen l.frozen_age (none_there a.frozen reported.1)) reported.2
-        (subst (λ (m : ℕ). m ≤ n) (keepable_count g l.age (parts l.store) up.sound.now.keepable) (ltb-false n (length (parts l.store).headers) reported.3)))
+        (λ g up. journal_unknown g (running disk view parts l) n young (frozen_none a.frozen l.frozen_age (none_there a.frozen reported.1))
+        reported.2
+        (subst (λ (m : ℕ). m ≤ n) (keepable_count g l.age (parts l.store) up.sound.now.keepable)
+        (ltb-false n (length (parts l.store).headers) reported.3)))
     journal_refused (refusal.NotJournaled NotPage) size reported away beside same usable run =
         turned_away (refusal.NotJournaled NotPage) (away tt)
-        (λ g up. journal_no_page g (running disk view parts l) n young (frozen_none a.frozen l.frozen_age (none_there a.frozen reported.1)) reported.2
-        (subst (λ (m : ℕ). n < m) (keepable_count g l.age (parts l.store) up.sound.now.keepable) (ltb-true n (length (parts l.store).headers) reported.3))
+        (λ g up. journal_no_page g (running disk view parts l) n young (frozen_none a.frozen l.frozen_age (none_there a.frozen reported.1))
+        reported.2
+        (subst (λ (m : ℕ). n < m) (keepable_count g l.age (parts l.store) up.sound.now.keepable)
+        (ltb-true n (length (parts l.store).headers) reported.3))
         (sym (now_is up.sound n) ∙ reported.4))
     journal_refused (refusal.NotJournaled Renewed) size reported away beside same usable run =
-        not_saved size run (none_there a.frozen reported.1) reported.2 reported.3 (same reported.0) reported.4 (beside tt) (still_usable usable)
-    journal_refused refusal.Fault size reported away beside same usable run = journal_failed size run (none_there a.frozen reported.1) reported.2 reported.3
+        not_saved size run (none_there a.frozen reported.1) reported.2 reported.3 (same reported.0) reported.4 (beside tt)
+        (still_usable usable)
+    journal_refused refusal.Fault size reported away beside same usable run =
+        journal_failed size run (none_there a.frozen reported.1) reported.2 reported.3
     journal_refused why size reported away beside same usable run = absurd reported
 
 -- who failed is reported where a store refuses

@@ -1,4 +1,5 @@
--- Which numbers were renewed since the last checkpoint or restart. From a store that serves to a machine that is up or down, and what a crash leaves.
+-- Which numbers were renewed since the last checkpoint or restart. From a store that serves to a machine that is up or down, and what a
+-- crash leaves.
 use Rattle.kernel.proofs.Names.{ℕ, Bool, true, false, not, List, length, map, refl, sym, ap, arith, range_with_len, get_or-map, ne_eqb, ext_get_or}
 use Rattle.kernel.proofs.Names.{get_or-map-range_with_len, length-map-range_with_len, Cap, Frame, ObjectHeader, Content, blank_frame, frame_at, frames_in}
 use Rattle.kernel.proofs.Names.{header_at, renewing, is_given_up, Parts, Renews, frames_of, objects_in, headers_in, Snapshots, moved_saved, FrozenFrames}
@@ -23,34 +24,38 @@ header_in hs cs n = sym (get_or-map (λ (f : Frame). f.header) (frames_in hs cs)
     ap (λ (ks : List ObjectHeader). header_at ks n) (headers_in hs cs)
 
 -- a count differs where it did before, or rises now
-differs : (gone : Bool) (base old new : ℕ) → base ≤ old → new ≡ old + (if gone then 1 else 0) → (not (old == base) || gone) ≡ not (new == base)
+differs : (gone : Bool) (base old new : ℕ) → base ≤ old → new ≡ old + (if gone then 1 else 0) →
+    (not (old == base) || gone) ≡ not (new == base)
 differs gone base old new le is = search (arith, nat_tests, ne_eqb)
 
 -- counts through an invocation
-module _ (base : List Frame) (p q : Parts) (renews : Renews p q) (risen : (n : ℕ) → allocations_at base n ≤ allocations_at (frames_of p) n) where
-  abbrev gone : ℕ → Bool
-  gone n = is_given_up (objects_in p) (objects_in q) n
+module _ (base : List Frame) (p q : Parts) (renews : Renews p q) (risen : (n : ℕ) → allocations_at base n ≤ allocations_at (frames_of p) n)
+  where
+    abbrev gone : ℕ → Bool
+    gone n = is_given_up (objects_in p) (objects_in q) n
 
-  rising : (n : ℕ) → allocations_at (frames_of q) n ≡ allocations_at (frames_of p) n + (if gone n then 1 else 0)
-  rising n = search (arith, nat_tests, header_in)
+    rising : (n : ℕ) → allocations_at (frames_of q) n ≡ allocations_at (frames_of p) n + (if gone n then 1 else 0)
+    rising n = search (arith, nat_tests, header_in)
 
-  pub risen_on : (n : ℕ) → allocations_at base n ≤ allocations_at (frames_of q) n
-  risen_on n = omega (arith, risen n, rising n)
+    pub risen_on : (n : ℕ) → allocations_at base n ≤ allocations_at (frames_of q) n
+    risen_on n = omega (arith, risen n, rising n)
 
-  pub renewed_on : renewing (renewed_since base (frames_of p)) (objects_in p) (objects_in q) ≡ renewed_since base (frames_of q)
-  unfolding renewing
-  renewed_on =
-      let before = renewed_since base (frames_of p) in
-      let after = renewed_since base (frames_of q) in
-      let test : ℕ → Bool = λ n. slice_index_or before n false || gone n in
-      let count = length-map-range_with_len test 0 (length before) in
-      let size = renewed_length base (frames_of p) in
-      ext_get_or false (map test (range_with_len 0 (length before))) after (count ∙ (size ∙ sym (renewed_length base (frames_of q)))) (λ n inside.
-      let within : n < length before = omega (arith, inside, count) in
-      let known : n < length base = omega (arith, within, size) in
-      get_or-map-range_with_len test 0 (length before) n n false within (omega arith) ∙ (ap (λ (b : Bool). b || gone n) (renewed_at base (frames_of p) n known)
-      ∙ (differs (gone n) (allocations_at base n) (allocations_at (frames_of p) n) (allocations_at (frames_of q) n) (risen n) (rising n)
-      ∙ sym (renewed_at base (frames_of q) n known))))
+    pub renewed_on : renewing (renewed_since base (frames_of p)) (objects_in p) (objects_in q) ≡ renewed_since base (frames_of q)
+    unfolding renewing
+    renewed_on =
+        let before = renewed_since base (frames_of p) in
+        let after = renewed_since base (frames_of q) in
+        let test : ℕ → Bool = λ n. slice_index_or before n false || gone n in
+        let count = length-map-range_with_len test 0 (length before) in
+        let size = renewed_length base (frames_of p) in
+        ext_get_or false (map test (range_with_len 0 (length before))) after (count ∙ (size ∙ sym (renewed_length base (frames_of q))))
+        (λ n inside.
+        let within : n < length before = omega (arith, inside, count) in
+        let known : n < length base = omega (arith, within, size) in
+        get_or-map-range_with_len test 0 (length before) n n false within (omega arith)
+        ∙ (ap (λ (b : Bool). b || gone n) (renewed_at base (frames_of p) n known)
+        ∙ (differs (gone n) (allocations_at base n) (allocations_at (frames_of p) n) (allocations_at (frames_of q) n) (risen n) (rising n)
+        ∙ sym (renewed_at base (frames_of q) n known))))
 
 frames_if : (b : Bool) (fs : SavedFrames) → (if b then home_saved fs else fs).frames ≡ fs.frames
 frames_if b fs = search (arith, nat_tests)
@@ -73,14 +78,15 @@ pub leaves_along : {g : Geometry} {old new : Disk} {fs : SavedFrames} {ts : List
 leaves_along {g} {old} {new} {fs} {ts} sound size moments = search (arith, nat_tests, leaves_weaker, denoted_by)
 
 -- or what is saved next
-pub leaves_either : {g : Geometry} {old new : Disk} {fs next : SavedFrames} → IsSoundSaved g fs → IsSoundSaved g next → new.sectors ≡ old.sectors →
-    LeavesEither old new fs next →
+pub leaves_either : {g : Geometry} {old new : Disk} {fs next : SavedFrames} → IsSoundSaved g fs → IsSoundSaved g next →
+    new.sectors ≡ old.sectors → LeavesEither old new fs next →
     LeavesOne g old new (saved_of fs ∷ saved_of next ∷ [])
 leaves_either {g} {old} {new} {fs} {next} sound sound_next size moments = record {
   size = size;
   any_moment = leaves_weaker {old = old} {new = new} {P = λ c. Holds old.sectors c fs ⊎ Holds old.sectors c next}
       (DenotesOne g old.sectors (saved_of fs ∷ saved_of next ∷ []))
-      (λ c held. ⊎_elim (λ was. inl (denoted_by g old.sectors c fs sound was)) (λ is. inr (inl (denoted_by g old.sectors c next sound_next is))) held) moments;
+      (λ c held. ⊎_elim (λ was. inl (denoted_by g old.sectors c fs sound was))
+      (λ is. inr (inl (denoted_by g old.sectors c next sound_next is))) held) moments;
 }
 
 -- where a run ends a crash leaves no more than at its moments
@@ -92,17 +98,18 @@ leaves_end g old new ss counts_now run c left = search (arith, nat_tests)
 home_same : (fs : SavedFrames) → fs.entries ≡ 0 → home_saved fs ≡ fs
 home_same fs none = search (arith, nat_tests)
 
-home_or_saved : (g : Geometry) (size : ℕ) (c : Image) (fs : SavedFrames) → IsSoundSaved g fs → (home last : Bool) → (fs.entries == 0) ≡ home →
-    Holds size c (if last then home_saved fs else fs) →
+home_or_saved : (g : Geometry) (size : ℕ) (c : Image) (fs : SavedFrames) → IsSoundSaved g fs → (home last : Bool) →
+    (fs.entries == 0) ≡ home → Holds size c (if last then home_saved fs else fs) →
     DenotesOne g size (saved_of fs ∷ (if home then [] else if last then at_home (saved_of fs) ∷ [] else [])) c
 home_or_saved g size c fs sound home false is holds = inl (denoted_by g size c fs sound holds)
 home_or_saved g size c fs sound false true is holds = inr
     (inl (denoted_by g size c (home_saved fs) (record { geometry = sound.geometry; sound = sound.sound }) holds))
 home_or_saved g size c fs sound true true is holds = search (arith, nat_tests, denoted_by, home_same)
 
-pub leaves_home : (g : Geometry) (old new : Disk) (a : Snapshots FrozenFrames) (n : ℕ) → IsSoundSaved g a.saved → new.sectors ≡ old.sectors →
-    LeavesEither old new a.saved (moved_saved n a) →
-    LeavesOne g old new (saved_of a.saved ∷ (if a.saved.entries == 0 then [] else if a.to_move - n == 0 then at_home (saved_of a.saved) ∷ [] else []))
+pub leaves_home : (g : Geometry) (old new : Disk) (a : Snapshots FrozenFrames) (n : ℕ) → IsSoundSaved g a.saved →
+    new.sectors ≡ old.sectors → LeavesEither old new a.saved (moved_saved n a) →
+    LeavesOne g old new (saved_of a.saved ∷ (if a.saved.entries == 0 then [] else if a.to_move - n ==
+    0 then at_home (saved_of a.saved) ∷ [] else []))
 leaves_home g old new a n sound size moments =
     let more : List Saved = if a.saved.entries == 0 then [] else if a.to_move - n == 0 then at_home (saved_of a.saved) ∷ [] else [] in
     record {
@@ -124,12 +131,14 @@ up_again : (g : Geometry) (r : Running) (a : Answer) (after : Machine) → Reope
 up_again g r a after again = search (arith, nat_tests, only_one)
 
 -- the device was opened again, or the machine is down for want of memory or after a failure
-restarts : (g : Geometry) (m : Machine) (a : Answer) (after : Machine) → Step g (Down (candidates m)) command.Restart a after → Step g m command.Restart a after
+restarts : (g : Geometry) (m : Machine) (a : Answer) (after : Machine) → Step g (Down (candidates m)) command.Restart a after →
+    Step g m command.Restart a after
 unfolding refusal_of carried_out
 restarts g (Up r) a after again = search (arith, nat_tests, up_again)
 restarts g (Down saved) a after again = again
 
-is_cut : (g : Geometry) (m : Machine) (a : Answer) (after : Machine) → Step g (Down (candidates m)) command.Restart a after → Step g m command.Cut a after
+is_cut : (g : Geometry) (m : Machine) (a : Answer) (after : Machine) → Step g (Down (candidates m)) command.Restart a after →
+    Step g m command.Cut a after
 unfolding refusal_of carried_out
 is_cut g (Up r) a after again = restarts g (Up r) a after again
 is_cut g (Down saved) a after again = again
@@ -149,7 +158,8 @@ left_on : (g : Geometry) (old mid new : Disk) (ss : List Saved) → LeavesOne g 
 left_on g old mid new ss first next = search (arith, nat_tests, leaves_on)
 
 -- the power was cut: a crash leaves what it left
-module _ (g : Geometry) (old new : Disk) (ss : List Saved) (left : old.may_leave new.seen) (durable : Only new.seen new) (size : new.sectors ≡ old.sectors)
+module _ (g : Geometry) (old new : Disk) (ss : List Saved) (left : old.may_leave new.seen) (durable : Only new.seen new)
+    (size : new.sectors ≡ old.sectors)
     (before : Leaves g old ss) where
   pub cut_leaves : Leaves g new ss
   cut_leaves c now = search (arith, nat_tests, agrees_is)
@@ -165,7 +175,8 @@ module _ {D S : Type 0} (disk : D → Disk) (view : S → View D) (parts : S →
       IsSomeMachine disk view parts (power.Up l)
   some_up o d l is some = subst (λ (x : Option (Live S)). IsSomeMachine disk view parts (power_of x d)) is some
 
-  pub requested_up : (o : Option (Live S)) (d : Option D) (l : Live S) → o ≡ Some l → IsSomeMachine disk view parts (power_of o d) → IsSomeUp disk view parts l
+  pub requested_up : (o : Option (Live S)) (d : Option D) (l : Live S) → o ≡ Some l → IsSomeMachine disk view parts (power_of o d) →
+      IsSomeUp disk view parts l
   requested_up o d l is some = search (arith, nat_tests, some_up)
 
   -- it answered
@@ -186,15 +197,17 @@ module _ {D S : Type 0} (disk : D → Disk) (view : S → View D) (parts : S →
   one_device p d e is other = search (arith, nat_tests)
 
   -- the device failed, and was given back
-  pub goes_down : (l k : Live S) (c : Command) (d : D) → CountsNow (disk d) → ServesUp disk view parts l c (answer.Refused refusal.Fault) k →
-      d ≡ (view k.store).beneath →
+  pub goes_down : (l k : Live S) (c : Command) (d : D) → CountsNow (disk d) →
+      ServesUp disk view parts l c (answer.Refused refusal.Fault) k → d ≡ (view k.store).beneath →
       Serves disk view parts (power.Up l) c (answer.Refused refusal.Fault) (power.Down d)
   goes_down l k c d counts_now serves is g (Up r) stands =
       let was : Machine = Up (running disk view parts l) in
       let ss : List Saved = candidates was ++ second was c in
-      let left : LeavesOne g (disk (view l.store).beneath) (disk d) ss = subst (λ (x : D). LeavesOne g (disk (view l.store).beneath) (disk x) ss) (sym is)
+      let left : LeavesOne g (disk (view l.store).beneath) (disk d) ss = subst
+      (λ (x : D). LeavesOne g (disk (view l.store).beneath) (disk x) ss) (sym is)
       (serves g stands.0).leaves in
-      subst (λ (x : Running). ServesFrom disk view parts g (Up x) (power.Up l) c (answer.Refused refusal.Fault) (power.Down d)) (sym stands.1) (record {
+      subst (λ (x : Running). ServesFrom disk view parts g (Up x) (power.Up l) c (answer.Refused refusal.Fault) (power.Down d))
+      (sym stands.1) (record {
         after = Down ss;
         step = inr (inr (tt, refl, refl));
         stands = leaves_end g (disk (view l.store).beneath) (disk d) ss counts_now left;
@@ -228,11 +241,13 @@ module _ {D S : Type 0} (disk : D → Disk) (view : S → View D) (parts : S →
       }
 
   pub opened_some : (device : D) (l : Live S) → Recovers disk view parts device l → IsSomeMachine disk view parts (power.Up l)
-  opened_some device l recovers = let opens = opens_up device l recovers in (opens.geometry, Up (opened opens.geometry opens.saved), opens.stands)
+  opened_some device l recovers = let opens = opens_up device l recovers in
+      (opens.geometry, Up (opened opens.geometry opens.saved), opens.stands)
 
-  module _ (device : D) (seen_left : (disk device).may_leave (disk device).seen) (g : Geometry) (ss : List Saved) (leaves : Leaves g (disk device) ss) where
-    pub rises : (l : Live S) (generation age : ℕ) → Recovers disk view parts device l → generation ≡ (view l.store).snapshots.saved.generation →
-        age ≡ (view l.store).snapshots.saved.age →
+  module _ (device : D) (seen_left : (disk device).may_leave (disk device).seen) (g : Geometry) (ss : List Saved)
+      (leaves : Leaves g (disk device) ss) where
+    pub rises : (l : Live S) (generation age : ℕ) → Recovers disk view parts device l →
+        generation ≡ (view l.store).snapshots.saved.generation → age ≡ (view l.store).snapshots.saved.age →
         Reopened disk view parts g ss device (answer.At generation age) (power.Up l)
     rises l generation age recovers same_generation same_age =
         let fs = (view l.store).snapshots.saved in
@@ -252,22 +267,29 @@ module _ {D S : Type 0} (disk : D → Disk) (view : S → View D) (parts : S →
           };
         }
 
-    pub stays_down : (why : OpenFault) (back : D) → RefusesToOpen disk device back why → Reopened disk view parts g ss device (answer.Refused (refused_by why))
-        (power.Down back)
+    pub stays_down : (why : OpenFault) (back : D) → RefusesToOpen disk device back why →
+        Reopened disk view parts g ss device (answer.Refused (refused_by why)) (power.Down back)
     stays_down why back refuses = reported why refuses
       where
         run : LeavesOne g (disk device) (disk back) ss
         run = record {
           size = refuses.only_reads.size;
-          any_moment = leaves_weaker {old = disk device} {new = disk back} {P = (disk device).may_leave} (DenotesOne g (disk device).sectors ss) leaves
+          any_moment = leaves_weaker {old = disk device} {new = disk back} {P = (disk device).may_leave}
+              (DenotesOne g (disk device).sectors ss) leaves
               refuses.only_reads.any_moment;
         }
 
         still : Leaves g (disk back) ss
         still c left = subst (λ (n : ℕ). DenotesOne g n ss c) (sym refuses.only_reads.size) (leaves c (refuses.only_reads.crash c left))
 
-        reported : (e : OpenFault) → RefusesToOpen disk device back e → Reopened disk view parts g ss device (answer.Refused (refused_by e)) (power.Down back)
-        reported fault.Failed r = record { after = Down ss; step = inr (inr (refl, refl, sym (ap Down (append-nil ss)))); stands = still; leaves = run }
+        reported : (e : OpenFault) → RefusesToOpen disk device back e → Reopened disk view parts g ss device (answer.Refused (refused_by e))
+            (power.Down back)
+        reported fault.Failed r = record {
+          after = Down ss;
+          step = inr (inr (refl, refl, sym (ap Down (append-nil ss))));
+          stands = still;
+          leaves = run;
+        }
         reported fault.NoMemory r = record { after = Down ss; step = inr (inl (refl, refl, refl)); stands = still; leaves = run }
         reported (fault.Bad reason) r = absurd
             (one_not_bad g (disk device).sectors (disk device).seen ss reason (leaves (disk device).seen seen_left) r.is_why.1)
@@ -276,7 +298,8 @@ module _ {D S : Type 0} (disk : D → Disk) (view : S → View D) (parts : S →
   pub no_reason : (device back : D) (why : OpenFault) → (disk device).may_leave (disk device).seen → IsSomeDown disk device →
       RefusesToOpen disk device back why → IsNoReason why
   no_reason device back (fault.Bad reason) seen_left down refuses =
-      absurd (one_not_bad down.0 (disk device).sectors (disk device).seen down.1 reason (down.2 (disk device).seen seen_left) refuses.is_why.1)
+      absurd (one_not_bad down.0 (disk device).sectors (disk device).seen down.1 reason (down.2 (disk device).seen seen_left)
+      refuses.is_why.1)
   no_reason device back c seen_left down refuses = tt
 
   -- ---- restarts and power cuts
@@ -296,10 +319,12 @@ module _ {D S : Type 0} (disk : D → Disk) (view : S → View D) (parts : S →
       ((g : Geometry) (ss : List Saved) → Leaves g (disk e) ss → Reopened disk view parts g ss e a q) → IsSomeMachine disk view parts q
   risen_some q e a down again = let r = again down.0 down.1 down.2 in (down.0, r.after, r.stands)
 
-  module _ (p q : Power D S) (d : D) (c : Command) (a : Answer) (is : IsDeviceOf disk view parts p d) (which : (c ≡ command.Restart) ⊎ (c ≡ command.Cut)) where
+  module _ (p q : Power D S) (d : D) (c : Command) (a : Answer) (is : IsDeviceOf disk view parts p d)
+      (which : (c ≡ command.Restart) ⊎ (c ≡ command.Cut)) where
     -- the device was opened again, from what a crash left of it
-    pub opened_again : (e : D) → ((g : Geometry) (ss : List Saved) → Leaves g (disk d) ss → LeavesOne g (disk d) (disk e) ss × Leaves g (disk e) ss) →
-        ((g : Geometry) (ss : List Saved) → Leaves g (disk e) ss → Reopened disk view parts g ss e a q) → Serves disk view parts p c a q
+    pub opened_again : (e : D) → ((g : Geometry) (ss : List Saved) → Leaves g (disk d) ss →
+        LeavesOne g (disk d) (disk e) ss × Leaves g (disk e) ss) → ((g : Geometry) (ss : List Saved) → Leaves g (disk e) ss →
+        Reopened disk view parts g ss e a q) → Serves disk view parts p c a q
     opened_again e left again g m stands =
         let ss = candidates m in
         let first = left g ss (beneath g p m d stands is) in
@@ -309,7 +334,8 @@ module _ {D S : Type 0} (disk : D → Disk) (view : S → View D) (parts : S →
           step = reopens_step g m c a r.after which r.step;
           stands = r.stands;
           leaves = disk_is p d (λ (x : Disk). LeavesOne g x (disk_of disk view parts q) (ss ++ second m c)) is
-              (more_left g (disk d) (disk_of disk view parts q) ss (second m c) (left_on g (disk d) (disk e) (disk_of disk view parts q) ss first.0 r.leaves));
+              (more_left g (disk d) (disk_of disk view parts q) ss (second m c)
+              (left_on g (disk d) (disk e) (disk_of disk view parts q) ss first.0 r.leaves));
         }
 
     pub again_caused : (e : D) → (disk e).failures ≡ (disk d).failures → IsCaused (disk e) (disk_of disk view parts q) a →
@@ -332,8 +358,9 @@ module _ {D S : Type 0} (disk : D → Disk) (view : S → View D) (parts : S →
 
 -- an invocation by a store that is up has that of its objects
 module _ {D S : Type 0} (disk : D → Disk) (view : S → View D) (parts : S → Parts) where
-  invoked_code : (l : Live S) (i : Invocation) (code : Option ResultCode) → code ≡ code_with (parts l.store).geometry (objects_in (parts l.store)) i answer.Done
-      → HasCode disk view parts (power.Up l) (command.Invoke i) (done_with code)
+  invoked_code : (l : Live S) (i : Invocation) (code : Option ResultCode) →
+      code ≡ code_with (parts l.store).geometry (objects_in (parts l.store)) i answer.Done →
+      HasCode disk view parts (power.Up l) (command.Invoke i) (done_with code)
   invoked_code l i code is g m stands = search (arith, nat_tests)
 
   pub up_code : (l : Live S) (i : Invocation) (r : Result (Option ResultCode) Refusal) →

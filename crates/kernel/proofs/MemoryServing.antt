@@ -38,8 +38,8 @@ module _ (g : Geometry) (s : Running) (p address word : ℕ) where
   store_early why early = search (arith, nat_tests, refused_step)
 
   module _ (process : is_process s.now.objects p ≡ true) (running : is_running_process s.now.objects p ≡ true) where
-    pub store_step : (page : ℕ) → writable (reached s.now.objects p address) ≡ Ok page → touched_count (touching s.touched (page ∷ [])) ≤ g.log →
-        Step g (Up s) (command.Store p address word) answer.Done
+    pub store_step : (page : ℕ) → writable (reached s.now.objects p address) ≡ Ok page →
+        touched_count (touching s.touched (page ∷ [])) ≤ g.log → Step g (Up s) (command.Store p address word) answer.Done
         (Up (writing s (with_word s.now.objects page (address % 512) word) s.now.age (page ∷ []) s.renewed))
     unfolding refusal_of carried_out
     store_step page is within = search (arith, nat_tests, done_step)
@@ -49,8 +49,9 @@ module _ (g : Geometry) (s : Running) (p address word : ℕ) where
     unfolding refusal_of carried_out
     store_fault_step why is = search (arith, nat_tests, done_step)
 
-    pub store_full_step : (page : ℕ) → writable (reached s.now.objects p address) ≡ Ok page → g.log < touched_count (touching s.touched (page ∷ [])) →
-        Step g (Up s) (command.Store p address word) (answer.Refused refusal.LogFull) (Up s)
+    pub store_full_step : (page : ℕ) → writable (reached s.now.objects p address) ≡ Ok page →
+        g.log < touched_count (touching s.touched (page ∷ [])) → Step g (Up s) (command.Store p address word)
+        (answer.Refused refusal.LogFull) (Up s)
     unfolding refusal_of
     store_full_step page is over = search (arith, nat_tests, refused_step)
 
@@ -66,8 +67,9 @@ stored_unfailed : (stored : Result (Unit {0}) MemoryFault) → stored_answer sto
 stored_unfailed stored e = search (arith, nat_tests)
 
 -- the machine of parts with these objects and these numbers touched
-machine_is : (age : ℕ) (new : Parts) (renewed now : List Bool) (frozen : Option Frozen) (saved : Saved) (to_move : ℕ) (os : List Object) (ts : List Bool) →
-    objects_in new ≡ os → new.touched ≡ ts → renewed ≡ now → standing age renewed frozen saved to_move os ts ≡ machine_at age new now frozen saved to_move
+machine_is : (age : ℕ) (new : Parts) (renewed now : List Bool) (frozen : Option Frozen) (saved : Saved) (to_move : ℕ) (os : List Object)
+    (ts : List Bool) → objects_in new ≡ os → new.touched ≡ ts → renewed ≡ now →
+    standing age renewed frozen saved to_move os ts ≡ machine_at age new now frozen saved to_move
 machine_is age new renewed now frozen saved to_move os ts objects touched same = search (arith, nat_tests)
 
 -- a process that can't act
@@ -108,7 +110,8 @@ module _ {age : ℕ} {old mid : Parts} (new : Parts) (p address : ℕ) (sound : 
   load_answers loaded reported is found read =
       subst (λ (r : Result ℕ MemoryFault). Performs age old (command.Load p address) (loaded_answer r) age new) is (back (record {
         step = λ renewed frozen saved to_move other.
-            subst (λ (m : Machine). Step mid.geometry (machine_at age mid renewed frozen saved to_move) (command.Load p address) (loaded_answer loaded) m)
+            subst (λ (m : Machine). Step mid.geometry (machine_at age mid renewed frozen saved to_move) (command.Load p address)
+            (loaded_answer loaded) m)
             (sym (still_machine read age renewed frozen saved to_move)) (load_step mid.geometry _ p address process running loaded found);
         stays = λ other. still_sound read mid_sound;
         later = omega (arith, ap (λ (q : Parts). q.failures) read);
@@ -126,74 +129,84 @@ module _ {age : ℕ} {old mid : Parts} (new : Parts) (p address : ℕ) (sound : 
       back (refused_serves unchanged mid_sound later (reported_cause refusal.LogFull (λ e. cc) (λ rose. let failed = cause.1 rose in cc))
       (λ renewed frozen saved to_move other. store_full_step mid.geometry _ p address word process running over.0 over.1 over.2))
   store_refused word refusal.Fault of unchanged later cause full =
-      back (refused_serves unchanged mid_sound later (λ e. cause.0 refl, λ rose. refl) (λ renewed frozen saved to_move other. absurd (other refl)))
+      back (refused_serves unchanged mid_sound later (λ e. cause.0 refl, λ rose. refl)
+      (λ renewed frozen saved to_move other. absurd (other refl)))
   store_refused word c of unchanged later cause full = absurd of
 
   -- a store
-  module _ (word : ℕ) (geometry : new.geometry ≡ mid.geometry) (headers : new.headers ≡ mid.headers) (later : mid.failures ≤ new.failures) where
-    -- a store leaves the frame of the objects
-    stored_frame : (stored : Result (Unit {0}) MemoryFault) →
-        IsStored mid.geometry.log (objects_in mid) mid.touched p address word (objects_in new) new.touched stored →
-        SameFrame (objects_in mid) (objects_in new)
-    stored_frame (Ok done) is = subst (λ (us : List Object). SameFrame (objects_in mid) us) (sym is.2) (word_frame (objects_in mid) is.0 (address % 512) word)
-    stored_frame (Err why) is = subst (λ (us : List Object). SameFrame (objects_in mid) us) (sym is.1) (frame_refl (objects_in mid))
+  module _ (word : ℕ) (geometry : new.geometry ≡ mid.geometry) (headers : new.headers ≡ mid.headers) (later : mid.failures ≤ new.failures)
+    where
+      -- a store leaves the frame of the objects
+      stored_frame : (stored : Result (Unit {0}) MemoryFault) →
+          IsStored mid.geometry.log (objects_in mid) mid.touched p address word (objects_in new) new.touched stored →
+          SameFrame (objects_in mid) (objects_in new)
+      stored_frame (Ok done) is = subst (λ (us : List Object). SameFrame (objects_in mid) us) (sym is.2)
+          (word_frame (objects_in mid) is.0 (address % 512) word)
+      stored_frame (Err why) is = subst (λ (us : List Object). SameFrame (objects_in mid) us) (sym is.1) (frame_refl (objects_in mid))
 
-    none_renewed : (renewed : List Bool) → SameFrame (objects_in mid) (objects_in new) → renewed_by renewed mid new ≡ renewed
-    none_renewed renewed frame = search (arith, nat_tests, renewing_none, none_in_frame)
+      none_renewed : (renewed : List Bool) → SameFrame (objects_in mid) (objects_in new) → renewed_by renewed mid new ≡ renewed
+      none_renewed renewed frame = search (arith, nat_tests, renewing_none, none_in_frame)
 
-    stored_step : (stored : Result (Unit {0}) MemoryFault) →
-        IsStored mid.geometry.log (objects_in mid) mid.touched p address word (objects_in new) new.touched stored →
-        (renewed : List Bool) (frozen : Option Frozen) (saved : Saved) (to_move : ℕ) →
-        Step mid.geometry (machine_at age mid renewed frozen saved to_move) (command.Store p address word) (stored_answer stored)
-        (machine_at age new (renewed_by renewed mid new) frozen saved to_move)
-    stored_step (Ok done) is renewed frozen saved to_move =
-        subst (λ (m : Machine). Step mid.geometry (machine_at age mid renewed frozen saved to_move) (command.Store p address word) answer.Done m)
-        (machine_is age new renewed (renewed_by renewed mid new) frozen saved to_move (with_word (objects_in mid) is.0 (address % 512) word)
-        (touching mid.touched (is.0 ∷ [])) is.2 is.3 (sym (none_renewed renewed (stored_frame (Ok done) is))))
-        (store_step mid.geometry _ p address word process running is.0 is.1 (subst (λ (ts : List Bool). touched_count ts ≤ mid.geometry.log) is.3 is.4))
-    stored_step (Err why) is renewed frozen saved to_move =
-        subst (λ (m : Machine). Step mid.geometry (machine_at age mid renewed frozen saved to_move) (command.Store p address word) (answer.MemoryFault why) m)
-        (machine_is age new renewed (renewed_by renewed mid new) frozen saved to_move (objects_in mid) mid.touched is.1 is.2
-        (sym (none_renewed renewed (stored_frame (Err why) is)))) (store_fault_step mid.geometry _ p address word process running why is.0)
+      stored_step : (stored : Result (Unit {0}) MemoryFault) →
+          IsStored mid.geometry.log (objects_in mid) mid.touched p address word (objects_in new) new.touched stored →
+          (renewed : List Bool) (frozen : Option Frozen) (saved : Saved) (to_move : ℕ) →
+          Step mid.geometry (machine_at age mid renewed frozen saved to_move) (command.Store p address word) (stored_answer stored)
+          (machine_at age new (renewed_by renewed mid new) frozen saved to_move)
+      stored_step (Ok done) is renewed frozen saved to_move =
+          subst (λ (m : Machine). Step mid.geometry (machine_at age mid renewed frozen saved to_move) (command.Store p address word)
+          answer.Done m)
+          (machine_is age new renewed (renewed_by renewed mid new) frozen saved to_move
+          (with_word (objects_in mid) is.0 (address % 512) word)
+          (touching mid.touched (is.0 ∷ [])) is.2 is.3 (sym (none_renewed renewed (stored_frame (Ok done) is))))
+          (store_step mid.geometry _ p address word process running is.0 is.1
+          (subst (λ (ts : List Bool). touched_count ts ≤ mid.geometry.log) is.3 is.4))
+      stored_step (Err why) is renewed frozen saved to_move =
+          subst (λ (m : Machine). Step mid.geometry (machine_at age mid renewed frozen saved to_move) (command.Store p address word)
+          (answer.MemoryFault why) m)
+          (machine_is age new renewed (renewed_by renewed mid new) frozen saved to_move (objects_in mid) mid.touched is.1 is.2
+          (sym (none_renewed renewed (stored_frame (Err why) is)))) (store_fault_step mid.geometry _ p address word process running why
+          is.0)
 
-    pub store_answers : (stored reported : Result (Unit {0}) MemoryFault) → stored ≡ reported →
-        IsStored mid.geometry.log (objects_in mid) mid.touched p address word (objects_in new) new.touched stored →
-        KeepsSound mid new →
-        (let r : Result (Result (Unit {0}) MemoryFault) Refusal = Ok stored in IsErrOf r refusal.Fault ↔ (mid.failures < new.failures)) →
-        Performs age old (command.Store p address word) (stored_answer reported) age new
-    store_answers stored reported is found keeps cause =
-        subst (λ (r : Result (Unit {0}) MemoryFault). Performs age old (command.Store p address word) (stored_answer r) age new) is
-        (back (record {
-          step = λ renewed frozen saved to_move other. stored_step stored found renewed frozen saved to_move;
-          stays = λ other. record {
-            renews = renews_none mid new (λ n. ap (λ (hs : List ObjectHeader). (header_at hs n).allocations) headers)
-                (λ n used. (tests_at (objects_in mid) (objects_in new) (stored_frame stored found) n).free ∙ used);
-            sound = subst (λ (g : Geometry). IsSoundFrames g age (frames_of new)) (sym geometry) (keeps age mid_sound);
-            geometry = geometry;
-          };
-          later = later;
-          cause = (λ e. absurd (stored_unfailed stored e), λ rose. absurd (ok_no_failure stored (cause.1 rose)));
-        }))
+      pub store_answers : (stored reported : Result (Unit {0}) MemoryFault) → stored ≡ reported →
+          IsStored mid.geometry.log (objects_in mid) mid.touched p address word (objects_in new) new.touched stored →
+          KeepsSound mid new →
+          (let r : Result (Result (Unit {0}) MemoryFault) Refusal = Ok stored in IsErrOf r refusal.Fault ↔ (mid.failures < new.failures)) →
+          Performs age old (command.Store p address word) (stored_answer reported) age new
+      store_answers stored reported is found keeps cause =
+          subst (λ (r : Result (Unit {0}) MemoryFault). Performs age old (command.Store p address word) (stored_answer r) age new) is
+          (back (record {
+            step = λ renewed frozen saved to_move other. stored_step stored found renewed frozen saved to_move;
+            stays = λ other. record {
+              renews = renews_none mid new (λ n. ap (λ (hs : List ObjectHeader). (header_at hs n).allocations) headers)
+                  (λ n used. (tests_at (objects_in mid) (objects_in new) (stored_frame stored found) n).free ∙ used);
+              sound = subst (λ (g : Geometry). IsSoundFrames g age (frames_of new)) (sym geometry) (keeps age mid_sound);
+              geometry = geometry;
+            };
+            later = later;
+            cause = (λ e. absurd (stored_unfailed stored e), λ rose. absurd (ok_no_failure stored (cause.1 rose)));
+          }))
 
 abbrev IsCountedAt : Parts → BanksState → Type 0
 IsCountedAt p s = AreCounted p.geometry (objects_in p) s
 
 -- after a store
-pub stored_counted : (before after : Parts) (s : BanksState) (p address word : ℕ) (r : Result (Unit {0}) MemoryFault) → after.geometry ≡ before.geometry →
-    IsStored before.geometry.log (objects_in before) before.touched p address word (objects_in after) after.touched r → IsCountedAt before s →
-    IsCountedAt after s
+pub stored_counted : (before after : Parts) (s : BanksState) (p address word : ℕ) (r : Result (Unit {0}) MemoryFault) →
+    after.geometry ≡ before.geometry → IsStored before.geometry.log (objects_in before) before.touched p address word (objects_in after)
+    after.touched r → IsCountedAt before s → IsCountedAt after s
 stored_counted before after s p address word (Ok done) geometry stored h =
-    subst (λ (X : Type 0). X) (λ k. AreCounted (sym geometry k) (sym stored.2 k) s) (counted_on (word_frame (objects_in before) stored.0 _ word) h)
+    subst (λ (X : Type 0). X) (λ k. AreCounted (sym geometry k) (sym stored.2 k) s)
+    (counted_on (word_frame (objects_in before) stored.0 _ word) h)
 stored_counted before after s p address word (Err why) geometry stored h = search (arith, nat_tests)
 
 -- an object was shown, or not
 module _ {S : Type 0} {parts : S → Parts} {Continues : S → S → Type 0} (before after : S) (n : ℕ) where
-  pub shows : (age : ℕ) (r : Result Answer Refusal) → n < length (parts before).headers → IsSoundFrames (parts before).geometry age (frames_of (parts before)) →
-      IfOk r (λ a. a ≡ shown (objects_in (parts before)) n) → OnlyReads parts Continues before after r →
-      Performs age (parts before) (command.Show n) (answer_of r) age (parts after)
+  pub shows : (age : ℕ) (r : Result Answer Refusal) → n < length (parts before).headers →
+      IsSoundFrames (parts before).geometry age (frames_of (parts before)) → IfOk r (λ a. a ≡ shown (objects_in (parts before)) n) →
+      OnlyReads parts Continues before after r → Performs age (parts before) (command.Show n) (answer_of r) age (parts after)
   shows age (Ok a) known sound reported reads = shown_serves age (parts before) (parts after) n a known reads.same sound reported
   shows age (Err why) known sound reported reads =
-      unshown_serves age (parts before) (parts after) n reads.snapshots.same sound reads.snapshots.later known why reads.refusals reads.cause
+      unshown_serves age (parts before) (parts after) n reads.snapshots.same sound reads.snapshots.later known why reads.refusals
+      reads.cause
 
 pub shows_fine : (os : List Object) (n : ℕ) (r : Result Answer Refusal) → IfOk r (λ a. a ≡ shown os n) →
     IfOk r (λ a. a ≢ answer.Refused refusal.Fault)

@@ -1,4 +1,5 @@
--- Steps of the machine: which refusal applies, and what is carried out. The outcome of a command over present frames, from what each part reported.
+-- Steps of the machine: which refusal applies, and what is carried out. The outcome of a command over present frames, from what each part
+-- reported.
 use Rattle.kernel.proofs.Names.{ℕ, Bool, true, false, List, Option, None, Some, refl, sym, ap, subst, inl, arith, nat_tests, Answer, Refusal, Command}
 use Rattle.kernel.proofs.Names.{Invocation, Geometry, Object, Effect, invoke, Running, Machine, Up, renewing, touching, touched_count, object_count, Step}
 use Rattle.kernel.proofs.Names.{refusal_of, carried_out, writing, shown, is_process, is_running_process, IsEarly, length, Result, Ok, Err, ResultCode}
@@ -18,7 +19,8 @@ AnswersBy g s c a after r = elim r [
   | None ↦ (a ≡ (carried_out g s c).answer) × (after ≡ Up (carried_out g s c).after)
 ]
 
-pub refused_step : (g : Geometry) (s : Running) (c : Command) (why : Refusal) → refusal_of g s c ≡ Some why → Step g (Up s) c (answer.Refused why) (Up s)
+pub refused_step : (g : Geometry) (s : Running) (c : Command) (why : Refusal) → refusal_of g s c ≡ Some why →
+    Step g (Up s) c (answer.Refused why) (Up s)
 refused_step g s c why is = inl (subst (AnswersBy g s c (answer.Refused why) (Up s)) (sym is) (refl, refl))
 
 pub done_step : (g : Geometry) (s : Running) (c : Command) (a : Answer) (after : Machine) → refusal_of g s c ≡ None →
@@ -49,7 +51,8 @@ module _ (g : Geometry) (s : Running) (i : Invocation) where
       full_step e is over = search (arith, nat_tests, refused_step)
 
       pub invoke_step : (e : Effect) → invoke g s.now.objects i ≡ Some e → touched_count (touching s.touched e.written) ≤ g.log →
-          Step g (Up s) (command.Invoke i) answer.Done (Up (writing s e.objects (s.now.age + 1) e.written (renewing s.renewed s.now.objects e.objects)))
+          Step g (Up s) (command.Invoke i) answer.Done (Up (writing s e.objects (s.now.age + 1) e.written
+          (renewing s.renewed s.now.objects e.objects)))
       unfolding refusal_of carried_out
       invoke_step e is within = search (arith, nat_tests, done_step)
 
@@ -94,12 +97,13 @@ module _ {old new : Parts} (same : new ≡ old) where
 pub refused_serves : {age : ℕ} {old new : Parts} {c : Command} {why : Refusal} → AreSameUnlessFailed old new →
     IsSoundFrames old.geometry age (frames_of old) → old.failures ≤ new.failures → ((why ≡ refusal.Fault) ↔ (old.failures < new.failures)) →
     ((renewed : List Bool) (frozen : Option Frozen) (saved : Saved) (to_move : ℕ) → (why ≡ refusal.Fault → ⊥) →
-    Step old.geometry (machine_at age old renewed frozen saved to_move) c (answer.Refused why) (machine_at age old renewed frozen saved to_move)) →
-    Performs age old c (answer.Refused why) age new
+    Step old.geometry (machine_at age old renewed frozen saved to_move) c (answer.Refused why)
+    (machine_at age old renewed frozen saved to_move)) → Performs age old c (answer.Refused why) age new
 refused_serves {age} {old} {new} {c} {why} unless sound later cause step = record {
   step = λ renewed frozen saved to_move other.
       subst (λ (m : Machine). Step old.geometry (machine_at age old renewed frozen saved to_move) c (answer.Refused why) m)
-      (sym (still_machine (same other) age renewed frozen saved to_move)) (step renewed frozen saved to_move (λ e. other (ap answer.Refused e)));
+      (sym (still_machine (same other) age renewed frozen saved to_move)) (step renewed frozen saved to_move
+      (λ e. other (ap answer.Refused e)));
   stays = λ other. still_sound (same other) sound;
   later = later;
   cause = (λ e. let f : why ≡ refusal.Fault = cc in cause.0 f, λ rose. ap answer.Refused (cause.1 rose));
@@ -114,16 +118,25 @@ reported_cause why other stayed = (λ e. absurd (other e), λ x. absurd (stayed 
 
 abbrev pub standing : ℕ → List Bool → Option Frozen → Saved → ℕ → List Object → List Bool → Machine
 standing age renewed frozen saved to_move os ts = Up
-    (record { now = record { objects = os; age = age }; touched = ts; renewed = renewed; frozen = frozen; saved = saved; to_move = to_move })
+    (record {
+      now = record { objects = os; age = age };
+      touched = ts;
+      renewed = renewed;
+      frozen = frozen;
+      saved = saved;
+      to_move = to_move;
+    })
 
 -- an invocation that was carried out
 done_serves : {age : ℕ} {old new : Parts} {i : Invocation} → age < 2 ^ 62 → is_process (objects_in old) i.process ≡ true →
     is_running_process (objects_in old) i.process ≡ true → IsSoundFrames old.geometry age (frames_of old) →
-    Invokes old.geometry i (objects_in old) old.touched (objects_in new) new.touched → KeepsSoundFrames old new → Renews old new → new.geometry ≡ old.geometry →
-    old.failures ≤ new.failures → (old.failures < new.failures → ⊥) → Performs age old (command.Invoke i) answer.Done (age + 1) new
+    Invokes old.geometry i (objects_in old) old.touched (objects_in new) new.touched → KeepsSoundFrames old new → Renews old new →
+    new.geometry ≡ old.geometry → old.failures ≤ new.failures → (old.failures < new.failures → ⊥) →
+    Performs age old (command.Invoke i) answer.Done (age + 1) new
 done_serves {age} {old} {new} {i} young process running sound invokes keeps renews geometry later stayed = record {
   step = λ renewed frozen saved to_move other.
-      subst (Step old.geometry (machine_at age old renewed frozen saved to_move) (command.Invoke i) answer.Done) (made renewed frozen saved to_move)
+      subst (Step old.geometry (machine_at age old renewed frozen saved to_move) (command.Invoke i) answer.Done)
+      (made renewed frozen saved to_move)
       (invoke_step old.geometry _ i process running young invokes.0 invokes.1
       (subst (λ (ts : List Bool). touched_count ts ≤ old.geometry.log) invokes.3 invokes.4));
   stays = λ other. record {
@@ -136,14 +149,16 @@ done_serves {age} {old} {new} {i} young process running sound invokes keeps rene
 }
   where
     made : (renewed : List Bool) (frozen : Option Frozen) (saved : Saved) (to_move : ℕ) →
-        standing (age + 1) (renewing renewed (objects_in old) invokes.0.objects) frozen saved to_move invokes.0.objects (touching old.touched invokes.0.written)
+        standing (age + 1) (renewing renewed (objects_in old) invokes.0.objects) frozen saved to_move invokes.0.objects
+        (touching old.touched invokes.0.written)
         ≡ machine_at (age + 1) new (renewed_by renewed old new) frozen saved to_move
     made renewed frozen saved to_move =
-        λ k. standing (age + 1) (renewing renewed (objects_in old) (sym invokes.2 k)) frozen saved to_move (sym invokes.2 k) (sym invokes.3 k)
+        λ k. standing (age + 1) (renewing renewed (objects_in old) (sym invokes.2 k)) frozen saved to_move (sym invokes.2 k)
+        (sym invokes.3 k)
 
 -- what is answered where there is no process
-pub no_process_serves : (p : Parts) (age : ℕ) (i : Invocation) → IsSoundFrames p.geometry age (frames_of p) → is_process (objects_in p) i.process ≡ false →
-    Performs age p (command.Invoke i) (answer.Refused refusal.NoProcess) age p
+pub no_process_serves : (p : Parts) (age : ℕ) (i : Invocation) → IsSoundFrames p.geometry age (frames_of p) →
+    is_process (objects_in p) i.process ≡ false → Performs age p (command.Invoke i) (answer.Refused refusal.NoProcess) age p
 no_process_serves p age i sound none =
     refused_serves (λ stayed. refl) sound
     (omega arith) (reported_cause refusal.NoProcess (λ e. cc) (λ rose. absurd (omega (arith, rose))))
@@ -151,7 +166,8 @@ no_process_serves p age i sound none =
 
 -- what is answered to an invocation that wasn't carried out
 module _ {S : Type 0} (parts : S → Parts) (Continues : S → S → Type 0) (age : ℕ) (old new : S) (i : Invocation)
-    (process : is_process (objects_in (parts old)) i.process ≡ true) (sound : IsSoundFrames (parts old).geometry age (frames_of (parts old)))
+    (process : is_process (objects_in (parts old)) i.process ≡ true) (sound :
+    IsSoundFrames (parts old).geometry age (frames_of (parts old)))
     (young : age < 2 ^ 62) where
   module _ (f : Refusal) (said : Invoked parts Continues old new i (Err f)) where
     refused : (why : Refusal) → ((why ≡ refusal.Fault) ↔ (f ≡ refusal.Fault)) →
@@ -182,10 +198,11 @@ module _ {S : Type 0} (parts : S → Parts) (Continues : S → S → Type 0) (ag
   fault_serves c tells said = absurd tells
 
   -- and to one that was
-  pub invoked_serves : (code : Option ResultCode) → TellsState (objects_in (parts old)) i (Ok code) → Invoked parts Continues old new i (Ok code) →
-      Performs age (parts old) (command.Invoke i) answer.Done (age + 1) (parts new)
+  pub invoked_serves : (code : Option ResultCode) → TellsState (objects_in (parts old)) i (Ok code) →
+      Invoked parts Continues old new i (Ok code) → Performs age (parts old) (command.Invoke i) answer.Done (age + 1) (parts new)
   invoked_serves code runs said =
-      done_serves young process runs sound said.done said.sound said.renews said.geometry said.later (λ rose. let failed = said.cause.1 rose in cc)
+      done_serves young process runs sound said.done said.sound said.renews said.geometry said.later
+      (λ rose. let failed = said.cause.1 rose in cc)
 
 -- what is shown of an object
 pub shown_serves : (age : ℕ) (old new : Parts) (n : ℕ) (a : Answer) → n < length old.headers → new ≡ old →
@@ -205,17 +222,18 @@ shown_serves age old new n a known same sound reported = record {
 
 module _ (age : ℕ) (old new : Parts) (n : ℕ) (same : AreSameUnlessFailed old new) (sound : IsSoundFrames old.geometry age (frames_of old))
     (later : old.failures ≤ new.failures) where
-  pub bad_number_serves : length old.headers ≤ n → (old.failures < new.failures → ⊥) → Performs age old (command.Show n) (answer.Refused refusal.BadNumber) age
-      new
+  pub bad_number_serves : length old.headers ≤ n → (old.failures < new.failures → ⊥) →
+      Performs age old (command.Show n) (answer.Refused refusal.BadNumber) age new
   bad_number_serves past stayed =
       refused_serves same sound later (reported_cause refusal.BadNumber (λ e. cc) stayed)
       (λ renewed frozen saved to_move other. bad_number_step old.geometry _ n
       (subst (λ (m : ℕ). m ≤ n) (keepable_count old.geometry age old sound.keepable) past))
 
-  show_no_memory_serves : n < length old.headers → (old.failures < new.failures → ⊥) → Performs age old (command.Show n) (answer.Refused refusal.NoMemory) age
-      new
+  show_no_memory_serves : n < length old.headers → (old.failures < new.failures → ⊥) →
+      Performs age old (command.Show n) (answer.Refused refusal.NoMemory) age new
   show_no_memory_serves known stayed =
-      refused_serves same sound later (reported_cause refusal.NoMemory (λ e. cc) stayed) (λ renewed frozen saved to_move other. show_no_memory old.geometry _ n
+      refused_serves same sound later (reported_cause refusal.NoMemory (λ e. cc) stayed)
+      (λ renewed frozen saved to_move other. show_no_memory old.geometry _ n
       (subst (λ (m : ℕ). n < m) (keepable_count old.geometry age old sound.keepable) known))
 
   -- nothing is shown

@@ -40,8 +40,9 @@ module _ (g : Geometry) (s : Running) where
     unfolding refusal_of
     not_home none more = search (arith, nat_tests)
 
-    pub checkpoint_step : s.frozen ≡ None → s.saved.entries ≡ 0 → (let now : World = record { objects = s.now.objects; age = s.now.age + 1 } in
-        let f : Frozen = record { world = now; size = touched_count s.touched; left = touched_count s.touched } in
+    pub checkpoint_step : s.frozen ≡ None → s.saved.entries ≡ 0 → (let now : World =
+        record { objects = s.now.objects; age = s.now.age + 1 } in let f : Frozen =
+        record { world = now; size = touched_count s.touched; left = touched_count s.touched } in
         Step g (Up s) command.Checkpoint (answer.Frozen (touched_count s.touched))
         (Up (record { now = now; touched = untouched g; renewed = untouched g; frozen = Some f; saved = s.saved; to_move = s.to_move })))
     unfolding refusal_of carried_out
@@ -89,14 +90,17 @@ module _ (g : Geometry) (s : Running) where
 
 -- ---- frames at a later age
 
-world_later : (g : Geometry) (age later : ℕ) (fs : List Frame) → later ≤ 2 ^ 62 → IsSound g (world_at age fs) → IsSound g (world_at later fs)
+world_later : (g : Geometry) (age later : ℕ) (fs : List Frame) → later ≤ 2 ^ 62 → IsSound g (world_at age fs) →
+    IsSound g (world_at later fs)
 world_later g age later fs within w = search (arith, nat_tests)
 
-pub frames_later : (g : Geometry) (age later : ℕ) (fs : List Frame) → age ≤ later → later ≤ 2 ^ 62 → IsSoundFrames g age fs → IsSoundFrames g later fs
+pub frames_later : (g : Geometry) (age later : ℕ) (fs : List Frame) → age ≤ later → later ≤ 2 ^ 62 → IsSoundFrames g age fs →
+    IsSoundFrames g later fs
 frames_later g age later fs le within f = search (arith, nat_tests, keepable_later, world_later)
 
 -- sound frames can be put out and read back
-pub keepable_most : (g : Geometry) (p : Parts) (age : ℕ) → p.geometry ≡ g → IsSoundFrames g age (frames_of p) → AreKeepable p.geometry most (frames_of p)
+pub keepable_most : (g : Geometry) (p : Parts) (age : ℕ) → p.geometry ≡ g → IsSoundFrames g age (frames_of p) →
+    AreKeepable p.geometry most (frames_of p)
 keepable_most g p age same f = search (arith, nat_tests, most, keepable_later)
 
 -- ---- the same objects
@@ -107,11 +111,12 @@ module _ {p q : Parts} (same : q ≡ p) {a b : Snapshots FrozenFrames} (beside :
 
   pub stays_sound : {g : Geometry} {banks : BanksState} {age frozen_age : ℕ} → AreSoundTogether g p a banks age frozen_age →
       AreSoundTogether g q b banks age frozen_age
-  stays_sound {g} {banks} {age} {frozen_age} s = subst (λ (X : Type 0). X) (λ k. AreSoundTogether g (sym same k) (sym beside k) banks age frozen_age) s
+  stays_sound {g} {banks} {age} {frozen_age} s = subst (λ (X : Type 0). X) (λ k. AreSoundTogether g (sym same k) (sym beside k) banks age
+      frozen_age) s
 
 -- other objects, at an age that didn't fall
-pub acts_sound : {g : Geometry} {p q : Parts} {a b : Snapshots FrozenFrames} {old_banks banks : BanksState} {old_age age frozen_age : ℕ} → b ≡ a →
-    old_age ≤ age → q.geometry ≡ g → Renews p q → IsSoundFrames g age (frames_of q) →
+pub acts_sound : {g : Geometry} {p q : Parts} {a b : Snapshots FrozenFrames} {old_banks banks : BanksState} {old_age age frozen_age : ℕ} →
+    b ≡ a → old_age ≤ age → q.geometry ≡ g → Renews p q → IsSoundFrames g age (frames_of q) →
     AreCounted g (objects_in q) banks → AreSoundTogether g p a old_banks old_age frozen_age → AreSoundTogether g q b banks age frozen_age
 acts_sound {g} {p} {q} {a} {b} {old_banks} {banks} {old_age} {age} {frozen_age} beside later geometry renews now counted s = subst
     (λ (x : Snapshots FrozenFrames). AreSoundTogether g q x banks age frozen_age) (sym beside) (record {
@@ -126,13 +131,15 @@ acts_sound {g} {p} {q} {a} {b} {old_banks} {banks} {old_age} {age} {frozen_age} 
 
 -- ---- stages
 
-module _ {g : Geometry} {p : Parts} {a : Snapshots FrozenFrames} {banks : BanksState} {age frozen_age : ℕ} (s : AreSoundTogether g p a banks age frozen_age)
+module _ {g : Geometry} {p : Parts} {a : Snapshots FrozenFrames} {banks : BanksState} {age frozen_age : ℕ}
+    (s : AreSoundTogether g p a banks age frozen_age)
   where
     -- all is frozen, one age later
     pub begun_sound : (q : Parts) (n : ℕ) → q.geometry ≡ p.geometry → frames_of q ≡ frames_of p → age < 2 ^ 62 →
         AreSoundTogether g q (freezing (all_frozen (frames_of p) n) a) banks (age + 1) (age + 1)
     begun_sound q n geometry frames young =
-        let now : IsSoundFrames g (age + 1) (frames_of p) = frames_later g age (age + 1) (frames_of p) (omega arith) (omega (arith, young)) s.now in
+        let now : IsSoundFrames g (age + 1) (frames_of p) = frames_later g age (age + 1) (frames_of p) (omega arith) (omega (arith, young))
+        s.now in
         record {
           geometry = geometry ∙ s.geometry;
           now = subst (λ (fs : List Frame). IsSoundFrames g (age + 1) fs) (sym frames) now;
@@ -143,12 +150,13 @@ module _ {g : Geometry} {p : Parts} {a : Snapshots FrozenFrames} {banks : BanksS
           risen = λ n. subst (λ (fs : List Frame). allocations_at (frames_of p) n ≤ allocations_at fs n) (sym frames) (omega arith);
         }
       where
-        frozen_now : (f : FrozenFrames) → Some (record { frames = frames_of p; size = n; left = n }) ≡ Some f → IsSoundFrames g (age + 1) (frames_of p) →
-            IsSoundFrozen g a.saved.age (age + 1) (age + 1) f
+        frozen_now : (f : FrozenFrames) → Some (record { frames = frames_of p; size = n; left = n }) ≡ Some f →
+            IsSoundFrames g (age + 1) (frames_of p) → IsSoundFrozen g a.saved.age (age + 1) (age + 1) f
         frozen_now f is now =
             let fs : FrozenFrames = record { frames = frames_of p; size = n; left = n } in
             let same : fs ≡ f = cc in
-            subst (IsSoundFrozen g a.saved.age (age + 1) (age + 1)) same (record { after = omega (arith, s.order); before = omega arith; sound = now })
+            subst (IsSoundFrozen g a.saved.age (age + 1) (age + 1)) same (record
+            { after = omega (arith, s.order); before = omega arith; sound = now })
 
     -- no count fell since it was frozen
     risen_frozen : (f : FrozenFrames) → a.frozen ≡ Some f → (n : ℕ) → allocations_at f.frames n ≤ allocations_at (frames_of p) n
@@ -178,7 +186,8 @@ module _ {g : Geometry} {p : Parts} {a : Snapshots FrozenFrames} {banks : BanksS
     pub next_sound : (f : FrozenFrames) → a.frozen ≡ Some f → IsSoundSaved g (next_saved whole frozen_age f a.saved)
     next_sound f is = record { geometry = s.saved.geometry; sound = (s.frozen f is).sound }
 
-    pub committed_sound : (f : FrozenFrames) → a.frozen ≡ Some f → AreSoundTogether g p (stage.committed whole frozen_age f a) banks age frozen_age
+    pub committed_sound : (f : FrozenFrames) → a.frozen ≡ Some f → AreSoundTogether g p (stage.committed whole frozen_age f a) banks age
+        frozen_age
     committed_sound f is = record {
       geometry = s.geometry;
       now = s.now;
@@ -216,7 +225,8 @@ module _ {g : Geometry} {p : Parts} {a : Snapshots FrozenFrames} {banks : BanksS
 saved_if : (b : Bool) (fs : SavedFrames) → saved_of (if b then home_saved fs else fs) ≡ (if b then at_home (saved_of fs) else saved_of fs)
 saved_if b fs = search (arith, nat_tests)
 
-pub saved_moved : (p : Parts) (a : Snapshots FrozenFrames) (age frozen_age n : ℕ) → saved_of (moved_saved n a) ≡ moved (running_of p a age frozen_age) n
+pub saved_moved : (p : Parts) (a : Snapshots FrozenFrames) (age frozen_age n : ℕ) →
+    saved_of (moved_saved n a) ≡ moved (running_of p a age frozen_age) n
 saved_moved p a age frozen_age n = saved_if (a.to_move - n == 0) a.saved
 
 -- ---- the checkpoint on its way
@@ -235,9 +245,10 @@ none_there o reported = search (arith, nat_tests)
 pub some_there : (o : Option FrozenFrames) → (option_map (λ (f : FrozenFrames). f.left) o ≡ None → ⊥) → (f : FrozenFrames) × (o ≡ Some f)
 some_there o reported = search (arith, nat_tests)
 
-pub some_left : (o : Option FrozenFrames) (n : ℕ) → Some n ≡ option_map (λ (f : FrozenFrames). f.left) o → (f : FrozenFrames) × (o ≡ Some f) × (f.left ≡ n)
+pub some_left : (o : Option FrozenFrames) (n : ℕ) → Some n ≡ option_map (λ (f : FrozenFrames). f.left) o →
+    (f : FrozenFrames) × (o ≡ Some f) × (f.left ≡ n)
 some_left o n reported = search (arith, nat_tests)
 
-pub some_left_after : (o : Option FrozenFrames) (count n : ℕ) → option_map (λ (k : ℕ). k - count) (option_map (λ (f : FrozenFrames). f.left) o) ≡ Some n →
-    (f : FrozenFrames) × (o ≡ Some f) × (n ≡ f.left - count)
+pub some_left_after : (o : Option FrozenFrames) (count n : ℕ) → option_map (λ (k : ℕ). k - count)
+    (option_map (λ (f : FrozenFrames). f.left) o) ≡ Some n → (f : FrozenFrames) × (o ≡ Some f) × (n ≡ f.left - count)
 some_left_after o count n reported = search (arith, nat_tests)

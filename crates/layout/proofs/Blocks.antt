@@ -32,17 +32,25 @@ node_last f bytes e size =
     let slots : List ℕ = slots_bytes (slots_of f.content) in
     let whole : bytes ≡ (front ++ slots) ++ zeros 224 = e in
     ap (drop 800) whole ∙
-    drop_at (front ++ slots) (zeros 224) 800 (omega (arith, ap length whole, size, length-append (front ++ slots) (zeros 224), length-zeros 224))
+    drop_at (front ++ slots) (zeros 224) 800 (omega (
+      arith,
+      ap length whole,
+      size,
+      length-append (front ++ slots) (zeros 224),
+      length-zeros 224,
+    ))
 
 zeros_front : (k n : ℕ) → k ≤ n → take k (zeros n) ≡ zeros k
 unfolding zeros
 zeros_front k n le = take-replicate k n 0 le
 
-node_rest : (f : Frame) (bytes : List ℕ) (k : ℕ) → bytes ≡ node_frame_bytes f → length bytes ≡ 1024 → 800 ≤ k → k ≤ 1024 → drop k bytes ≡ zeros (1024 - k)
+node_rest : (f : Frame) (bytes : List ℕ) (k : ℕ) → bytes ≡ node_frame_bytes f → length bytes ≡ 1024 → 800 ≤ k → k ≤ 1024 →
+    drop k bytes ≡ zeros (1024 - k)
 node_rest f bytes k e size low high =
     let at : 800 + (k - 800) ≡ k = omega (arith, low) in
     let few : 224 - (k - 800) ≡ 1024 - k = omega (arith, low, high) in
-    ap (λ (n : ℕ). drop n bytes) (sym at) ∙ sym (drop-drop (k - 800) 800 bytes) ∙ ap (drop (k - 800)) (node_last f bytes e size) ∙ drop_zeros (k - 800) 224 ∙
+    ap (λ (n : ℕ). drop n bytes) (sym at) ∙ sym (drop-drop (k - 800) 800 bytes) ∙ ap (drop (k - 800)) (node_last f bytes e size)
+    ∙ drop_zeros (k - 800) 224 ∙
     ap zeros few
 
 is_node : (n nodes : ℕ) → n < nodes → nat_lt n nodes ≡ true
@@ -52,12 +60,14 @@ is_page : (n nodes : ℕ) → nodes ≤ n → nat_lt n nodes ≡ false
 is_page n nodes le = grind (arith, nat_tests)
 
 -- the end that a block lacks
-rest_of : (g : Geometry) (n : ℕ) (s : Shape) (f : Frame) (bytes : List ℕ) → IsShapeFor g n s → bytes ≡ frame_bytes g n f → length bytes ≡ 512 * frame_length g n
-    → (s.bytes ≤ length bytes) × (drop s.bytes bytes ≡ zeros (length bytes - s.bytes)) × (length bytes - s.bytes ≡ 1024 - s.bytes)
+rest_of : (g : Geometry) (n : ℕ) (s : Shape) (f : Frame) (bytes : List ℕ) → IsShapeFor g n s → bytes ≡ frame_bytes g n f →
+    length bytes ≡ 512 * frame_length g n → (s.bytes ≤ length bytes) × (drop s.bytes bytes ≡ zeros (length bytes - s.bytes))
+    × (length bytes - s.bytes ≡ 1024 - s.bytes)
 rest_of g n s f bytes fits e size = elim (cases_lt n g.nodes) [
   | inl lt ↦
       let long : length bytes ≡ 1024 = size ∙ ap (λ test. 512 * (if test then 2 else 9)) (is_node n g.nodes lt) in
-      let node : bytes ≡ node_frame_bytes f = e ∙ ap (λ test. if test then node_frame_bytes f else page_frame_bytes f) (is_node n g.nodes lt) in
+      let node : bytes ≡ node_frame_bytes f = e ∙ ap (λ test. if test then node_frame_bytes f else page_frame_bytes f)
+      (is_node n g.nodes lt) in
       let most = (fits.node lt).0 in (
         omega (arith, most, long),
         node_rest f bytes s.bytes node long fits.least most ∙ ap (λ (m : ℕ). zeros (m - s.bytes)) (sym long),
@@ -74,8 +84,8 @@ rest_of g n s f bytes fits e size = elim (cases_lt n g.nodes) [
 ]
 
 -- a frame is its bytes in a block, and the zeros that the block lacks
-trimmed : (g : Geometry) (n : ℕ) (s : Shape) (f : Frame) (bytes : List ℕ) → IsShapeFor g n s → bytes ≡ frame_bytes g n f → length bytes ≡ 512 * frame_length g n
-    → take s.bytes bytes ++ zeros (1024 - s.bytes) ≡ bytes
+trimmed : (g : Geometry) (n : ℕ) (s : Shape) (f : Frame) (bytes : List ℕ) → IsShapeFor g n s → bytes ≡ frame_bytes g n f →
+    length bytes ≡ 512 * frame_length g n → take s.bytes bytes ++ zeros (1024 - s.bytes) ≡ bytes
 trimmed g n s f bytes fits e size =
     let rest = rest_of g n s f bytes fits e size in
     ap (λ (end : List ℕ). take s.bytes bytes ++ end) (ap zeros (sym rest.2) ∙ sym rest.1) ∙ take-append-drop s.bytes bytes
@@ -85,7 +95,8 @@ pub has_room : (g : Geometry) (n : ℕ) (s : Shape) → IsShapeFor g n s → s.o
 has_room g n s fits = elim (cases_lt n g.nodes) [
   | inl lt ↦
       let node = fits.node lt in
-      subst (λ test. s.offset + 512 * (if test then 2 else 9) ≤ 4608) (sym (is_node n g.nodes lt)) (omega (arith, fits.inside, fits.least, node.1))
+      subst (λ test. s.offset + 512 * (if test then 2 else 9) ≤ 4608) (sym (is_node n g.nodes lt))
+      (omega (arith, fits.inside, fits.least, node.1))
   | inr le ↦ subst (λ test. s.offset + 512 * (if test then 2 else 9) ≤ 4608) (sym (is_page n g.nodes le))
       (omega (arith, ap (λ (t : Shape). t.offset) (fits.page le)))
 ]
@@ -95,7 +106,8 @@ has_room g n s fits = elim (cases_lt n g.nodes) [
 -- what stands after a place of n bytes
 behind_put : (at k n : ℕ) (xs ys : List ℕ) → at ≤ length xs → drop (at + k) (put_mid at n xs ys) ≡ drop k (ys ++ drop (at + n) xs)
 behind_put at k n xs ys low =
-    ap (drop (at + k)) (mid_put at n xs ys ∙ append_assoc (take at xs) ys (drop (at + n) xs)) ∙ sym (drop-drop k at (take at xs ++ (ys ++ drop (at + n) xs))) ∙
+    ap (drop (at + k)) (mid_put at n xs ys ∙ append_assoc (take at xs) ys (drop (at + n) xs))
+    ∙ sym (drop-drop k at (take at xs ++ (ys ++ drop (at + n) xs))) ∙
     ap (drop k) (drop_at (take at xs) (ys ++ drop (at + n) xs) at (length-take-le at xs low))
 
 piece : (at k : ℕ) (xs : List ℕ) → between at (at + k) xs ≡ take k (drop at xs)
@@ -106,31 +118,37 @@ length-piece at k xs le = ap length (piece at k xs) ∙ length-take-le k (drop a
 
 module _ (s : Shape) (xs ys : List ℕ) (n : ℕ) where
   -- the front of what was put there
-  pub put_there : s.offset ≤ length xs → s.bytes ≤ length ys → shape_bytes s (put_mid s.offset n xs ys) ≡ take s.bytes ys ++ zeros (1024 - s.bytes)
+  pub put_there : s.offset ≤ length xs → s.bytes ≤ length ys → shape_bytes s (put_mid s.offset n xs ys)
+      ≡ take s.bytes ys ++ zeros (1024 - s.bytes)
   put_there low few =
       let here = behind_put s.offset 0 n xs ys low in
       let at : s.offset + 0 ≡ s.offset = omega arith in
       ap (λ (b : List ℕ). b ++ zeros (1024 - s.bytes)) (piece s.offset s.bytes (put_mid s.offset n xs ys) ∙
-      ap (take s.bytes) (ap (λ (m : ℕ). drop m (put_mid s.offset n xs ys)) (sym at) ∙ here) ∙ take-append-le s.bytes ys (drop (s.offset + n) xs) few)
+      ap (take s.bytes) (ap (λ (m : ℕ). drop m (put_mid s.offset n xs ys)) (sym at) ∙ here)
+      ∙ take-append-le s.bytes ys (drop (s.offset + n) xs) few)
 
   -- other places stay
-  pub others_stay : (t : Shape) → shape_end s ≤ length xs → n ≡ s.bytes → length ys ≡ n → AreBeside s t → shape_bytes t (put_mid s.offset n xs ys) ≡ shape_bytes t xs
+  pub others_stay : (t : Shape) → shape_end s ≤ length xs → n ≡ s.bytes → length ys ≡ n → AreBeside s t →
+      shape_bytes t (put_mid s.offset n xs ys) ≡ shape_bytes t xs
   others_stay t le whole size (inl behind) =
       ap (λ (b : List ℕ). take (shape_end t - t.offset) b ++ zeros (1024 - t.bytes))
       (drop-put_mid s.offset n xs ys t.offset (omega (arith, behind, whole)) (omega (arith, le)) size)
   others_stay t le whole size (inr before) =
       ap (λ (b : List ℕ). b ++ zeros (1024 - t.bytes)) (between_is (put_mid s.offset n xs ys) t.offset (shape_end t) ∙
-      ap (drop t.offset) (take-put_mid_below s.offset n xs ys (shape_end t) before (omega (arith, le))) ∙ sym (between_is xs t.offset (shape_end t)))
+      ap (drop t.offset) (take-put_mid_below s.offset n xs ys (shape_end t) before (omega (arith, le)))
+      ∙ sym (between_is xs t.offset (shape_end t)))
 
 -- what was copied from the same place of another block
-pub copied_there : (s : Shape) (from xs ys : List ℕ) (n : ℕ) → shape_end s ≤ length from → s.offset ≤ length xs → ys ≡ between s.offset (shape_end s) from
-    → shape_bytes s (put_mid s.offset n xs ys) ≡ shape_bytes s from
+pub copied_there : (s : Shape) (from xs ys : List ℕ) (n : ℕ) → shape_end s ≤ length from → s.offset ≤ length xs →
+    ys ≡ between s.offset (shape_end s) from → shape_bytes s (put_mid s.offset n xs ys) ≡ shape_bytes s from
 copied_there s from xs ys n le low is =
     let size : length ys ≡ s.bytes = ap length is ∙ length-piece s.offset s.bytes from le in
-    put_there s xs ys n low (omega (arith, size)) ∙ ap (λ (b : List ℕ). b ++ zeros (1024 - s.bytes)) (take_all s.bytes ys (omega (arith, size)) ∙ is)
+    put_there s xs ys n low (omega (arith, size)) ∙ ap (λ (b : List ℕ). b ++ zeros (1024 - s.bytes))
+    (take_all s.bytes ys (omega (arith, size)) ∙ is)
 
 -- a frame was put into its place
-module _ (g : Geometry) (number : ℕ) (s : Shape) (f : Frame) (xs ys : List ℕ) (n : ℕ) (fits : IsShapeFor g number s) (is : ys ≡ frame_bytes g number f)
+module _ (g : Geometry) (number : ℕ) (s : Shape) (f : Frame) (xs ys : List ℕ) (n : ℕ) (fits : IsShapeFor g number s)
+    (is : ys ≡ frame_bytes g number f)
     (size : length ys ≡ 512 * frame_length g number) (whole : n ≡ length ys) (low : s.offset + n ≤ length xs) where
   pub frame_put : shape_bytes s (put_mid s.offset n xs ys) ≡ frame_bytes g number f
   frame_put =
@@ -150,7 +168,8 @@ module _ (g : Geometry) (number : ℕ) (s : Shape) (f : Frame) (xs ys : List ℕ
       let tail : drop (s.offset + n) xs ≡ zeros (length xs - (s.offset + n)) =
       ap (λ (m : ℕ). drop m xs) (sym far) ∙ sym (drop-drop (n - s.bytes) (s.offset + s.bytes) xs) ∙ ap (drop (n - s.bytes)) blank ∙
       drop_zeros (n - s.bytes) (length xs - (s.offset + s.bytes)) ∙ ap zeros (omega (arith, rest.0, whole)) in
-      let sum : length ys - s.bytes + (length xs - (s.offset + n)) ≡ length (put_mid s.offset n xs ys) - shape_end s = omega (arith, length-put, rest.0, whole, low) in
+      let sum : length ys - s.bytes + (length xs - (s.offset + n)) ≡ length (put_mid s.offset n xs ys) - shape_end s =
+      omega (arith, length-put, rest.0, whole, low) in
       behind_put s.offset s.bytes n xs ys (omega (arith, low)) ∙ drop-append-le s.bytes ys (drop (s.offset + n) xs) rest.0
       ∙ ap (λ (b : List ℕ). b ++ drop (s.offset + n) xs) rest.1 ∙ ap (λ (b : List ℕ). zeros (length ys - s.bytes) ++ b) tail
       ∙ zeros_more (length ys - s.bytes) (length xs - (s.offset + n)) ∙ ap zeros sum
@@ -158,11 +177,13 @@ module _ (g : Geometry) (number : ℕ) (s : Shape) (f : Frame) (xs ys : List ℕ
 -- ---- a node's frame by itself
 
 pub unpacked : (s : Shape) (block node copied bytes : List ℕ) → shape_end s ≤ length block → s.bytes ≤ 1024 → length node ≡ 1024
-    → copied ≡ between s.offset (shape_end s) block → bytes ≡ take s.bytes (copied ++ drop s.bytes node) ++ zeros (length (copied ++ drop s.bytes node) - s.bytes)
+    → copied ≡ between s.offset (shape_end s) block → bytes ≡ take s.bytes (copied ++ drop s.bytes node) ++ zeros
+    (length (copied ++ drop s.bytes node) - s.bytes)
     → bytes ≡ shape_bytes s block
 unpacked s block node copied bytes le few size is written =
     let long : length copied ≡ s.bytes = ap length is ∙ length-piece s.offset s.bytes block le in
-    let rest : length (copied ++ drop s.bytes node) - s.bytes ≡ 1024 - s.bytes = omega (arith, length-append copied (drop s.bytes node), length-drop s.bytes node, long, size, few) in
+    let rest : length (copied ++ drop s.bytes node) - s.bytes ≡ 1024 - s.bytes =
+    omega (arith, length-append copied (drop s.bytes node), length-drop s.bytes node, long, size, few) in
     written ∙ ap (λ (n : ℕ). take s.bytes (copied ++ drop s.bytes node) ++ zeros n) rest
     ∙ ap (λ (b : List ℕ). b ++ zeros (1024 - s.bytes)) (take_at copied (drop s.bytes node) s.bytes long ∙ is)
 
@@ -202,7 +223,8 @@ page_whole bytes size = append-nil (take 4608 bytes) ∙ take_all 4608 bytes (om
 -- the front of a block has the places in it
 pub front_shape : (s : Shape) (n : ℕ) (xs : List ℕ) → shape_end s ≤ n → shape_bytes s (take n xs) ≡ shape_bytes s xs
 front_shape s n xs le =
-    ap (λ (b : List ℕ). b ++ zeros (1024 - s.bytes)) (between_is (take n xs) s.offset (shape_end s) ∙ ap (drop s.offset) (take-take (shape_end s) n xs le) ∙
+    ap (λ (b : List ℕ). b ++ zeros (1024 - s.bytes)) (between_is (take n xs) s.offset (shape_end s)
+    ∙ ap (drop s.offset) (take-take (shape_end s) n xs le) ∙
     sym (between_is xs s.offset (shape_end s)))
 
 -- and its zeros
@@ -219,45 +241,54 @@ front_blank at n xs le blank = elim (cases_lt at n) [
 
 -- ---- a frame alone in its block is written
 
-pub alone_written : (s : Shape) (old new : List ℕ) (n : ℕ) → n ≤ length new → shape_end s ≤ n → n ≤ 4608 → old ≡ replicate 4608 0 → take s.offset new ≡ take s.offset old
-    → (IsBlankFrom (shape_end s) old → IsBlankFrom (shape_end s) new) → HasZerosBeside s (take n new)
+pub alone_written : (s : Shape) (old new : List ℕ) (n : ℕ) → n ≤ length new → shape_end s ≤ n → n ≤ 4608 → old ≡ replicate 4608 0 →
+    take s.offset new ≡ take s.offset old → (IsBlankFrom (shape_end s) old → IsBlankFrom (shape_end s) new) → HasZerosBeside s (take n new)
 unfolding zeros
 alone_written s old new n le inside most blank before behind = record {
-  before = take-take s.offset n new (omega (arith, inside)) ∙ before ∙ ap (take s.offset) blank ∙ take-replicate s.offset 4608 0 (omega (arith, inside, most));
+  before = take-take s.offset n new (omega (arith, inside)) ∙ before ∙ ap (take s.offset) blank
+      ∙ take-replicate s.offset 4608 0 (omega (arith, inside, most));
   behind = front_blank (shape_end s) n new le (behind (ap (drop (shape_end s)) blank ∙ drop-replicate (shape_end s) 4608 0 ∙
       ap (λ (m : ℕ). replicate (m - shape_end s) 0) (sym (ap length blank ∙ length-replicate {A = ℕ} 4608 0))));
 }
 
-pub header_there : (image : Image) (at : ℕ) (s : Shape) {block : List ℕ} {header : ObjectHeader} → shape_end s ≤ length block → 800 ≤ s.bytes
-    → sectors_from image at s.sectors ≡ block → header ≡ header_from (between s.offset (length block) block) → IsHeaderAt image at s header
+pub header_there : (image : Image) (at : ℕ) (s : Shape) {block : List ℕ} {header : ObjectHeader} → shape_end s ≤ length block →
+    800 ≤ s.bytes → sectors_from image at s.sectors ≡ block → header ≡ header_from (between s.offset (length block) block) →
+    IsHeaderAt image at s header
 header_there image at s {block} {header} le least read is g number =
     let front : List ℕ = take (shape_end s - s.offset) (drop s.offset block) in
     let long : 32 ≤ length front = omega (arith, length-piece s.offset s.bytes block le, least) in
     is ∙ ap header_from (take_rest block s.offset ∙ sym (take-append-drop (shape_end s - s.offset) (drop s.offset block)))
-    ∙ header_before front (drop (shape_end s - s.offset) (drop s.offset block)) long ∙ sym (header_before front (zeros (1024 - s.bytes)) long)
+    ∙ header_before front (drop (shape_end s - s.offset) (drop s.offset block)) long
+    ∙ sym (header_before front (zeros (1024 - s.bytes)) long)
     ∙ sym (header_is g number (shape_bytes s block)) ∙ ap (λ (b : List ℕ). (frame_from g number (shape_bytes s b)).header) (sym read)
 
 -- what was written is there
-pub frame_there : {T E : Type 0} (result : Result T E) (image : Image) (at n : ℕ) (s : Shape) (block : List ℕ) {bytes : List ℕ} → shape_end s ≤ n →
-    OnOk result (sectors_from image at s.sectors ≡ take n block) → shape_bytes s block ≡ bytes → OnOk result (shaped_at image at s ≡ bytes)
+pub frame_there : {T E : Type 0} (result : Result T E) (image : Image) (at n : ℕ) (s : Shape) (block : List ℕ) {bytes : List ℕ} →
+    shape_end s ≤ n → OnOk result (sectors_from image at s.sectors ≡ take n block) → shape_bytes s block ≡ bytes →
+    OnOk result (shaped_at image at s ≡ bytes)
 frame_there {T} {E} result image at n s block {bytes} le written is = grind (arith, nat_tests, front_shape s n block le)
 
 pub zeros_there : {T E : Type 0} (result : Result T E) (image : Image) (at n : ℕ) (s : Shape) (block : List ℕ) →
-    OnOk result (sectors_from image at s.sectors ≡ take n block) → HasZerosBeside s (take n block) → OnOk result (HasZerosBeside s (sectors_from image at s.sectors))
+    OnOk result (sectors_from image at s.sectors ≡ take n block) → HasZerosBeside s (take n block) →
+    OnOk result (HasZerosBeside s (sectors_from image at s.sectors))
 zeros_there {T} {E} result image at n s block written zeros = grind (arith, nat_tests)
 
 -- the block of a page
-pub block_page : (g : Geometry) (n : ℕ) (s : Shape) (block : List ℕ) → IsShapeFor g n s → g.nodes ≤ n → length block ≡ 512 * s.sectors → shape_bytes s block ≡ block
+pub block_page : (g : Geometry) (n : ℕ) (s : Shape) (block : List ℕ) → IsShapeFor g n s → g.nodes ≤ n → length block ≡ 512 * s.sectors →
+    shape_bytes s block ≡ block
 block_page g n s block fits le size =
     ap (λ (t : Shape). shape_bytes t block) (fits.page le) ∙ page_whole block (size ∙ ap (λ (t : Shape). 512 * t.sectors) (fits.page le))
 
-module _ (g : Geometry) (n age : ℕ) (s : Shape) (block : List ℕ) (fits : IsShapeFor g n s) (le : g.nodes ≤ n) (size : length block ≡ 512 * s.sectors) where
+module _ (g : Geometry) (n age : ℕ) (s : Shape) (block : List ℕ) (fits : IsShapeFor g n s) (le : g.nodes ≤ n)
+    (size : length block ≡ 512 * s.sectors) where
   pub page_found : {R E : Type 0} (result : Result R E) (frame : R → Frame) → IfOk result (λ read. IsFrameOf g age n block (frame read)) →
       IfOk result (λ read. IsFrameOf g age n (shape_bytes s block) (frame read))
   page_found {R} {E} result frame found =
       subst (λ (b : List ℕ). IfOk result (λ read. IsFrameOf g age n b (frame read))) (sym (block_page g n s block fits le size)) found
 
-  pub page_refused : {R : Type 0} (result : Result R BadImage) → IfErr result (λ e. (e ≡ BadFrame) × ((f : Frame) → IsFrameOf g age n block f → ⊥)) →
+  pub page_refused : {R : Type 0} (result : Result R BadImage) → IfErr result
+      (λ e. (e ≡ BadFrame) × ((f : Frame) → IsFrameOf g age n block f → ⊥)) →
       IfErr result (λ e. (e ≡ BadFrame) × ((f : Frame) → IsFrameOf g age n (shape_bytes s block) f → ⊥))
   page_refused {R} result refused =
-      subst (λ (b : List ℕ). IfErr result (λ e. (e ≡ BadFrame) × ((f : Frame) → IsFrameOf g age n b f → ⊥))) (sym (block_page g n s block fits le size)) refused
+      subst (λ (b : List ℕ). IfErr result (λ e. (e ≡ BadFrame) × ((f : Frame) → IsFrameOf g age n b f → ⊥)))
+      (sym (block_page g n s block fits le size)) refused

@@ -23,13 +23,14 @@ unfolding head_bytes
 head_is k fits = fields_number (tag_of k) (access_bits k) (key_of k) (height_of k) (tag_fits k) fits.access fits.key fits.height
 
 -- a capability as three numbers
-pub as_numbers : (c : Cap) → HeadFits c.what → capability_bytes c ≡ number (head_number c.what) ++ (number (number_of c.what) ++ number c.count)
+pub as_numbers : (c : Cap) → HeadFits c.what → capability_bytes c ≡ number (head_number c.what) ++
+    (number (number_of c.what) ++ number c.count)
 unfolding capability_bytes
 as_numbers c fits = grind (arith, nat_tests, head_is, append_assoc)
 
 -- three numbers are read
-pub three_read : (bytes : List ℕ) (a b c : ℕ) → length bytes ≡ 24 → bytes ≡ number a ++ drop 8 bytes → drop 8 bytes ≡ number b ++ drop 16 bytes →
-    drop 16 bytes ≡ number c ++ drop 24 bytes
+pub three_read : (bytes : List ℕ) (a b c : ℕ) → length bytes ≡ 24 → bytes ≡ number a ++ drop 8 bytes →
+    drop 8 bytes ≡ number b ++ drop 16 bytes → drop 16 bytes ≡ number c ++ drop 24 bytes
     → bytes ≡ number a ++ (number b ++ number c)
 three_read bytes a b c len ea eb ec = grind (arith, nat_tests, drop_all 24 bytes (omega arith), append-nil (number c))
 
@@ -46,13 +47,14 @@ pub follows_fits : (g : Geometry) (age count : ℕ) (k : Capability) → Follows
 follows_fits g age count k f = grind (arith, nat_tests, access_fits)
 
 -- a capability is made again of its fields
-assembled_again : (k : Capability) (tag bits key height n : ℕ) → tag ≡ tag_of k → bits ≡ access_bits k → key ≡ key_of k → height ≡ height_of k → n ≡ number_of k
-    → assembled tag (record { 0 = bits }) key height n ≡ k
+assembled_again : (k : Capability) (tag bits key height n : ℕ) → tag ≡ tag_of k → bits ≡ access_bits k → key ≡ key_of k →
+    height ≡ height_of k → n ≡ number_of k → assembled tag (record { 0 = bits }) key height n ≡ k
 assembled_again k tag bits key height n et eb ek eh en = grind (arith, nat_tests)
 
 -- the fields of a head
 head_parts : (t a k h : ℕ) → t < 256 → a < 256 → k < 65536 → h < 256 →
-    let n = t + 256 * a + 65536 * k + 4294967296 * h in (n % 256 ≡ t) × (n / 256 % 256 ≡ a) × (n / 65536 % 65536 ≡ k) × (n / 4294967296 % 256 ≡ h)
+    let n = t + 256 * a + 65536 * k + 4294967296 * h in (n % 256 ≡ t) × (n / 256 % 256 ≡ a) × (n / 65536 % 65536 ≡ k)
+    × (n / 4294967296 % 256 ≡ h)
 head_parts t a k h ft fa fk fh = (omega arith, omega arith, omega arith, omega arith)
 
 pub made_again : (k : Capability) (head bits n : ℕ) → HeadFits k → head ≡ head_number k → n ≡ number_of k → bits ≡ head / 256 % 256
@@ -87,8 +89,8 @@ pub three_written : (new mid first old : List ℕ) (a b c : ℕ) → length new 
 three_written new mid first old a b c len ec eb ea = cc (take_all 24 new (omega arith), append_assoc (number a) (number b) (number c))
 
 -- the numbers that were read of bytes that no capability spells
-pub none_spelt : (g : Geometry) (age : ℕ) (bytes : List ℕ) (head object count bits : ℕ) (what : Capability) → head < 2 ^ 64 → object < 2 ^ 64 → count < 2 ^ 64
-    → bytes ≡ number head ++ (number object ++ number count)
+pub none_spelt : (g : Geometry) (age : ℕ) (bytes : List ℕ) (head object count bits : ℕ) (what : Capability) → head < 2 ^ 64 →
+    object < 2 ^ 64 → count < 2 ^ 64 → bytes ≡ number head ++ (number object ++ number count)
     → bits ≡ head / 256 % 256 → what ≡ assembled (head % 256) (record { 0 = bits }) (head / 65536 % 65536) (head / 4294967296 % 256) object
     → (head_number what ≡ head → number_of what ≡ object → IsKeptCap g age (record { what = what; count = count }) → ⊥)
     → (c : Cap) → IsKeptCap g age c → bytes ≡ capability_bytes c → ⊥
@@ -101,5 +103,6 @@ none_spelt g age bytes head object count bits what fh fo fc is eb made hold c fi
     (subst (λ (m : ℕ). IsKeptCap g age (record { what = c.what; count = m })) (sym n.count_is) fits))
 
 -- given bytes spell at most one capability
-pub one_capability : (g : Geometry) (age : ℕ) (b c : Cap) → IsKeptCap g age b → IsKeptCap g age c → capability_bytes b ≡ capability_bytes c → b ≡ c
+pub one_capability : (g : Geometry) (age : ℕ) (b c : Cap) → IsKeptCap g age b → IsKeptCap g age c →
+    capability_bytes b ≡ capability_bytes c → b ≡ c
 one_capability g age b c fb fc e = grind (arith, nat_tests, follows_fits, spelt_numbers, head_below, as_numbers, made_again, same_cap)

@@ -14,9 +14,11 @@ unfolding number
 marked p is =
     let few = few_versions p.version in
     let e = plan_stream p is.few in
-    mark_from (superblock_bytes p) magic (second_of p) p.version (rw e refl) (rw e refl) (omega (arith, is.few, few)) refl (omega (arith, few))
+    mark_from (superblock_bytes p) magic (second_of p) p.version (rw e refl) (rw e refl) (omega (arith, is.few, few)) refl
+    (omega (arith, few))
     (sym (drop-drop 192 64 (superblock_bytes p)) ∙ ap (λ (b : List ℕ). drop 192 (drop 64 b)) e ∙
-    drop_at (ranges_bytes (eight_ranges p.ranges)) (zeros 256) 192 (length-ranges (eight_ranges p.ranges) ∙ omega (arith, eight_long p.ranges is.few)))
+    drop_at (ranges_bytes (eight_ranges p.ranges)) (zeros 256) 192 (length-ranges (eight_ranges p.ranges)
+    ∙ omega (arith, eight_long p.ranges is.few)))
 
 module _ (c : Image) (size : ℕ) (s : SavedState) (denoted : Encodes c size s) where
   big_enough : IsTooSmall c size → ⊥
@@ -35,8 +37,10 @@ module _ (c : Image) (size : ℕ) (s : SavedState) (denoted : Encodes c size s) 
       let same : s.plan ≡ why.0 = same_plan c size s.plan why.0 denoted.plan why.2 in
       let header : HasHeader c why.0 s.header = subst (λ (p : Plan). HasHeader c p s.header) same denoted.header in
       let same_h : s.header ≡ why.1 = same_header c why.0 s.header why.1 header why.3 in
-      let there : HasDirectory c why.0 s.header s.directory = subst (λ (p : Plan). HasDirectory c p s.header s.directory) same denoted.directory in
-      let directory : HasDirectory c why.0 why.1 s.directory = subst (λ (h : CheckpointHeader). HasDirectory c why.0 h s.directory) same_h there in
+      let there : HasDirectory c why.0 s.header s.directory = subst (λ (p : Plan). HasDirectory c p s.header s.directory) same
+      denoted.directory in
+      let directory : HasDirectory c why.0 why.1 s.directory = subst (λ (h : CheckpointHeader). HasDirectory c why.0 h s.directory) same_h
+      there in
       why.4 s.directory directory.fits directory.count directory.spelt
   frames_not_bad bad.BadFrame why =
       let same : s.plan ≡ why.0 = same_plan c size s.plan why.0 denoted.plan why.3 in
@@ -44,7 +48,8 @@ module _ (c : Image) (size : ℕ) (s : SavedState) (denoted : Encodes c size s) 
       let same_h : s.header ≡ why.1 = same_header c why.0 s.header why.1 d1.header why.4 in
       let d2 : Encodes c size (state why.0 why.1 s.directory s.frames) = grind (arith, nat_tests) in
       let same_d : s.directory ≡ why.2 = same_directory c why.0 why.1 s.directory why.2 d2.directory why.5 in
-      let d3 : Encodes c size (state why.0 why.1 why.2 s.frames) = subst (λ (es : List Entry). Encodes c size (state why.0 why.1 es s.frames)) same_d d2 in
+      let d3 : Encodes c size (state why.0 why.1 why.2 s.frames) = subst (λ (es : List Entry). Encodes c size
+      (state why.0 why.1 es s.frames)) same_d d2 in
       let n = why.6 in
       n.2 (frame_at s.frames n.0) (d3.each n.0 n.1)
   frames_not_bad _ why = absurd why

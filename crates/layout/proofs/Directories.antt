@@ -63,15 +63,17 @@ entry_read bytes into i o s lt before fo fs is_object is_slot =
     let next : 16 * (i + 1) ≡ 16 * i + 16 = omega arith in
     let both : drop (16 * i) bytes ≡ (number o ++ number s) ++ drop (16 * i + 8 + 8) bytes = grind (arith, nat_tests, append_assoc) in
     let piece : take 16 (drop (16 * i) bytes) ≡ number o ++ number s = ap (take 16) both ∙
-    take_at (number o ++ number s) (drop (16 * i + 8 + 8) bytes) 16 (length-append (number o) (number s) ∙ omega (arith, length-number o, length-number s))
+    take_at (number o ++ number s) (drop (16 * i + 8 + 8) bytes) 16 (length-append (number o) (number s)
+    ∙ omega (arith, length-number o, length-number s))
     in
     record {
       bytes_are = grind (arith, nat_tests, take-add, append_assoc, push_entry);
       each = search (All-same, All-push);
     }
 
-pub entry_written : (es : List Entry) (i : ℕ) (e : Entry) (old mid new : List ℕ) → i < length es → take (16 * i) old ≡ directory_bytes (take i es)
-    → take (16 * i + 8) mid ≡ take (16 * i) old ++ number e.object → take (16 * i + 8 + 8) new ≡ take (16 * i + 8) mid ++ number e.slot → e ≡ get_or es i e
+pub entry_written : (es : List Entry) (i : ℕ) (e : Entry) (old mid new : List ℕ) → i < length es →
+    take (16 * i) old ≡ directory_bytes (take i es) → take (16 * i + 8) mid ≡ take (16 * i) old ++ number e.object →
+    take (16 * i + 8 + 8) new ≡ take (16 * i + 8) mid ++ number e.slot → e ≡ get_or es i e
     → take (16 * (i + 1)) new ≡ directory_bytes (take (i + 1) es)
 entry_written es i e old mid new lt before first second is = grind (arith, nat_tests, push_entry (take i es) e, take_more es i e lt)
 

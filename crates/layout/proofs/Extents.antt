@@ -9,8 +9,8 @@ use Rattle.std.proofs.lemmas.List.{append_assoc}
 abbrev pub ApartBelow : List Extent → ℕ → Type 0
 ApartBelow es n = (i j : ℕ) → i < n → i < j → j < length es → IsApart (extent_at es i) (extent_at es j)
 
-pub apart_more : (es : List Extent) (n : ℕ) (e : Extent) → e ≡ extent_at es n → ApartBelow es n → All (IsApart e) (between (n + 1) (length es) es) →
-    ApartBelow es (n + 1)
+pub apart_more : (es : List Extent) (n : ℕ) (e : Extent) → e ≡ extent_at es n → ApartBelow es n →
+    All (IsApart e) (between (n + 1) (length es) es) → ApartBelow es (n + 1)
 apart_more es n e is below here i j lt lt' within = elim (cases_lt i n) [
   | inl less ↦ below i j less lt' within
   | inr le ↦
@@ -18,12 +18,14 @@ apart_more es n e is below here i j lt lt' within = elim (cases_lt i n) [
       let rest : All (IsApart e) (drop (n + 1) es) = subst (All (IsApart e)) (take_rest es (n + 1)) here in
       let one = rest (j - (n + 1)) (record { sector = 0; length = 0 }) (omega (arith, length-drop (n + 1) es)) in
       let place : n + 1 + (j - (n + 1)) ≡ j = omega arith in
-      let other : get_or (drop (n + 1) es) (j - (n + 1)) (record { sector = 0; length = 0 }) ≡ extent_at es j = grind (arith, nat_tests, get_or-drop) in
+      let other : get_or (drop (n + 1) es) (j - (n + 1)) (record { sector = 0; length = 0 }) ≡ extent_at es j =
+      grind (arith, nat_tests, get_or-drop) in
       subst (λ (m : ℕ). IsApart (extent_at es m) (extent_at es j)) (sym at)
       (subst (λ (x : Extent). IsApart x (extent_at es j)) is (subst (λ (x : Extent). IsApart e x) other one))
 ]
 
-pub not_apart : (es : List Extent) (n : ℕ) (e : Extent) → e ≡ extent_at es n → (All (IsApart e) (between (n + 1) (length es) es) → ⊥) → AreApart es → ⊥
+pub not_apart : (es : List Extent) (n : ℕ) (e : Extent) → e ≡ extent_at es n → (All (IsApart e) (between (n + 1) (length es) es) → ⊥) →
+    AreApart es → ⊥
 not_apart es n e is hold apart = hold (subst (All (IsApart e)) (sym (take_rest es (n + 1))) (λ k d lt.
     let place : n < n + 1 + k = omega arith in
     let pair = apart n (n + 1 + k) place (omega (arith, length-drop (n + 1) es)) in
@@ -32,11 +34,13 @@ not_apart es n e is hold apart = hold (subst (All (IsApart e)) (sym (take_rest e
 
 -- ---- extents in a list
 
-pub two_set : (into xs : List Extent) (n : ℕ) (a b : Extent) → length into ≡ n + 2 → take n into ≡ xs → set (set into n a) (n + 1) b ≡ xs ++ a ∷ b ∷ []
+pub two_set : (into xs : List Extent) (n : ℕ) (a b : Extent) → length into ≡ n + 2 → take n into ≡ xs →
+    set (set into n a) (n + 1) b ≡ xs ++ a ∷ b ∷ []
 two_set into xs n a b len front =
     let one : take (n + 1) (set into n a) ≡ take n into ++ a ∷ [] = take_more_set into n a (omega arith) in
     let size : length (set into n a) ≡ n + 2 = length-set into n a ∙ len in
-    let two : take (n + 1 + 1) (set (set into n a) (n + 1) b) ≡ take (n + 1) (set into n a) ++ b ∷ [] = take_more_set (set into n a) (n + 1) b (omega arith) in
+    let two : take (n + 1 + 1) (set (set into n a) (n + 1) b) ≡ take (n + 1) (set into n a) ++ b ∷ [] =
+    take_more_set (set into n a) (n + 1) b (omega arith) in
     sym (take_all (n + 1 + 1) (set (set into n a) (n + 1) b) (omega (arith, length-set (set into n a) (n + 1) b)))
     ∙ two ∙ ap (λ (r : List Extent). r ++ b ∷ []) (one ∙ ap (λ (r : List Extent). r ++ a ∷ []) front) ∙ append_assoc xs (a ∷ []) (b ∷ [])
 

@@ -18,8 +18,8 @@ use Rattle.layout.proofs.SlotLists.{slots_bytes-cons, length-capability}
 pub reported : (n : ℕ) (rest bytes : List ℕ) → n < 2 ^ 64 → bytes ≡ number n ++ rest → number_from bytes ≡ n
 reported n rest bytes fits e = sym (number_reported bytes rest n fits e)
 
-cap_is : (head object count : ℕ) (c : Cap) (g : Geometry) (age : ℕ) → IsKeptCap g age c → head ≡ head_number c.what → object ≡ number_of c.what →
-    count ≡ c.count → cap_with head object count ≡ c
+cap_is : (head object count : ℕ) (c : Cap) (g : Geometry) (age : ℕ) → IsKeptCap g age c → head ≡ head_number c.what →
+    object ≡ number_of c.what → count ≡ c.count → cap_with head object count ≡ c
 cap_is head object count c g age kept eh eo ec = grind (arith, nat_tests, follows_fits, same_cap, made_again)
 
 pub cap_again : (g : Geometry) (age : ℕ) (c : Cap) (rest : List ℕ) → IsKeptCap g age c → cap_from (capability_bytes c ++ rest) ≡ c
@@ -36,11 +36,13 @@ cap_again g age c rest kept =
     (reported (number_of c.what) (n ++ rest) (drop 8 bytes) all.object (ap (drop 8) whole))
     (reported c.count rest (drop 16 bytes) all.count (ap (drop 16) whole))
 
-slots_again : (g : Geometry) (age : ℕ) (cs : List Cap) (rest : List ℕ) → All (IsKeptCap g age) cs → slots_from (length cs) (slots_bytes cs ++ rest) ≡ cs
+slots_again : (g : Geometry) (age : ℕ) (cs : List Cap) (rest : List ℕ) → All (IsKeptCap g age) cs →
+    slots_from (length cs) (slots_bytes cs ++ rest) ≡ cs
 unfolding slots_from
 slots_again g age [] rest all = refl
 slots_again g age (c ∷ cs) rest all =
-    let whole : slots_bytes (c ∷ cs) ++ rest ≡ capability_bytes c ++ (slots_bytes cs ++ rest) = ap (λ (b : List ℕ). b ++ rest) (slots_bytes-cons c cs) ∙
+    let whole : slots_bytes (c ∷ cs) ++ rest ≡ capability_bytes c ++ (slots_bytes cs ++ rest) =
+    ap (λ (b : List ℕ). b ++ rest) (slots_bytes-cons c cs) ∙
     append_assoc (capability_bytes c) (slots_bytes cs) rest in
     let behind : drop 24 (slots_bytes (c ∷ cs) ++ rest) ≡ slots_bytes cs ++ rest = ap (drop 24) whole ∙
     drop_at (capability_bytes c) (slots_bytes cs ++ rest) 24 (length-capability c) in
@@ -52,7 +54,8 @@ words_again : (ws : List ℕ) (rest : List ℕ) → AllFit ws → words_from (le
 unfolding words_from number
 words_again [] rest fits = refl
 words_again (w ∷ ws) rest fits =
-    ap (λ (x : ℕ). x ∷ words_from (length ws) (drop 8 (stream (w ∷ ws) rest))) (reported w (stream ws rest) (stream (w ∷ ws) rest) fits.0 refl)
+    ap (λ (x : ℕ). x ∷ words_from (length ws) (drop 8 (stream (w ∷ ws) rest)))
+    (reported w (stream ws rest) (stream (w ∷ ws) rest) fits.0 refl)
     ∙ ap (λ (xs : List ℕ). w ∷ xs) (words_again ws rest fits.1)
 
 abbrev header_of : Role → ℕ → ℕ → ℕ → ObjectHeader
@@ -74,7 +77,8 @@ front_tells first h bytes rest fits is e =
     let role : number_from bytes ≡ first = reported first (stream (h.allocations ∷ h.calls ∷ h.owner ∷ []) rest) bytes fits.0 whole in
     record {
       first_is = role;
-      header_is = same_header (role_in (number_from bytes)) h.role (number_from (drop 8 bytes)) h.allocations (number_from (drop 16 bytes)) h.calls
+      header_is = same_header (role_in (number_from bytes)) h.role (number_from (drop 8 bytes)) h.allocations (number_from (drop 16 bytes))
+          h.calls
           (number_from (drop 24 bytes)) h.owner
           (ap role_in role ∙ is) (reported h.allocations (stream (h.calls ∷ h.owner ∷ []) rest) (drop 8 bytes) fits.1.0 (ap (drop 8) whole))
           (reported h.calls (stream (h.owner ∷ []) rest) (drop 16 bytes) fits.1.1.0 (ap (drop 16) whole))
@@ -85,9 +89,11 @@ record FrontIs (f : Frame) (bytes : List ℕ) : Type 0 where
   pub role : number_from bytes ≡ role_number (role_of f.content)
   pub header : header_from bytes ≡ f.header
 
-front_again : (age : ℕ) (f : Frame) (bytes rest : List ℕ) → IsFront age f → bytes ≡ front_numbers (role_number f.header.role) f.header ++ rest → FrontIs f bytes
+front_again : (age : ℕ) (f : Frame) (bytes rest : List ℕ) → IsFront age f →
+    bytes ≡ front_numbers (role_number f.header.role) f.header ++ rest → FrontIs f bytes
 front_again age f bytes rest is e =
-    let tells = front_tells (role_number f.header.role) f.header bytes rest (role_fits f.header.role, (is.allocations.1, (is.calls.1, (is.owner, tt))))
+    let tells = front_tells (role_number f.header.role) f.header bytes rest
+    (role_fits f.header.role, (is.allocations.1, (is.calls.1, (is.owner, tt))))
     (role_again f.header.role) e in
     record { role = tells.first_is ∙ ap role_number is.role; header = tells.header_is }
 
@@ -108,7 +114,8 @@ node_again g age f bytes is e =
     let read : slots_from 32 (drop 32 bytes) ≡ slots = grind (arith, nat_tests, slots_again g age slots (zeros 224) is.slots.each) in
     let content : content_of (body_in (number_from bytes) (slots_from 32 (drop 32 bytes))) (slots_from 32 (drop 32 bytes)) [] ≡ f.content =
     grind (arith, nat_tests, content_again) in
-    same_frame (header_from bytes) f.header (content_of (body_in (number_from bytes) (slots_from 32 (drop 32 bytes))) (slots_from 32 (drop 32 bytes)) [])
+    same_frame (header_from bytes) f.header (content_of (body_in (number_from bytes) (slots_from 32 (drop 32 bytes)))
+    (slots_from 32 (drop 32 bytes)) [])
     f.content front.header content
 
 page_again : (age : ℕ) (f : Frame) (bytes : List ℕ) → IsPageFrame age f → bytes ≡ page_frame_bytes f → page_from bytes ≡ f
@@ -120,11 +127,14 @@ page_again age f bytes is e =
     let read : words_from 512 (drop 512 bytes) ≡ words =
     ap (words_from 512) (parts.last ∙ page.words_stream words) ∙ subst (λ (n : ℕ). words_from n (stream words []) ≡ words) held.count_is
     (words_again words [] (page.all_fit words held.each)) in
-    let content : content_of (page_body_in (number_from bytes)) [] (words_from 512 (drop 512 bytes)) ≡ f.content = grind (arith, nat_tests) in
-    same_frame (header_from bytes) f.header (content_of (page_body_in (number_from bytes)) [] (words_from 512 (drop 512 bytes))) f.content front.header content
+    let content : content_of (page_body_in (number_from bytes)) [] (words_from 512 (drop 512 bytes)) ≡ f.content =
+    grind (arith, nat_tests) in
+    same_frame (header_from bytes) f.header (content_of (page_body_in (number_from bytes)) [] (words_from 512 (drop 512 bytes))) f.content
+    front.header content
 
 -- bytes that spell a frame are read as that frame
-pub frame_again : (g : Geometry) (age object : ℕ) (bytes : List ℕ) (f : Frame) → IsFrameOf g age object bytes f → frame_from g object bytes ≡ f
+pub frame_again : (g : Geometry) (age object : ℕ) (bytes : List ℕ) (f : Frame) → IsFrameOf g age object bytes f →
+    frame_from g object bytes ≡ f
 unfolding frame_from
 frame_again g age object bytes f is = elim (cases_lt object g.nodes) [
   | inl lt ↦
@@ -139,7 +149,8 @@ frame_again g age object bytes f is = elim (cases_lt object g.nodes) [
 
 number_front : (xs ys : List ℕ) → take 8 xs ≡ take 8 ys → number_from xs ≡ number_from ys
 unfolding number_from
-number_front xs ys same = sym (little_from-take 0 8 8 xs (omega arith)) ∙ ap (λ (b : List ℕ). little_number 8 b) same ∙ little_from-take 0 8 8 ys (omega arith)
+number_front xs ys same = sym (little_from-take 0 8 8 xs (omega arith)) ∙ ap (λ (b : List ℕ). little_number 8 b) same
+    ∙ little_from-take 0 8 8 ys (omega arith)
 
 -- what follows isn't read
 number_before : (xs ys : List ℕ) (k : ℕ) → k + 8 ≤ length xs → number_from (drop k (xs ++ ys)) ≡ number_from (drop k xs)
@@ -150,9 +161,12 @@ number_before xs ys k room =
 pub header_before : (xs ys : List ℕ) → 32 ≤ length xs → header_from (xs ++ ys) ≡ header_from xs
 unfolding header_from
 header_before xs ys room =
-    cc (same_header (role_in (number_from (xs ++ ys))) (role_in (number_from xs)) (number_from (drop 8 (xs ++ ys))) (number_from (drop 8 xs)) (number_from (drop
-    16 (xs ++ ys))) (number_from (drop 16 xs)) (number_from (drop 24 (xs ++ ys))) (number_from (drop 24 xs)) (ap role_in (number_front (xs ++ ys) xs
-    (take-append-le 8 xs ys (omega (arith, room))))) (number_before xs ys 8 (omega (arith, room))) (number_before xs ys 16 (omega (arith, room))) (number_before
+    cc (same_header (role_in (number_from (xs ++ ys))) (role_in (number_from xs)) (number_from (drop 8 (xs ++ ys)))
+    (number_from (drop 8 xs)) (number_from (drop
+    16 (xs ++ ys))) (number_from (drop 16 xs)) (number_from (drop 24 (xs ++ ys))) (number_from (drop 24 xs))
+    (ap role_in (number_front (xs ++ ys) xs
+    (take-append-le 8 xs ys (omega (arith, room))))) (number_before xs ys 8 (omega (arith, room)))
+    (number_before xs ys 16 (omega (arith, room))) (number_before
     xs ys 24 (omega (arith, room))))
 
 abbrev header_held : Frame → ObjectHeader

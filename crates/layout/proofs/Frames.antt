@@ -15,15 +15,18 @@ four : (a b c d z : List ℕ) → (a ++ b ++ c ++ d) ++ z ≡ a ++ (b ++ (c ++ (
 four a b c d z = simp append_assoc
 
 -- the front of a frame as numbers
-pub front_stream : (role : ℕ) (h : ObjectHeader) (rest : List ℕ) → front_numbers role h ++ rest ≡ stream (role ∷ h.allocations ∷ h.calls ∷ h.owner ∷ []) rest
+pub front_stream : (role : ℕ) (h : ObjectHeader) (rest : List ℕ) → front_numbers role h ++ rest
+    ≡ stream (role ∷ h.allocations ∷ h.calls ∷ h.owner ∷ []) rest
 unfolding front_numbers
 front_stream role h rest = four (number role) (number h.allocations) (number h.calls) (number h.owner) rest
 
-pub four_read : (bytes : List ℕ) (role : ℕ) (h : ObjectHeader) → bytes ≡ number role ++ drop 8 bytes → drop 8 bytes ≡ number h.allocations ++ drop 16 bytes
-    → drop 16 bytes ≡ number h.calls ++ drop 24 bytes → drop 24 bytes ≡ number h.owner ++ drop 32 bytes → bytes ≡ front_numbers role h ++ drop 32 bytes
+pub four_read : (bytes : List ℕ) (role : ℕ) (h : ObjectHeader) → bytes ≡ number role ++ drop 8 bytes →
+    drop 8 bytes ≡ number h.allocations ++ drop 16 bytes → drop 16 bytes ≡ number h.calls ++ drop 24 bytes →
+    drop 24 bytes ≡ number h.owner ++ drop 32 bytes → bytes ≡ front_numbers role h ++ drop 32 bytes
 four_read bytes role h er ea ec eo = grind (arith, nat_tests, front_stream)
 
-pub front_is : (role : ℕ) (h : ObjectHeader) → ([] ++ number role) ++ number h.allocations ++ number h.calls ++ number h.owner ≡ front_numbers role h
+pub front_is : (role : ℕ) (h : ObjectHeader) → ([] ++ number role) ++ number h.allocations ++ number h.calls ++ number h.owner
+    ≡ front_numbers role h
 unfolding front_numbers
 front_is role h = refl
 
@@ -84,14 +87,16 @@ node_written f fronted new caps k before slots all is =
 -- slots that were put into a frame
 pub slots_put : (old mid new : List ℕ) (caps : List Cap) (k : ℕ) → length caps ≤ 32 → length old ≡ 1024 → k ≡ 24 * length caps →
     mid ≡ put_mid 32 k old (slots_bytes caps)
-    → new ≡ take (32 + 24 * length caps) mid ++ zeros (1024 - (32 + 24 * length caps)) → new ≡ take 32 old ++ slots_bytes caps ++ zeros (992 - 24 * length caps)
+    → new ≡ take (32 + 24 * length caps) mid ++ zeros (1024 - (32 + 24 * length caps)) →
+    new ≡ take 32 old ++ slots_bytes caps ++ zeros (992 - 24 * length caps)
 slots_put old mid new caps k few len size is put =
     let n : ℕ = length caps in
     let front : length (take 32 old ++ slots_bytes caps) ≡ 32 + 24 * n = length-append (take 32 old) (slots_bytes caps) ∙
     omega (arith, length-take-le 32 old (omega arith), length-slots caps) in
     let less : 1024 - (32 + 24 * n) ≡ 992 - 24 * n = omega arith in
     put ∙ ap (λ (r : List ℕ). take (32 + 24 * n) r ++ zeros (1024 - (32 + 24 * n))) (is ∙ mid_put 32 k old (slots_bytes caps))
-    ∙ ap (λ (r : List ℕ). r ++ zeros (1024 - (32 + 24 * n))) (take_at (take 32 old ++ slots_bytes caps) (drop (32 + k) old) (32 + 24 * n) front)
+    ∙ ap (λ (r : List ℕ). r ++ zeros (1024 - (32 + 24 * n))) (take_at (take 32 old ++ slots_bytes caps) (drop (32 + k) old) (32 + 24 * n)
+    front)
     ∙ ap (λ (m : ℕ). take 32 old ++ slots_bytes caps ++ zeros m) less
 
 -- ---- its role and its slots decide a content
@@ -138,7 +143,8 @@ node_parts g age f bytes fits e =
     let slots : List ℕ = slots_bytes (slots_of f.content) in
     let size : length slots ≡ 768 = length-slots (slots_of f.content) ∙ ap (λ (n : ℕ). 24 * n) fits.slots.count in
     let whole : bytes ≡ front ++ (slots ++ zeros 224) = grind (arith, nat_tests, front_bytes_are, append_assoc) in
-    let behind : drop 32 bytes ≡ slots ++ zeros 224 = ap (drop 32) whole ∙ drop_at front (slots ++ zeros 224) 32 (length-front _ f.header) in
+    let behind : drop 32 bytes ≡ slots ++ zeros 224 = ap (drop 32) whole ∙ drop_at front (slots ++ zeros 224) 32 (length-front _ f.header)
+    in
     record {
       whole = whole;
       middle = ap (take 768) behind ∙ take_at slots (zeros 224) 768 size;
@@ -164,31 +170,34 @@ same_front r r' n a c o n' a' c' o' e is is' = grind (arith, nat_tests)
 pub role_fits : (r : Role) → role_number r < 2 ^ 64
 role_fits r = grind (arith, nat_tests)
 
-pub front_reported : (age role : ℕ) (h : ObjectHeader) (f : Frame) (x y : List ℕ) → AllFit (front_list role h) → h.role ≡ role_in role → IsFront age f
-    → front_numbers role h ++ x ≡ front_numbers (role_number f.header.role) f.header ++ y → (role ≡ role_number (role_of f.content)) × (h ≡ f.header)
+pub front_reported : (age role : ℕ) (h : ObjectHeader) (f : Frame) (x y : List ℕ) → AllFit (front_list role h) → h.role ≡ role_in role →
+    IsFront age f → front_numbers role h ++ x ≡ front_numbers (role_number f.header.role) f.header ++ y →
+    (role ≡ role_number (role_of f.content)) × (h ≡ f.header)
 front_reported age role h f x y fits is front e =
     let n : ℕ = role_number f.header.role in
     let s = stream_splits (front_list role h) (front_list n f.header) x y fits
     (role_fits f.header.role, (front.allocations.1, (front.calls.1, (front.owner, tt)))) refl
     (sym (front_stream role h x) ∙ e ∙ front_stream n f.header y) in
-    let same = same_front h.role f.header.role role h.allocations h.calls h.owner n f.header.allocations f.header.calls f.header.owner s.0 is
+    let same = same_front h.role f.header.role role h.allocations h.calls h.owner n f.header.allocations f.header.calls f.header.owner s.0
+    is
     (role_again f.header.role) in
     (same.0 ∙ ap role_number front.role, same.1)
 
-pub node_reported : (g : Geometry) (age role : ℕ) (h : ObjectHeader) (slots : List Cap) (f : Frame) (bytes rest : List ℕ) → AllFit (front_list role h) →
-    h.role ≡ role_in role → AreKeptSlots g age slots
+pub node_reported : (g : Geometry) (age role : ℕ) (h : ObjectHeader) (slots : List Cap) (f : Frame) (bytes rest : List ℕ) →
+    AllFit (front_list role h) → h.role ≡ role_in role → AreKeptSlots g age slots
     → bytes ≡ front_numbers role h ++ rest → between 32 800 bytes ≡ slots_bytes slots → IsNodeFrame g age f → bytes ≡ node_frame_bytes f →
     IsReadOf f role h slots
 node_reported g age role h slots f bytes rest fits role_is are front middle is e =
     let parts = node_parts g age f bytes is e in
-    let reported = front_reported age role h f rest (slots_bytes (slots_of f.content) ++ zeros 224) fits role_is is.front (sym front ∙ parts.whole) in
+    let reported = front_reported age role h f rest (slots_bytes (slots_of f.content) ++ zeros 224) fits role_is is.front
+    (sym front ∙ parts.whole) in
     let same = slots_split g age slots (slots_of f.content) [] [] are.each is.slots.each (are.count ∙ sym is.slots.count)
     (ap (λ (r : List ℕ). r ++ []) (sym middle ∙ parts.middle)) in
     record { role_is = reported.0; header_is = reported.1; slots_are = same.0 }
 
 -- the body that is read is that of the frame
-pub body_reported : (f : Frame) (role : ℕ) (h : ObjectHeader) (slots : List Cap) (age : ℕ) → IsReadOf f role h slots → FollowsRole f.content → IsFront age f
-    → IsBody role h.owner slots (content_of (body_in role slots) slots [])
+pub body_reported : (f : Frame) (role : ℕ) (h : ObjectHeader) (slots : List Cap) (age : ℕ) → IsReadOf f role h slots →
+    FollowsRole f.content → IsFront age f → IsBody role h.owner slots (content_of (body_in role slots) slots [])
 body_reported f role h slots age read follows front =
     let same : content_of (body_in role slots) slots [] ≡ f.content = grind (arith, nat_tests, content_again) in
     subst (IsBody role h.owner slots) (sym same)
@@ -200,7 +209,8 @@ body_reported f role h slots age read follows front =
     })
 
 -- of a body at a node's number the words don't matter
-same_content : (b : Body) (slots : List Cap) (words : List ℕ) → FollowsRole (content_of b slots []) → content_of b slots [] ≡ content_of b slots words
+same_content : (b : Body) (slots : List Cap) (words : List ℕ) → FollowsRole (content_of b slots []) →
+    content_of b slots [] ≡ content_of b slots words
 same_content b slots words f = grind (arith, nat_tests)
 
 pub any_words : (role owner : ℕ) (b : Body) (slots : List Cap) (words : List ℕ) → IsBody role owner slots (content_of b slots []) →
@@ -208,8 +218,8 @@ pub any_words : (role owner : ℕ) (b : Body) (slots : List Cap) (words : List �
 any_words role owner b slots words is = subst (IsBody role owner slots) (same_content b slots words is.follows) is
 
 -- the frame that is read
-pub node_found : (g : Geometry) (age role : ℕ) (h : ObjectHeader) (slots : List Cap) (c : Content Cap) (bytes : List ℕ) → AllFit (front_list role h) →
-    h.role ≡ role_in role
+pub node_found : (g : Geometry) (age role : ℕ) (h : ObjectHeader) (slots : List Cap) (c : Content Cap) (bytes : List ℕ) →
+    AllFit (front_list role h) → h.role ≡ role_in role
     → IsCount age h.allocations × IsCount age h.calls → AreKeptSlots g age slots → IsBody role h.owner slots c
     → bytes ≡ front_numbers role h ++ drop 32 bytes → between 32 800 bytes ≡ slots_bytes slots → drop 800 bytes ≡ zeros 224
     → IsNodeFrame g age (record { header = h; content = c }) × (bytes ≡ node_frame_bytes (record { header = h; content = c }))
@@ -238,12 +248,14 @@ front_zeros m n le = take-replicate m n 0 le
 -- the frame of a free number is read
 pub free_node_found : (g : Geometry) (age : ℕ) (h : ObjectHeader) (bytes : List ℕ) → AllFit (front_list 0 h) → h.role ≡ role_in 0
     → IsCount age h.allocations × IsCount age h.calls → h.owner ≡ 0 → bytes ≡ front_numbers 0 h ++ drop 32 bytes → drop 32 bytes ≡ zeros 992
-    → IsNodeFrame g age (record { header = h; content = content.Free }) × (bytes ≡ node_frame_bytes (record { header = h; content = content.Free }))
+    → IsNodeFrame g age (record { header = h; content = content.Free }) × (bytes
+    ≡ node_frame_bytes (record { header = h; content = content.Free }))
 free_node_found g age h bytes fits role_is counts unowned front blank =
     node_found g age 0 h (replicate 32 void_held) content.Free bytes fits role_is counts
     (record { count = refl; each = All-replicate (IsKeptCap g age) 32 void_held refl })
     (record { role_is = refl; slots_are = refl; follows = tt; unowned = λ _. unowned })
-    front (ap (take 768) blank ∙ front_zeros 768 992 (omega arith) ∙ sym all_void) (sym (drop-drop 768 32 bytes) ∙ ap (drop 768) blank ∙ drop_zeros 768 992)
+    front (ap (take 768) blank ∙ front_zeros 768 992 (omega arith) ∙ sym all_void)
+    (sym (drop-drop 768 32 bytes) ∙ ap (drop 768) blank ∙ drop_zeros 768 992)
 
 -- what the bytes of a frame with the number of a node are, whose role's number is 0
 pub record IsFreeSpelling (age : ℕ) (h : ObjectHeader) (bytes : List ℕ) : Type 0 where
@@ -251,11 +263,12 @@ pub record IsFreeSpelling (age : ℕ) (h : ObjectHeader) (bytes : List ℕ) : Ty
   pub unowned : h.owner ≡ 0
   pub blank : drop 32 bytes ≡ zeros 992
 
-free_slots : (c : Content Cap) → FollowsRole c → 0 ≡ role_number (role_of c) → record { free : IsTrue (is_free c); slots : slots_of c ≡ replicate 32 void_held }
+free_slots : (c : Content Cap) → FollowsRole c → 0 ≡ role_number (role_of c) →
+    record { free : IsTrue (is_free c); slots : slots_of c ≡ replicate 32 void_held }
 free_slots c f e = grind (arith, nat_tests)
 
-pub free_node_spelling : (g : Geometry) (age : ℕ) (h : ObjectHeader) (f : Frame) (bytes rest : List ℕ) → AllFit (front_list 0 h) → h.role ≡ role_in 0
-    → bytes ≡ front_numbers 0 h ++ rest → IsNodeFrame g age f → bytes ≡ node_frame_bytes f → IsFreeSpelling age h bytes
+pub free_node_spelling : (g : Geometry) (age : ℕ) (h : ObjectHeader) (f : Frame) (bytes rest : List ℕ) → AllFit (front_list 0 h) →
+    h.role ≡ role_in 0 → bytes ≡ front_numbers 0 h ++ rest → IsNodeFrame g age f → bytes ≡ node_frame_bytes f → IsFreeSpelling age h bytes
 free_node_spelling g age h f bytes rest fits role_is front is e =
     let parts = node_parts g age f bytes is e in
     let spelt : List ℕ = slots_bytes (slots_of f.content) ++ zeros 224 in
@@ -263,22 +276,26 @@ free_node_spelling g age h f bytes rest fits role_is front is e =
     let same : h ≡ f.header = reported.1 in
     let free = free_slots f.content is.follows reported.0 in
     record {
-      counts = subst (λ (x : ObjectHeader). IsCount age x.allocations × IsCount age x.calls) (sym same) (is.front.allocations, is.front.calls);
+      counts = subst (λ (x : ObjectHeader). IsCount age x.allocations × IsCount age x.calls) (sym same)
+          (is.front.allocations, is.front.calls);
       unowned = ap (λ (x : ObjectHeader). x.owner) same ∙ is.front.unowned free.free;
       blank = ap (drop 32) parts.whole ∙ drop_at (front_numbers (role_number f.header.role) f.header) spelt 32 (length-front _ f.header)
           ∙ ap (λ (s : List Cap). slots_bytes s ++ zeros 224) free.slots ∙ ap (λ (r : List ℕ). r ++ zeros 224) all_void ∙ zeros_add 768 224;
     }
 
 -- given bytes spell at most one frame
-pub one_node_frame : (g : Geometry) (age : ℕ) (e f : Frame) → IsNodeFrame g age e → IsNodeFrame g age f → node_frame_bytes e ≡ node_frame_bytes f → e ≡ f
+pub one_node_frame : (g : Geometry) (age : ℕ) (e f : Frame) → IsNodeFrame g age e → IsNodeFrame g age f →
+    node_frame_bytes e ≡ node_frame_bytes f → e ≡ f
 one_node_frame g age e f ie if same =
     let parts = node_parts g age e (node_frame_bytes e) ie refl in
     let read = node_reported g age (role_number e.header.role) e.header (slots_of e.content) f (node_frame_bytes e)
     (slots_bytes (slots_of e.content) ++ zeros 224)
-    (role_fits e.header.role, (ie.front.allocations.1, (ie.front.calls.1, (ie.front.owner, tt)))) (sym (role_again e.header.role)) ie.slots parts.whole
+    (role_fits e.header.role, (ie.front.allocations.1, (ie.front.calls.1, (ie.front.owner, tt)))) (sym (role_again e.header.role)) ie.slots
+    parts.whole
     parts.middle if same in
     let contents : e.content ≡ f.content = grind (arith, nat_tests, content_again) in
-    ap (λ (h : ObjectHeader). record { header = h; content = e.content }) read.header_is ∙ ap (λ (c : Content Cap). record { header = f.header; content = c })
+    ap (λ (h : ObjectHeader). record { header = h; content = e.content }) read.header_is
+    ∙ ap (λ (c : Content Cap). record { header = f.header; content = c })
     contents
 
 pub root_count : (r : Root Cap) (held : List Cap) → held ≡ root_slots r → length r.words ≡ 4 → length held + 24 ≡ 32

@@ -24,8 +24,10 @@ pub half_at : (p : Plan) (k : ℕ) →
     extent_at (extents p) (length p.ranges + k) ≡ extent_at (half_extent p.geometry p.half_0 ∷ half_extent p.geometry p.half_1 ∷ []) k
 half_at p k = grind (arith, nat_tests, length-map, get_or-append_right)
 
-within_at : (p : Plan) (k : ℕ) → IsPlan p → k < 2 → IsWithin p.total (extent_at (half_extent p.geometry p.half_0 ∷ half_extent p.geometry p.half_1 ∷ []) k)
-within_at p k fits few = subst (IsWithin p.total) (half_at p k) (fits.within (length p.ranges + k) (record { sector = 0; length = 0 }) (omega (arith, many p)))
+within_at : (p : Plan) (k : ℕ) → IsPlan p → k < 2 → IsWithin p.total (extent_at
+    (half_extent p.geometry p.half_0 ∷ half_extent p.geometry p.half_1 ∷ []) k)
+within_at p k fits few = subst (IsWithin p.total) (half_at p k) (fits.within (length p.ranges + k) (record { sector = 0; length = 0 })
+    (omega (arith, many p)))
 
 within_by : (p : Plan) (h : Half) → IsPlan p → IsWithin p.total (half_extent p.geometry (half_start p h))
 within_by p First fits = within_at p 0 fits (omega arith)

@@ -25,7 +25,8 @@ header_stream h =
 -- five numbers are read
 pub five_read : (bytes : List ℕ) (m a b c d : ℕ) → bytes ≡ number m ++ drop 8 bytes → drop 8 bytes ≡ number a ++ drop 16 bytes →
     drop 16 bytes ≡ number b ++ drop 24 bytes
-    → drop 24 bytes ≡ number c ++ drop 32 bytes → drop 32 bytes ≡ number d ++ drop 40 bytes → bytes ≡ stream (m ∷ a ∷ b ∷ c ∷ d ∷ []) (drop 40 bytes)
+    → drop 24 bytes ≡ number c ++ drop 32 bytes → drop 32 bytes ≡ number d ++ drop 40 bytes →
+    bytes ≡ stream (m ∷ a ∷ b ∷ c ∷ d ∷ []) (drop 40 bytes)
 five_read bytes m a b c d em ea eb ec ed = grind (arith, nat_tests)
 
 pub one_more : (b : Bool) → cond b 1 0 ≤ 1
@@ -35,7 +36,16 @@ sequence_fits : (room : ℕ) (h : CheckpointHeader) → IsHeader room h → h.se
 sequence_fits room h is = let more = one_more (h.entries == 0) in omega (arith, is.sequence, is.age, more)
 
 pub header_fits : (room : ℕ) (h : CheckpointHeader) → IsHeader room h → AllFit (0x4441_4548_534f_5245 ∷ fields h)
-header_fits room h is = (omega arith, (sequence_fits room h is, (omega (arith, is.generation, is.age), (is.entries_fit, (omega (arith, is.age), tt)))))
+header_fits room h is = (
+  omega arith,
+  (
+    sequence_fits room h is,
+    (
+      omega (arith, is.generation, is.age),
+      (is.entries_fit, (omega (arith, is.age), tt)),
+    ),
+  ),
+)
 
 -- what the numbers of a header's bytes have to be
 pub record HasFields (h : CheckpointHeader) (m : ℕ) (found : CheckpointHeader) (rest : List ℕ) : Type 0 where
@@ -61,10 +71,11 @@ one_header room g h ig ih e =
     (spelt_header room (header_bytes g) (zeros 472) 0x4441_4548_534f_5245 g h (header_fits room g ig) (header_stream g) ih e).header_is
 
 pub header_written : (filled now : List ℕ) (h : CheckpointHeader) → filled ≡ zeros 512
-    → IsWritten filled (number 0x4441_4548_534f_5245 ++ number h.sequence ++ number h.generation ++ number h.entries ++ number h.age) now 40 →
-    now ≡ header_bytes h
+    → IsWritten filled (number 0x4441_4548_534f_5245 ++ number h.sequence ++ number h.generation ++ number h.entries ++ number h.age) now 40
+    → now ≡ header_bytes h
 header_written filled now h blank was =
-    written_all filled (number 0x4441_4548_534f_5245 ++ number h.sequence ++ number h.generation ++ number h.entries ++ number h.age) now 40 was
+    written_all filled (number 0x4441_4548_534f_5245 ++ number h.sequence ++ number h.generation ++ number h.entries ++ number h.age) now 40
+    was
     ∙ ap (λ (z : List ℕ). number 0x4441_4548_534f_5245 ++ number h.sequence ++ number h.generation ++ number h.entries ++ number h.age ++ z)
     (drop_filled filled 512 40 blank)
     ∙ six (number 0x4441_4548_534f_5245) (number h.sequence) (number h.generation) (number h.entries) (number h.age) (zeros 472)

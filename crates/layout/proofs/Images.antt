@@ -10,7 +10,8 @@ use Rattle.layout.proofs.Pages.{one_page_frame}
 use Rattle.layout.proofs.Keepables.{node_of_frame, page_of_frame}
 use Rattle.layout.proofs.Superblocks.{one_plan}
 
-pub one_frame : (g : Geometry) (age object : ℕ) (bytes : List ℕ) (e f : Frame) → IsFrameOf g age object bytes e → IsFrameOf g age object bytes f → e ≡ f
+pub one_frame : (g : Geometry) (age object : ℕ) (bytes : List ℕ) (e f : Frame) → IsFrameOf g age object bytes e →
+    IsFrameOf g age object bytes f → e ≡ f
 one_frame g age object bytes e f ie if =
     elim (cases_lt object g.nodes) [
       | inl lt ↦
@@ -27,16 +28,20 @@ pub same_plan : (image : Image) (size : ℕ) (p q : Plan) → HasPlan image size
 same_plan image size p q hp hq = one_plan p q hp.fits hq.fits (sym hp.spelt ∙ hq.spelt)
 
 pub same_header : (image : Image) (p : Plan) (g h : CheckpointHeader) → HasHeader image p g → HasHeader image p h → g ≡ h
-same_header image p g h hg hh = one_header p.geometry.log g h hg.fits hh.fits (same_Some (header_bytes g) (header_bytes h) (sym hg.spelt ∙ hh.spelt))
+same_header image p g h hg hh = one_header p.geometry.log g h hg.fits hh.fits
+    (same_Some (header_bytes g) (header_bytes h) (sym hg.spelt ∙ hh.spelt))
 
-pub same_directory : (image : Image) (p : Plan) (h : CheckpointHeader) (ds es : List Entry) → HasDirectory image p h ds → HasDirectory image p h es → ds ≡ es
+pub same_directory : (image : Image) (p : Plan) (h : CheckpointHeader) (ds es : List Entry) → HasDirectory image p h ds →
+    HasDirectory image p h es → ds ≡ es
 same_directory image p h ds es hd he = grind (arith, nat_tests, one_directory, directory_fits)
 
 -- what two saved states have in common but their frames
 same_frames : (image : Image) (p : Plan) (h : CheckpointHeader) (es : List Entry) (fs gs : List Frame)
     → length fs ≡ p.geometry.nodes + p.geometry.pages → length gs ≡ p.geometry.nodes + p.geometry.pages
-    → ((o : ℕ) → o < p.geometry.nodes + p.geometry.pages → IsFrameOf p.geometry h.age o (frame_in image p h.generation es o) (frame_at fs o))
-    → ((o : ℕ) → o < p.geometry.nodes + p.geometry.pages → IsFrameOf p.geometry h.age o (frame_in image p h.generation es o) (frame_at gs o)) → fs ≡ gs
+    → ((o : ℕ) → o < p.geometry.nodes + p.geometry.pages → IsFrameOf p.geometry h.age o (frame_in image p h.generation es o)
+    (frame_at fs o))
+    → ((o : ℕ) → o < p.geometry.nodes + p.geometry.pages → IsFrameOf p.geometry h.age o (frame_in image p h.generation es o)
+    (frame_at gs o)) → fs ≡ gs
 same_frames image p h es fs gs lf lg ef eg = same_lists fs gs (lf ∙ sym lg) (λ o d lt.
     let within : o < p.geometry.nodes + p.geometry.pages = omega arith in
     let in' : o < length gs = omega arith in
@@ -47,8 +52,8 @@ same_frames image p h es fs gs lf lg ef eg = same_lists fs gs (lf ∙ sym lg) (�
 abbrev pub state : Plan → CheckpointHeader → List Entry → List Frame → SavedState
 state p h es fs = record { plan = p; header = h; directory = es; frames = fs }
 
-frames_equal : (image : Image) (size : ℕ) (p : Plan) (h : CheckpointHeader) (es : List Entry) (fs gs : List Frame) → Encodes image size (state p h es fs) →
-    Encodes image size (state p h es gs) → state p h es fs ≡ state p h es gs
+frames_equal : (image : Image) (size : ℕ) (p : Plan) (h : CheckpointHeader) (es : List Entry) (fs gs : List Frame) →
+    Encodes image size (state p h es fs) → Encodes image size (state p h es gs) → state p h es fs ≡ state p h es gs
 frames_equal image size p h es fs gs s t = ap (state p h es) (same_frames image p h es fs gs s.count t.count s.each t.each)
 
 pub one_state : (image : Image) (size : ℕ) (s t : SavedState) → Encodes image size s → Encodes image size t → s ≡ t

@@ -27,13 +27,14 @@ state_fits s = grind (arith, nat_tests)
 numbers_kept : (g : Geometry) (age : ℕ) (ws : List ℕ) → All (λ w. w < 2 ^ 64) ws → Kept g age (map number_cap ws)
 numbers_kept g age ws each = search (All-map, All-weaker, number_kept)
 
-root_slots_kept : (g : Geometry) (age : ℕ) (r : Root Cap) → AreKeptWords 4 r.words → r.key < 2 ^ 16 → r.annex < 2 ^ 64 → IsKeptCap g age r.space →
-    AreKeptSlots g age (slots_of (content.Root r))
+root_slots_kept : (g : Geometry) (age : ℕ) (r : Root Cap) → AreKeptWords 4 r.words → r.key < 2 ^ 16 → r.annex < 2 ^ 64 →
+    IsKeptCap g age r.space → AreKeptSlots g age (slots_of (content.Root r))
 root_slots_kept g age r words key annex space =
     let P : Cap → Type 0 = IsKeptCap g age in
     let last : List Cap = number_cap r.key ∷ r.space ∷ [] in
     let ends : All P last = All-from_recursion P last (number_kept g age r.key (omega (arith, key)), (space, tt)) in
-    let middle : All P (map number_cap r.words ++ last) = All-append P (map number_cap r.words) last (numbers_kept g age r.words words.each) ends in
+    let middle : All P (map number_cap r.words ++ last) = All-append P (map number_cap r.words) last (numbers_kept g age r.words words.each)
+    ends in
     let front : All P (root_slots r) = grind (arith, nat_tests, All-cons, number_kept, state_fits) in
     record {
       count = grind (arith, nat_tests, length-append, length-map, length-replicate);
@@ -67,7 +68,8 @@ root_is g age s (a ∷ b ∷ c ∷ d ∷ e ∷ ws) key annex space len are = abs
 
 -- ---- contents
 
-slots_kept : (g : Geometry) (age n : ℕ) (c : Content Cap) → n < g.nodes → IsOfKind g n c → MayBeKept g age c → AreKeptSlots g age (slots_of c)
+slots_kept : (g : Geometry) (age n : ℕ) (c : Content Cap) → n < g.nodes → IsOfKind g n c → MayBeKept g age c →
+    AreKeptSlots g age (slots_of c)
 slots_kept g age n content.Free lt kind may = record { count = refl; each = voids_kept g age 32 }
 slots_kept g age n (content.Page words) lt kind may = absurd (omega (arith, lt, kind.0))
 slots_kept g age n (content.Node slots) lt kind may = may
@@ -78,11 +80,16 @@ slots_kept g age n (content.Bank limit) lt kind may = search (All-cons, number_k
 follows_role : (g : Geometry) (age n : ℕ) (c : Content Cap) → n < g.nodes → IsOfKind g n c → MayBeKept g age c → FollowsRole c
 follows_role g age n c lt kind may = grind (arith, nat_tests)
 
-may_be_kept : (g : Geometry) (age n : ℕ) (c : Content Cap) → n < g.nodes → AreKeptSlots g age (slots_of c) → FollowsRole c → IsOfKind g n c × MayBeKept g age c
+may_be_kept : (g : Geometry) (age n : ℕ) (c : Content Cap) → n < g.nodes → AreKeptSlots g age (slots_of c) → FollowsRole c →
+    IsOfKind g n c × MayBeKept g age c
 may_be_kept g age n content.Free lt are follows = (tt, tt)
 may_be_kept g age n (content.Page words) lt are follows = absurd follows
 may_be_kept g age n (content.Node slots) lt are follows = (lt, are)
-may_be_kept g age n (content.Root r) lt are follows = grind (arith, nat_tests, root_is g age r.state r.words r.key r.annex r.space follows.0 are)
+may_be_kept g age n (content.Root r) lt are follows = grind (
+  arith,
+  nat_tests,
+  root_is g age r.state r.words r.key r.annex r.space follows.0 are,
+)
 may_be_kept g age n (content.Annex registers) lt are follows = (lt, (are, follows))
 may_be_kept g age n (content.Bank limit) lt are follows = (lt, (are.each 0 void_held (omega arith)).0)
 
@@ -114,8 +121,8 @@ node_bytes g n f lt = ap (λ (b : Bool). if b then node_frame_bytes f else page_
 page_bytes : (g : Geometry) (n : ℕ) (f : Frame) → g.nodes ≤ n → frame_bytes g n f ≡ page_frame_bytes f
 page_bytes g n f le = ap (λ (b : Bool). if b then node_frame_bytes f else page_frame_bytes f) (le-ltb n g.nodes le)
 
-pub frame_of_node : (g : Geometry) (age n : ℕ) (bytes : List ℕ) (f : Frame) → n < g.nodes → IsNodeFrame g age f × (bytes ≡ node_frame_bytes f) →
-    IsFrameOf g age n bytes f
+pub frame_of_node : (g : Geometry) (age n : ℕ) (bytes : List ℕ) (f : Frame) → n < g.nodes →
+    IsNodeFrame g age f × (bytes ≡ node_frame_bytes f) → IsFrameOf g age n bytes f
 frame_of_node g age n bytes f lt is = (node_keepable g age n f lt is.0, is.1 ∙ sym (node_bytes g n f lt))
 
 pub node_of_frame : (g : Geometry) (age n : ℕ) (bytes : List ℕ) (f : Frame) → n < g.nodes → IsFrameOf g age n bytes f →

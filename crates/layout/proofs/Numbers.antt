@@ -75,7 +75,8 @@ pub written : (bytes buf : List ℕ) (at n : ℕ) → at + 8 ≤ length bytes �
     → put_mid at (length bytes - at) bytes buf ≡ (take at bytes ++ number n) ++ drop (at + 8) bytes
 written bytes buf at n room is =
     let mid : between at (length bytes) bytes ≡ drop at bytes = take_rest bytes at in
-    let past : drop (length bytes - at) (drop at bytes) ≡ [] = drop_all (length bytes - at) (drop at bytes) (omega (arith, length-drop at bytes)) in
+    let past : drop (length bytes - at) (drop at bytes) ≡ [] = drop_all (length bytes - at) (drop at bytes)
+    (omega (arith, length-drop at bytes)) in
     let whole : buf ≡ number n ++ drop (at + 8) bytes = cc (drop-drop 8 at bytes) in
     rw (past, whole, append-nil) (sym (append_assoc (take at bytes) (number n) (drop (at + 8) bytes)))
 
@@ -87,7 +88,8 @@ pub written_after : (bytes new : List ℕ) (at n : ℕ) → at + 8 ≤ length by
     drop (at + 8) new ≡ drop (at + 8) bytes
 written_after bytes new at n room is = grind (arith, nat_tests, drop_at, length-append, length-take, length-number)
 
-pub ends_zeros : (bytes : List ℕ) (i any : ℕ) → i ≡ length bytes → IsSum bytes i any → IsTrue (nat_eq any 0) ↔ (bytes ≡ zeros (length bytes))
+pub ends_zeros : (bytes : List ℕ) (i any : ℕ) → i ≡ length bytes → IsSum bytes i any →
+    IsTrue (nat_eq any 0) ↔ (bytes ≡ zeros (length bytes))
 ends_zeros bytes i any e s = grind (arith, nat_tests, sum_zeros, zeros_sum)
 
 -- numbers one after the other, and what follows them
@@ -119,7 +121,8 @@ pub written_none : (filled : List ℕ) → IsWritten filled [] filled 0
 written_none filled = record { before = refl; after = refl }
 
 pub written_more : (filled front old new : List ℕ) (at n : ℕ) → IsWritten filled front old at
-    → take (at + 8) new ≡ take at old ++ number n → drop (at + 8) new ≡ drop (at + 8) old → IsWritten filled (front ++ number n) new (at + 8)
+    → take (at + 8) new ≡ take at old ++ number n → drop (at + 8) new ≡ drop (at + 8) old →
+    IsWritten filled (front ++ number n) new (at + 8)
 written_more filled front old new at n was before after = grind (arith, nat_tests, drop-drop 8 at old, drop-drop 8 at filled)
 
 -- all that was written, and the rest as it was filled

@@ -40,13 +40,15 @@ words_taken bytes words small size count read (suc i) le =
     let n : ℕ = get_or words i 0 in
     let on : suc i ≡ i + 1 = omega arith in
     let more : take (suc i) words ≡ take i words ++ n ∷ [] = ap (λ (m : ℕ). take m words) on ∙ take_more words i 0 (omega arith) in
-    let is : drop (8 * i) bytes ≡ number n ++ drop (8 * i + 8) bytes = number_read bytes (8 * i) n (omega arith) small (read i (omega arith)) in
+    let is : drop (8 * i) bytes ≡ number n ++ drop (8 * i + 8) bytes = number_read bytes (8 * i) n (omega arith) small
+    (read i (omega arith)) in
     let piece : take 8 (drop (8 * i) bytes) ≡ number n = ap (take 8) is ∙ take_at (number n) (drop (8 * i + 8) bytes) 8 (length-number n) in
     ap (λ (m : ℕ). take m bytes) next ∙ take-add (8 * i) 8 bytes
     ∙ ap (λ (r : List ℕ). r ++ take 8 (drop (8 * i) bytes)) (words_taken bytes words small size count read i (omega arith))
     ∙ ap (λ (r : List ℕ). words_bytes (take i words) ++ r) piece ∙ sym (words_bytes-push (take i words) n) ∙ ap words_bytes (sym more)
 
-word_fits : (bytes words : List ℕ) → IsBytes bytes → IsRead little_number 8 bytes words → (k d : ℕ) → k < length words → get_or words k d < 2 ^ 64
+word_fits : (bytes words : List ℕ) → IsBytes bytes → IsRead little_number 8 bytes words → (k d : ℕ) → k < length words →
+    get_or words k d < 2 ^ 64
 word_fits bytes words small read k d lt = grind (arith, nat_tests, get_or-drop, get_or_default)
 
 -- 512 words that were read of their bytes
@@ -87,7 +89,8 @@ page_parts f bytes e =
     let front : List ℕ = front_numbers (role_number f.header.role) f.header in
     let words : List ℕ = words_bytes (page_words f.content) in
     let whole : bytes ≡ front ++ (zeros 480 ++ words) = grind (arith, nat_tests, front_bytes_are, append_assoc) in
-    let behind : drop 32 bytes ≡ zeros 480 ++ words = ap (drop 32) whole ∙ drop_at front (zeros 480 ++ words) 32 (length-front _ f.header) in
+    let behind : drop 32 bytes ≡ zeros 480 ++ words = ap (drop 32) whole ∙ drop_at front (zeros 480 ++ words) 32 (length-front _ f.header)
+    in
     record {
       whole = whole;
       gap = ap (take 480) behind ∙ take_at (zeros 480) words 480 (length-zeros 480);
@@ -99,20 +102,22 @@ pub record IsPageReadOf (f : Frame) (role : ℕ) (h : ObjectHeader) (words : Lis
   pub header_is : h ≡ f.header
   pub words_are : words ≡ page_words f.content
 
-pub page_reported : (age role : ℕ) (h : ObjectHeader) (words : List ℕ) (f : Frame) (bytes rest : List ℕ) → AllFit (front_list role h) → h.role ≡ role_in role →
-    AreKeptWords 512 words
-    → bytes ≡ front_numbers role h ++ rest → drop 512 bytes ≡ words_bytes words → IsPageFrame age f → bytes ≡ page_frame_bytes f → IsPageReadOf f role h words
+pub page_reported : (age role : ℕ) (h : ObjectHeader) (words : List ℕ) (f : Frame) (bytes rest : List ℕ) → AllFit (front_list role h) →
+    h.role ≡ role_in role → AreKeptWords 512 words
+    → bytes ≡ front_numbers role h ++ rest → drop 512 bytes ≡ words_bytes words → IsPageFrame age f → bytes ≡ page_frame_bytes f →
+    IsPageReadOf f role h words
 page_reported age role h words f bytes rest fits role_is are front last is e =
     let parts = page_parts f bytes e in
-    let reported = front_reported age role h f rest (zeros 480 ++ words_bytes (page_words f.content)) fits role_is is.front (sym front ∙ parts.whole) in
+    let reported = front_reported age role h f rest (zeros 480 ++ words_bytes (page_words f.content)) fits role_is is.front
+    (sym front ∙ parts.whole) in
     let held = words_fit f.content is.holds in
     let same = stream_splits words (page_words f.content) [] [] (all_fit words are.each) (all_fit (page_words f.content) held.each)
     (are.count_is ∙ sym held.count_is)
     (sym (words_stream words) ∙ sym last ∙ parts.last ∙ words_stream (page_words f.content)) in
     record { role_is = reported.0; header_is = reported.1; words_are = same.0 }
 
-page_kind : (role owner : ℕ) (last : List ℕ) (c : Content Cap) → role ≡ role_number (role_of c) → last ≡ words_bytes (page_words c) → HoldsPage c
-    → (IsTrue (is_free c) → owner ≡ 0) → (role ≡ 1) ⊎ ((role ≡ 0) × (owner ≡ 0) × (last ≡ zeros 4096))
+page_kind : (role owner : ℕ) (last : List ℕ) (c : Content Cap) → role ≡ role_number (role_of c) → last ≡ words_bytes (page_words c) →
+    HoldsPage c → (IsTrue (is_free c) → owner ≡ 0) → (role ≡ 1) ⊎ ((role ≡ 0) × (owner ≡ 0) × (last ≡ zeros 4096))
 page_kind role owner last c r l h unowned = grind (arith, nat_tests, zero_words_bytes)
 
 -- what the bytes of a frame with the number of a page are
@@ -125,10 +130,12 @@ pub page_spelling : (age role : ℕ) (h : ObjectHeader) (f : Frame) (bytes rest 
     → bytes ≡ front_numbers role h ++ rest → IsPageFrame age f → bytes ≡ page_frame_bytes f → IsPageSpelling age role h bytes
 page_spelling age role h f bytes rest fits role_is front is e =
     let parts = page_parts f bytes e in
-    let reported = front_reported age role h f rest (zeros 480 ++ words_bytes (page_words f.content)) fits role_is is.front (sym front ∙ parts.whole) in
+    let reported = front_reported age role h f rest (zeros 480 ++ words_bytes (page_words f.content)) fits role_is is.front
+    (sym front ∙ parts.whole) in
     let same : h ≡ f.header = reported.1 in
     record {
-      counts = subst (λ (x : ObjectHeader). IsCount age x.allocations × IsCount age x.calls) (sym same) (is.front.allocations, is.front.calls);
+      counts = subst (λ (x : ObjectHeader). IsCount age x.allocations × IsCount age x.calls) (sym same)
+          (is.front.allocations, is.front.calls);
       gap = parts.gap;
       kind = page_kind role h.owner (drop 512 bytes) f.content reported.0 parts.last is.holds
           (λ t. ap (λ (x : ObjectHeader). x.owner) same ∙ is.front.unowned t);
@@ -145,8 +152,8 @@ page_content : (role owner : ℕ) (slots : List Cap) (words : List ℕ) → AreK
     IsPageContent role owner words (content_of (page_body_in role) slots words)
 page_content role owner slots words are h1 = grind (arith, nat_tests)
 
-pub page_found : (age role : ℕ) (h : ObjectHeader) (slots : List Cap) (words : List ℕ) (b : Body) (bytes : List ℕ) → AllFit (front_list role h) →
-    h.role ≡ role_in role → b ≡ page_body_in role
+pub page_found : (age role : ℕ) (h : ObjectHeader) (slots : List Cap) (words : List ℕ) (b : Body) (bytes : List ℕ) →
+    AllFit (front_list role h) → h.role ≡ role_in role → b ≡ page_body_in role
     → IsCount age h.allocations × IsCount age h.calls → AreKeptWords 512 words → IsPageBody role h.owner words
     → bytes ≡ front_numbers role h ++ drop 32 bytes → take 480 (drop 32 bytes) ≡ zeros 480 → drop 512 bytes ≡ words_bytes words
     → IsPageFrame age (record { header = h; content = content_of b slots words }) ×
@@ -175,7 +182,8 @@ one_page_frame age e f ie if same =
     (role_fits e.header.role, (ie.front.allocations.1, (ie.front.calls.1, (ie.front.owner, tt)))) (sym (role_again e.header.role))
     (words_fit e.content ie.holds) parts.whole parts.last if same in
     let contents : e.content ≡ f.content = grind (arith, nat_tests, content_again) in
-    ap (λ (h : ObjectHeader). record { header = h; content = e.content }) read.header_is ∙ ap (λ (c : Content Cap). record { header = f.header; content = c })
+    ap (λ (h : ObjectHeader). record { header = h; content = e.content }) read.header_is
+    ∙ ap (λ (c : Content Cap). record { header = f.header; content = c })
     contents
 
 -- ---- writing
@@ -185,19 +193,27 @@ take_gap xs = sym (drop-take 32 480 xs)
 
 pub fronted : (h : ObjectHeader) (blanked new : List ℕ) → take 512 blanked ≡ zeros 512
     → take 32 new ≡ front_numbers (role_number h.role) h → drop 32 new ≡ drop 32 blanked → take 512 new ≡ front_bytes h ++ zeros 480
-fronted h blanked new blank before after = grind (arith, nat_tests, take_gap blanked, drop_zeros 32 512, take-add 32 480 new, front_bytes_are h)
+fronted h blanked new blank before after = grind (
+  arith,
+  nat_tests,
+  take_gap blanked,
+  drop_zeros 32 512,
+  take-add 32 480 new,
+  front_bytes_are h,
+)
 
-pub page_written : (f : Frame) (front new body : List ℕ) → take 512 front ≡ front_bytes f.header ++ zeros 480 → body ≡ words_bytes (page_words f.content) →
-    new ≡ take 512 front ++ body → new ≡ page_frame_bytes f
+pub page_written : (f : Frame) (front new body : List ℕ) → take 512 front ≡ front_bytes f.header ++ zeros 480 →
+    body ≡ words_bytes (page_words f.content) → new ≡ take 512 front ++ body → new ≡ page_frame_bytes f
 unfolding page_frame_bytes
 page_written f front new body before spelt is = grind (arith, nat_tests)
 
 pub put_last : (xs ys : List ℕ) (at : ℕ) → put_mid at (length xs - at) xs ys ≡ take at xs ++ ys
 put_last xs ys at = grind (arith, nat_tests, drop_all, length-drop, append-nil)
 
-pub default_written : (f : Frame) (front new : List ℕ) → take 512 front ≡ front_bytes f.header ++ zeros 480 → page_words f.content ≡ zero_words →
-    new ≡ take 512 front ++ zeros 4096 → new ≡ page_frame_bytes f
-default_written f front new before words is = page_written f front new (zeros 4096) before (sym zero_words_bytes ∙ ap words_bytes (sym words)) is
+pub default_written : (f : Frame) (front new : List ℕ) → take 512 front ≡ front_bytes f.header ++ zeros 480 →
+    page_words f.content ≡ zero_words → new ≡ take 512 front ++ zeros 4096 → new ≡ page_frame_bytes f
+default_written f front new before words is = page_written f front new (zeros 4096) before
+    (sym zero_words_bytes ∙ ap words_bytes (sym words)) is
 
 pub not_page : (r : ContentRef) → ((words : Bor (List ℕ)) → r ≡ content_ref.Page words → ⊥) → page_words (content_behind r) ≡ zero_words
 not_page r h = grind (arith, nat_tests)

@@ -9,4 +9,9 @@ sectors_are_of n bytes size = omega (arith, size)
 -- the bytes of n sectors
 pub run_is : (image : Image) (at n : ℕ) (bytes : List ℕ) → length bytes ≡ 512 * n →
     ((i : ℕ) → i < length bytes / 512 → take 512 (drop (512 * i) bytes) ≡ image (at + i)) → sectors_from image at n ≡ bytes
-run_is image at n bytes size same = grind (arith, nat_tests, sectors_are_of n bytes size, whole_sectors image at bytes (omega (arith, size)) same)
+run_is image at n bytes size same = grind (
+  arith,
+  nat_tests,
+  sectors_are_of n bytes size,
+  whole_sectors image at bytes (omega (arith, size)) same,
+)

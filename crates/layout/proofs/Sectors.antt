@@ -8,8 +8,8 @@ no_bytes [] e = refl
 no_bytes (b ∷ bs) e = absurd (omega (arith, e))
 
 -- each piece of 512 bytes is a sector
-sectors_are : (image : Image) (at n : ℕ) (bytes : List ℕ) → length bytes ≡ 512 * n → ((i : ℕ) → i < n → take 512 (drop (512 * i) bytes) ≡ image (at + i)) →
-    sectors_from image at n ≡ bytes
+sectors_are : (image : Image) (at n : ℕ) (bytes : List ℕ) → length bytes ≡ 512 * n →
+    ((i : ℕ) → i < n → take 512 (drop (512 * i) bytes) ≡ image (at + i)) → sectors_from image at n ≡ bytes
 unfolding sectors_from
 sectors_are image at zero bytes size same = no_bytes bytes (omega (arith, size))
 sectors_are image at (suc n) bytes size same =
@@ -24,7 +24,8 @@ sectors_are image at (suc n) bytes size same =
     ∙ ap (λ (back : List ℕ). take 512 bytes ++ back) rest ∙ take-append-drop 512 bytes
 
 pub whole_sectors : (image : Image) (at : ℕ) (bytes : List ℕ) → length bytes % 512 ≡ 0 →
-    ((i : ℕ) → i < length bytes / 512 → take 512 (drop (512 * i) bytes) ≡ image (at + i)) → sectors_from image at (length bytes / 512) ≡ bytes
+    ((i : ℕ) → i < length bytes / 512 → take 512 (drop (512 * i) bytes) ≡ image (at + i)) →
+    sectors_from image at (length bytes / 512) ≡ bytes
 whole_sectors image at bytes whole same = sectors_are image at (length bytes / 512) bytes (omega arith) same
 
 -- the bytes of one sector
@@ -32,13 +33,15 @@ pub one_from : (image : Image) (at : ℕ) → sectors_from image at 1 ≡ image 
 unfolding sectors_from
 one_from image at = append-nil (image at)
 
-same_rest : (at n : ℕ) (old new : Image) → ((i : ℕ) → i < suc n → new (at + i) ≡ old (at + i)) → (i : ℕ) → i < n → new (at + 1 + i) ≡ old (at + 1 + i)
+same_rest : (at n : ℕ) (old new : Image) → ((i : ℕ) → i < suc n → new (at + i) ≡ old (at + i)) → (i : ℕ) → i < n →
+    new (at + 1 + i) ≡ old (at + 1 + i)
 same_rest at n old new same i lt =
     let place : at + (i + 1) ≡ at + 1 + i = omega arith in
     subst (λ (k : ℕ). new k ≡ old k) place (same (i + 1) (omega (arith, lt)))
 
 -- the bytes of sectors are those of each
-pub same_sectors : (at n : ℕ) (old new : Image) → ((i : ℕ) → i < n → new (at + i) ≡ old (at + i)) → sectors_from new at n ≡ sectors_from old at n
+pub same_sectors : (at n : ℕ) (old new : Image) → ((i : ℕ) → i < n → new (at + i) ≡ old (at + i)) →
+    sectors_from new at n ≡ sectors_from old at n
 unfolding sectors_from
 same_sectors at zero old new same = refl
 same_sectors at (suc n) old new same =

@@ -51,7 +51,8 @@ take_bytes : (bytes : List ℕ) (i : ℕ) → take (24 * (i + 1)) bytes ≡ take
 take_bytes bytes i = grind (arith, nat_tests, take-add (24 * i) 24 bytes)
 
 pub slot_read : (g : Geometry) (age : ℕ) (bytes : List ℕ) (into : List Cap) (i : ℕ) (c : Cap) → i < 32
-    → AreRead g age bytes into i → IsKeptCap g age c → take 24 (drop (24 * i) bytes) ≡ capability_bytes c → AreRead g age bytes (set into i c) (i + 1)
+    → AreRead g age bytes into i → IsKeptCap g age c → take 24 (drop (24 * i) bytes) ≡ capability_bytes c →
+    AreRead g age bytes (set into i c) (i + 1)
 slot_read g age bytes into i c lt before fits is =
     let more : take (i + 1) (set into i c) ≡ take i into ++ c ∷ [] = take_more_set into i c (omega (arith, before.count)) in
     record {
@@ -73,10 +74,12 @@ piece_is bytes at = let size : at + 24 - at ≡ 24 = omega arith in ap (λ (n : 
 piece_of : (cs : List Cap) (i : ℕ) (d : Cap) → i < length cs → take 24 (drop (24 * i) (slots_bytes cs)) ≡ capability_bytes (get_or cs i d)
 piece_of cs i d lt =
     let c : Cap = get_or cs i d in
-    let parts : cs ≡ take i cs ++ c ∷ drop (i + 1) cs = sym (take-append-drop i cs) ∙ ap (λ (r : List Cap). take i cs ++ r) (drop_more cs i d lt) in
+    let parts : cs ≡ take i cs ++ c ∷ drop (i + 1) cs = sym (take-append-drop i cs)
+    ∙ ap (λ (r : List Cap). take i cs ++ r) (drop_more cs i d lt) in
     let bytes_are : slots_bytes cs ≡ slots_bytes (take i cs) ++ (capability_bytes c ++ slots_bytes (drop (i + 1) cs)) =
     grind (arith, nat_tests, slots_bytes-append, slots_bytes-cons) in
-    let size : length (slots_bytes (take i cs)) ≡ 24 * i = length-slots (take i cs) ∙ ap (λ (n : ℕ). 24 * n) (omega (arith, length-take i cs)) in
+    let size : length (slots_bytes (take i cs)) ≡ 24 * i = length-slots (take i cs)
+    ∙ ap (λ (n : ℕ). 24 * n) (omega (arith, length-take i cs)) in
     ap (λ (bs : List ℕ). take 24 (drop (24 * i) bs)) bytes_are
     ∙ ap (take 24) (drop_at (slots_bytes (take i cs)) (capability_bytes c ++ slots_bytes (drop (i + 1) cs)) (24 * i) size)
     ∙ take_at (capability_bytes c) (slots_bytes (drop (i + 1) cs)) 24 (length-capability c)
@@ -89,14 +92,20 @@ none_spelt g age bytes i lt hold slots fits e =
     (ap (λ (bs : List ℕ). take 24 (drop (24 * i) bs)) e ∙ piece_of slots i void_held (omega (arith, fits.count)))
 
 -- given bytes spell at most one list of capabilities, whatever follows
-pub slots_split : (g : Geometry) (age : ℕ) (bs cs : List Cap) (x y : List ℕ) → All (IsKeptCap g age) bs → All (IsKeptCap g age) cs → length bs ≡ length cs
-    → slots_bytes bs ++ x ≡ slots_bytes cs ++ y → (bs ≡ cs) × (x ≡ y)
-slots_split g age [] [] x y fb fc len e = (refl, ap (λ (r : List ℕ). r ++ x) (sym slots_bytes-nil) ∙ e ∙ ap (λ (r : List ℕ). r ++ y) slots_bytes-nil)
+pub slots_split : (g : Geometry) (age : ℕ) (bs cs : List Cap) (x y : List ℕ) → All (IsKeptCap g age) bs → All (IsKeptCap g age) cs →
+    length bs ≡ length cs → slots_bytes bs ++ x ≡ slots_bytes cs ++ y → (bs ≡ cs) × (x ≡ y)
+slots_split g age [] [] x y fb fc len e = (
+  refl,
+  ap (λ (r : List ℕ). r ++ x) (sym slots_bytes-nil) ∙ e
+      ∙ ap (λ (r : List ℕ). r ++ y) slots_bytes-nil,
+)
 slots_split g age [] (c ∷ cs) x y fb fc len e = absurd (omega (arith, len))
 slots_split g age (b ∷ bs) [] x y fb fc len e = absurd (omega (arith, len))
 slots_split g age (b ∷ bs) (c ∷ cs) x y fb fc len e =
-    let left : slots_bytes (b ∷ bs) ++ x ≡ capability_bytes b ++ (slots_bytes bs ++ x) = grind (arith, nat_tests, slots_bytes-cons, append_assoc) in
-    let right : slots_bytes (c ∷ cs) ++ y ≡ capability_bytes c ++ (slots_bytes cs ++ y) = grind (arith, nat_tests, slots_bytes-cons, append_assoc) in
+    let left : slots_bytes (b ∷ bs) ++ x ≡ capability_bytes b ++ (slots_bytes bs ++ x) =
+    grind (arith, nat_tests, slots_bytes-cons, append_assoc) in
+    let right : slots_bytes (c ∷ cs) ++ y ≡ capability_bytes c ++ (slots_bytes cs ++ y) =
+    grind (arith, nat_tests, slots_bytes-cons, append_assoc) in
     let whole : capability_bytes b ++ (slots_bytes bs ++ x) ≡ capability_bytes c ++ (slots_bytes cs ++ y) = sym left ∙ e ∙ right in
     let first : b ≡ c = one_capability g age b c (All-head (IsKeptCap g age) b bs fb) (All-head (IsKeptCap g age) c cs fc)
     (sym (take_at (capability_bytes b) (slots_bytes bs ++ x) 24 (length-capability b)) ∙ ap (take 24) whole ∙
@@ -112,14 +121,24 @@ voids_are : (xs : List Cap) (n : ℕ) → length xs ≡ n → All (λ c. c ≡ v
 voids_are xs n len all = grind (arith, nat_tests, same_lists, length-replicate, get_or-replicate)
 
 are_voids : (xs : List Cap) (n : ℕ) → xs ≡ replicate n void_held → All (λ c. c ≡ void_held) xs
-are_voids xs n e = All-same (λ (c : Cap). c ≡ void_held) xs (replicate n void_held) e (All-replicate (λ (c : Cap). c ≡ void_held) n void_held refl)
+are_voids xs n e = All-same (λ (c : Cap). c ≡ void_held) xs (replicate n void_held) e
+    (All-replicate (λ (c : Cap). c ≡ void_held) n void_held refl)
 
 pub front_part : (slots : List Cap) (n : ℕ) → between 0 n slots ≡ take n slots
 front_part slots n = let e : n - 0 ≡ n = omega arith in ap (λ (m : ℕ). take m slots) e
 
 pub held_from : (slots caps : List Cap) → length slots ≡ 32 → length caps ≤ 32 → between 0 (length caps) slots ≡ caps
     → All (λ c. c ≡ void_held) (between (length caps) (length slots) slots) → slots ≡ caps ++ replicate (32 - length caps) void_held
-held_from slots caps len few front rest = grind (arith, nat_tests, voids_are, length-drop, All-same, take_rest, take-append-drop, front_part)
+held_from slots caps len few front rest = grind (
+  arith,
+  nat_tests,
+  voids_are,
+  length-drop,
+  All-same,
+  take_rest,
+  take-append-drop,
+  front_part,
+)
 
 pub held_rest : (slots caps : List Cap) → slots ≡ caps ++ replicate (32 - length caps) void_held →
     All (λ c. c ≡ void_held) (between (length caps) (length slots) slots)

@@ -43,7 +43,8 @@ own_slot [] i rising lt = absurd (omega (arith, lt))
 own_slot (e ∷ es) zero rising lt = slot_here e es e.object refl
 own_slot (e ∷ es) (suc i) rising lt =
     let less = rising_above es e i rising (omega (arith, lt)) in
-    slot_behind e es (entry_at es i).object (λ same. omega (arith, less, same)) ∙ own_slot es i (rising_behind e es rising) (omega (arith, lt))
+    slot_behind e es (entry_at es i).object (λ same. omega (arith, less, same))
+    ∙ own_slot es i (rising_behind e es rising) (omega (arith, lt))
 
 -- each object is less than those after it
 pub rising_to : (es : List Entry) (i j : ℕ) → AreRising es → i < j → j < length es → (entry_at es i).object < (entry_at es j).object
@@ -51,7 +52,8 @@ rising_to [] i j rising lt within = absurd (omega (arith, within))
 rising_to (e ∷ es) zero zero rising lt within = absurd (omega (arith, lt))
 rising_to (e ∷ es) zero (suc j) rising lt within = rising_above es e j rising (omega (arith, within))
 rising_to (e ∷ es) (suc i) zero rising lt within = absurd (omega (arith, lt))
-rising_to (e ∷ es) (suc i) (suc j) rising lt within = rising_to es i j (rising_behind e es rising) (omega (arith, lt)) (omega (arith, within))
+rising_to (e ∷ es) (suc i) (suc j) rising lt within = rising_to es i j (rising_behind e es rising) (omega (arith, lt))
+    (omega (arith, within))
 
 -- two entries have two objects
 pub two_objects : (es : List Entry) (i j : ℕ) → AreRising es → i < j → j < length es → (entry_at es i).object ≡ (entry_at es j).object → ⊥

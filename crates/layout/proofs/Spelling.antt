@@ -13,11 +13,12 @@ length_read image p generation es = length-map-range_with_len (frame_read image 
 pub read_at : (image : Image) (p : Plan) (generation : ℕ) (es : List Entry) (n : ℕ) → n < count_of p →
     frame_at (frames_read image p generation es) n ≡ frame_read image p generation es n
 unfolding frames_read
-read_at image p generation es n lt = get_or-map-range_with_len (frame_read image p generation es) 0 (count_of p) n n blank_frame lt (omega arith)
+read_at image p generation es n lt = get_or-map-range_with_len (frame_read image p generation es) 0 (count_of p) n n blank_frame lt
+    (omega arith)
 
 -- the frames of two images are the same where their bytes are
-pub read_same : (new old : Image) (p : Plan) (a b : ℕ) (ds es : List Entry) → ((n : ℕ) → n < count_of p → frame_in new p a ds n ≡ frame_in old p b es n) →
-    frames_read new p a ds ≡ frames_read old p b es
+pub read_same : (new old : Image) (p : Plan) (a b : ℕ) (ds es : List Entry) →
+    ((n : ℕ) → n < count_of p → frame_in new p a ds n ≡ frame_in old p b es n) → frames_read new p a ds ≡ frames_read old p b es
 unfolding frames_read
 read_same new old p a b ds es same = grind (arith, nat_tests, same_lists, length-map-range_with_len, get_or-map-range_with_len)
 

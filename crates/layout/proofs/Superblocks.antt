@@ -23,7 +23,8 @@ no_range = refl
 three : (a b c z : List ℕ) → (a ++ b ++ c) ++ z ≡ a ++ (b ++ (c ++ z))
 three a b c z = simp append_assoc
 
-cons_range : (r : HomeRange) (rs : List HomeRange) → ranges_bytes (r ∷ rs) ≡ number r.first ++ (number r.count ++ (number r.sector ++ ranges_bytes rs))
+cons_range : (r : HomeRange) (rs : List HomeRange) → ranges_bytes (r ∷ rs) ≡ number r.first ++
+    (number r.count ++ (number r.sector ++ ranges_bytes rs))
 unfolding ranges_bytes
 cons_range r rs = three (number r.first) (number r.count) (number r.sector) (ranges_bytes rs)
 
@@ -31,7 +32,8 @@ append_ranges : (qs rs : List HomeRange) → ranges_bytes (qs ++ rs) ≡ ranges_
 unfolding ranges_bytes
 append_ranges qs rs = flat_map-append range_bytes qs rs
 
-push_range : (rs : List HomeRange) (r : HomeRange) → ranges_bytes (rs ++ r ∷ []) ≡ ranges_bytes rs ++ (number r.first ++ number r.count ++ number r.sector)
+push_range : (rs : List HomeRange) (r : HomeRange) → ranges_bytes (rs ++ r ∷ [])
+    ≡ ranges_bytes rs ++ (number r.first ++ number r.count ++ number r.sector)
 push_range rs r = grind (arith, nat_tests, append_ranges, cons_range, no_range, three, append-nil)
 
 pub length-ranges : (rs : List HomeRange) → length (ranges_bytes rs) ≡ 24 * length rs
@@ -47,8 +49,10 @@ three_same q r e = same_range q r (cc) (cc) (cc)
 four_deep : (a b c d x : List ℕ) → (a ++ (b ++ (c ++ d))) ++ x ≡ a ++ (b ++ (c ++ (d ++ x)))
 four_deep a b c d x = simp append_assoc
 
-with_rest : (r : HomeRange) (rs : List HomeRange) (x : List ℕ) → ranges_bytes (r ∷ rs) ++ x ≡ stream (r.first ∷ r.count ∷ r.sector ∷ []) (ranges_bytes rs ++ x)
-with_rest r rs x = ap (λ (z : List ℕ). z ++ x) (cons_range r rs) ∙ four_deep (number r.first) (number r.count) (number r.sector) (ranges_bytes rs) x
+with_rest : (r : HomeRange) (rs : List HomeRange) (x : List ℕ) → ranges_bytes (r ∷ rs) ++ x
+    ≡ stream (r.first ∷ r.count ∷ r.sector ∷ []) (ranges_bytes rs ++ x)
+with_rest r rs x = ap (λ (z : List ℕ). z ++ x) (cons_range r rs) ∙ four_deep (number r.first) (number r.count) (number r.sector)
+    (ranges_bytes rs) x
 
 pub ranges_split : (qs rs : List HomeRange) (x y : List ℕ) → All RangeFits qs → All RangeFits rs → length qs ≡ length rs →
     ranges_bytes qs ++ x ≡ ranges_bytes rs ++ y → (qs ≡ rs) × (x ≡ y)
@@ -60,7 +64,8 @@ ranges_split (q ∷ qs) (r ∷ rs) x y fq fr len e =
     let right : ranges_bytes (r ∷ rs) ++ y ≡ stream (r.first ∷ r.count ∷ r.sector ∷ []) (ranges_bytes rs ++ y) = with_rest r rs y in
     let hq = All-head RangeFits q qs fq in
     let hr = All-head RangeFits r rs fr in
-    let s = stream_splits (q.first ∷ q.count ∷ q.sector ∷ []) (r.first ∷ r.count ∷ r.sector ∷ []) (ranges_bytes qs ++ x) (ranges_bytes rs ++ y)
+    let s = stream_splits (q.first ∷ q.count ∷ q.sector ∷ []) (r.first ∷ r.count ∷ r.sector ∷ []) (ranges_bytes qs ++ x)
+    (ranges_bytes rs ++ y)
     (hq.0, (hq.1, (hq.2, tt))) (hr.0, (hr.1, (hr.2, tt))) refl (sym left ∙ e ∙ right) in
     let others = ranges_split qs rs x y (All-tail RangeFits q qs fq) (All-tail RangeFits r rs fr) (omega (arith, len)) s.1 in
     let first : q ≡ r = three_same q r s.0 in
@@ -73,9 +78,9 @@ pub record RangesRead (bytes : List ℕ) (into : List HomeRange) (i : ℕ) : Typ
 pub none_read : (bytes : List ℕ) (into : List HomeRange) → RangesRead bytes into 0
 none_read bytes into = record { bytes_are = sym no_range; each = All-nil RangeFits }
 
-pub range_read : (bytes : List ℕ) (into : List HomeRange) (i a b c : ℕ) → i < length into → RangesRead bytes into i → a < 2 ^ 64 → b < 2 ^ 64 → c < 2 ^ 64
-    → drop (24 * i) bytes ≡ number a ++ drop (24 * i + 8) bytes → drop (24 * i + 8) bytes ≡ number b ++ drop (24 * i + 8 + 8) bytes →
-    drop (24 * i + 16) bytes ≡ number c ++ drop (24 * i + 16 + 8) bytes
+pub range_read : (bytes : List ℕ) (into : List HomeRange) (i a b c : ℕ) → i < length into → RangesRead bytes into i → a < 2 ^ 64 →
+    b < 2 ^ 64 → c < 2 ^ 64 → drop (24 * i) bytes ≡ number a ++ drop (24 * i + 8) bytes →
+    drop (24 * i + 8) bytes ≡ number b ++ drop (24 * i + 8 + 8) bytes → drop (24 * i + 16) bytes ≡ number c ++ drop (24 * i + 16 + 8) bytes
     → RangesRead bytes (set into i (record { first = a; count = b; sector = c })) (i + 1)
 range_read bytes into i a b c lt before fa fb fc ea eb ec =
     let r : HomeRange = record { first = a; count = b; sector = c } in
@@ -88,14 +93,16 @@ range_read bytes into i a b c lt before fa fb fc ea eb ec =
     take_at (number a ++ number b ++ number c) (drop (24 * i + 16 + 8) bytes) 24 size in
     record {
       bytes_are = grind (arith, nat_tests, take-add, push_range);
-      each = All-same RangeFits (take (i + 1) (set into i r)) (take i into ++ r ∷ []) more (All-push RangeFits (take i into) r before.each (fa, fb, fc));
+      each = All-same RangeFits (take (i + 1) (set into i r)) (take i into ++ r ∷ []) more
+          (All-push RangeFits (take i into) r before.each (fa, fb, fc));
     }
 
 right_deep : (a b c d : List ℕ) → ((a ++ b) ++ c) ++ d ≡ a ++ (b ++ c ++ d)
 right_deep a b c d = simp append_assoc
 
-pub range_written : (rs : List HomeRange) (i : ℕ) (r : HomeRange) (old one two new : List ℕ) → i < length rs → take (24 * i) old ≡ ranges_bytes (take i rs)
-    → take (24 * i + 8) one ≡ take (24 * i) old ++ number r.first → take (24 * i + 8 + 8) two ≡ take (24 * i + 8) one ++ number r.count
+pub range_written : (rs : List HomeRange) (i : ℕ) (r : HomeRange) (old one two new : List ℕ) → i < length rs →
+    take (24 * i) old ≡ ranges_bytes (take i rs) → take (24 * i + 8) one ≡ take (24 * i) old ++ number r.first →
+    take (24 * i + 8 + 8) two ≡ take (24 * i + 8) one ++ number r.count
     → take (24 * i + 16 + 8) new ≡ take (24 * i + 16) two ++ number r.sector → r ≡ get_or rs i r
     → take (24 * (i + 1)) new ≡ ranges_bytes (take (i + 1) rs)
 range_written rs i r old one two new lt before ea eb ec is =
@@ -103,7 +110,8 @@ range_written rs i r old one two new lt before ea eb ec is =
     let place : 24 * i + 16 ≡ 24 * i + 8 + 8 = omega arith in
     let all : take (24 * i + 16 + 8) new ≡ ((ranges_bytes (take i rs) ++ number r.first) ++ number r.count) ++ number r.sector =
     ec ∙ ap (λ (x : List ℕ). x ++ number r.sector)
-    (ap (λ (n : ℕ). take n two) place ∙ eb ∙ ap (λ (x : List ℕ). x ++ number r.count) (ea ∙ ap (λ (x : List ℕ). x ++ number r.first) before)) in
+    (ap (λ (n : ℕ). take n two) place ∙ eb ∙ ap (λ (x : List ℕ). x ++ number r.count)
+    (ea ∙ ap (λ (x : List ℕ). x ++ number r.first) before)) in
     ap (λ (n : ℕ). take n new) next ∙ all ∙ right_deep (ranges_bytes (take i rs)) (number r.first) (number r.count) (number r.sector)
     ∙ sym (push_range (take i rs) r) ∙ ap ranges_bytes (ap (λ (x : HomeRange). take i rs ++ x ∷ []) is ∙ sym (take_more rs i r lt))
 
@@ -131,7 +139,8 @@ front_half n rest fits =
     let parts : n ≡ n % 4294967296 + 4294967296 * (n / 4294967296) = omega arith in
     let whole : number n ≡ half_number (n % 4294967296) ++ half_number (n / 4294967296) = ap number parts ∙
     sym (halves_number (n % 4294967296) (n / 4294967296) (omega arith) (omega arith)) in
-    ap (λ (b : List ℕ). take 4 (b ++ rest)) whole ∙ ap (take 4) (append_assoc (half_number (n % 4294967296)) (half_number (n / 4294967296)) rest)
+    ap (λ (b : List ℕ). take 4 (b ++ rest)) whole ∙ ap (take 4) (append_assoc (half_number (n % 4294967296)) (half_number (n / 4294967296))
+    rest)
     ∙ take_at (half_number (n % 4294967296)) (half_number (n / 4294967296) ++ rest) 4 (length-half (n % 4294967296))
 
 half_reported : (m n : ℕ) → m < 2 ^ 32 → n < 2 ^ 32 → half_number m ≡ half_number n → m ≡ n
@@ -150,8 +159,8 @@ pub version_reported : (bytes : List ℕ) (second : ℕ) (v : Version) → drop 
     → take 4 (drop 8 bytes) ≡ half_number (version_number v)
 version_reported bytes second v next fits is = ap (take 4) next ∙ front_half second (drop 16 bytes) fits ∙ ap half_number is
 
-pub mark_from : (bytes : List ℕ) (m second : ℕ) (v : Version) → bytes ≡ number m ++ drop 8 bytes → drop 8 bytes ≡ number second ++ drop 16 bytes →
-    second < 2 ^ 64
+pub mark_from : (bytes : List ℕ) (m second : ℕ) (v : Version) → bytes ≡ number m ++ drop 8 bytes →
+    drop 8 bytes ≡ number second ++ drop 16 bytes → second < 2 ^ 64
     → m ≡ magic → second % 4294967296 ≡ version_number v → drop 256 bytes ≡ zeros 256 → HasMark bytes
 mark_from bytes m second v first next fits is reported blank = record {
   magic = ap (take 8) first ∙ take_at (number m) (drop 8 bytes) 8 (length-number m) ∙ ap number is ∙ sym magic_is;
@@ -161,7 +170,8 @@ mark_from bytes m second v first next fits is reported blank = record {
 
 pub magic_from : (bytes : List ℕ) (m : ℕ) → bytes ≡ number m ++ drop 8 bytes → m < 2 ^ 64 → HasMark bytes → m ≡ magic
 magic_from bytes m first fits mark =
-    let same : number m ≡ number magic = sym (take_at (number m) (drop 8 bytes) 8 (length-number m)) ∙ sym (ap (take 8) first) ∙ mark.magic ∙ magic_is in
+    let same : number m ≡ number magic = sym (take_at (number m) (drop 8 bytes) 8 (length-number m)) ∙ sym (ap (take 8) first) ∙ mark.magic
+    ∙ magic_is in
     (number_splits m magic [] [] fits (omega arith) (ap (λ (b : List ℕ). b ++ []) same)).0
 
 pub version_from : (bytes : List ℕ) (second : ℕ) (v : Version) → drop 8 bytes ≡ number second ++ drop 16 bytes → second < 2 ^ 64 →
@@ -173,8 +183,8 @@ version_from bytes second v next fits is = grind (arith, nat_tests, half_reporte
 
 module _ (bytes : List ℕ) (m second : ℕ) (first : bytes ≡ number m ++ drop 8 bytes) (next : drop 8 bytes ≡ number second ++ drop 16 bytes)
     (fits : second < 2 ^ 64) where
-  pub marked : (found : Option Version) → m ≡ magic → drop 256 bytes ≡ zeros 256 → IfSome found (λ v. second % 4294967296 ≡ version_number v) →
-      IfSome found (λ _. HasMark bytes)
+  pub marked : (found : Option Version) → m ≡ magic → drop 256 bytes ≡ zeros 256 →
+      IfSome found (λ v. second % 4294967296 ≡ version_number v) → IfSome found (λ _. HasMark bytes)
   marked None is blank reported = reported
   marked (Some v) is blank reported = mark_from bytes m second v first next fits is reported blank
 
@@ -183,7 +193,8 @@ module _ (bytes : List ℕ) (m second : ℕ) (first : bytes ≡ number m ++ drop
   versions_reported None reported = reported
   versions_reported (Some v) reported = version_reported bytes second v next fits reported
 
-  pub unmarked : (found : Option Version) → IfNone found ((v : Version) → second % 4294967296 ≡ version_number v → ⊥) → IfNone found (HasMark bytes → ⊥)
+  pub unmarked : (found : Option Version) → IfNone found ((v : Version) → second % 4294967296 ≡ version_number v → ⊥) →
+      IfNone found (HasMark bytes → ⊥)
   unmarked None reported = λ mark. reported mark.version.0 (version_from bytes second mark.version.0 next fits mark.version.1)
   unmarked (Some v) reported = reported
 
@@ -212,7 +223,8 @@ pub plan_stream : (p : Plan) → length p.ranges ≤ 8 → superblock_bytes p �
 unfolding superblock_bytes
 plan_stream p few =
     let small : version_number p.version < 2 ^ 32 = omega (arith, few_versions p.version) in
-    deep (codes "EROSCKPT") (half_number (version_number p.version)) (half_number (length p.ranges)) (number p.geometry.nodes) (number p.geometry.pages)
+    deep (codes "EROSCKPT") (half_number (version_number p.version)) (half_number (length p.ranges)) (number p.geometry.nodes)
+    (number p.geometry.pages)
     (number p.geometry.log) (number p.half_0) (number p.half_1) (number p.total) (ranges_bytes (eight_ranges p.ranges)) (zeros 256)
     ∙ ap (λ (m : List ℕ). m ++
     ((half_number (version_number p.version) ++ half_number (length p.ranges)) ++ stream (numbers_of p)
@@ -238,7 +250,8 @@ extent_of_range p k d lt is =
       length-map p.ranges (range_extent p.version p.geometry),
     )) in
     let same : get_or (extents p) k (range_extent p.version p.geometry d) ≡ range_extent p.version p.geometry (get_or p.ranges k d) =
-    get_or_append_left (map (range_extent p.version p.geometry) p.ranges) (half_extent p.geometry p.half_0 ∷ half_extent p.geometry p.half_1 ∷ [])
+    get_or_append_left (map (range_extent p.version p.geometry) p.ranges) (half_extent p.geometry p.half_0 ∷ half_extent p.geometry p.half_1
+    ∷ [])
     (range_extent p.version p.geometry d) k (omega (arith, length-map p.ranges (range_extent p.version p.geometry)))
     ∙ get_or-map (range_extent p.version p.geometry) p.ranges k d (range_extent p.version p.geometry d) lt in
     let bound = subst (IsWithin p.total) same e in
@@ -274,8 +287,9 @@ pub record IsPlanRead (p : Plan) (v : Version) (second : ℕ) (g : Geometry) (al
 abbrev geometry_of : ℕ → ℕ → ℕ → Geometry
 geometry_of n p r = record { nodes = n; pages = p; log = r }
 
-same_plan : (v : Version) (rs : List HomeRange) (a b c d e f a' b' c' d' e' f' : ℕ) → a ∷ b ∷ c ∷ d ∷ e ∷ f ∷ [] ≡ a' ∷ b' ∷ c' ∷ d' ∷ e' ∷ f' ∷ []
-    → plan_of v (geometry_of a b c) rs d e f ≡ plan_of v (geometry_of a' b' c') rs d' e' f'
+same_plan : (v : Version) (rs : List HomeRange) (a b c d e f a' b' c' d' e' f' : ℕ) →
+    a ∷ b ∷ c ∷ d ∷ e ∷ f ∷ [] ≡ a' ∷ b' ∷ c' ∷ d' ∷ e' ∷ f' ∷ [] → plan_of v (geometry_of a b c) rs d e f
+    ≡ plan_of v (geometry_of a' b' c') rs d' e' f'
 same_plan v rs a b c d e f a' b' c' d' e' f' same = grind (arith, nat_tests)
 
 list_tail : (a b : ℕ) (xs ys : List ℕ) → a ∷ xs ≡ b ∷ ys → (a ≡ b) × (xs ≡ ys)
@@ -288,8 +302,10 @@ pub plan_reported : (p : Plan) (v : Version) (bytes : List ℕ) (m second : ℕ)
 plan_reported p v bytes m second g all half_0 half_1 total fits ranges_fit eight read version is e =
     let pf = plan_fits p is in
     let s = stream_splits (m ∷ second ∷ numbers_of (plan_of v g all half_0 half_1 total)) (magic ∷ second_of p ∷ numbers_of p)
-    (ranges_bytes all ++ drop 256 bytes) (ranges_bytes (eight_ranges p.ranges) ++ zeros 256) fits pf.numbers refl (sym read ∙ e ∙ plan_stream p is.few) in
-    let rest = ranges_split all (eight_ranges p.ranges) (drop 256 bytes) (zeros 256) ranges_fit pf.ranges (eight ∙ sym (eight_long p.ranges is.few)) s.1 in
+    (ranges_bytes all ++ drop 256 bytes) (ranges_bytes (eight_ranges p.ranges) ++ zeros 256) fits pf.numbers refl
+    (sym read ∙ e ∙ plan_stream p is.few) in
+    let rest = ranges_split all (eight_ranges p.ranges) (drop 256 bytes) (zeros 256) ranges_fit pf.ranges
+    (eight ∙ sym (eight_long p.ranges is.few)) s.1 in
     let one = list_tail m magic (second ∷ numbers_of (plan_of v g all half_0 half_1 total)) (second_of p ∷ numbers_of p) s.0 in
     let two = list_tail second (second_of p) (numbers_of (plan_of v g all half_0 half_1 total)) (numbers_of p) one.1 in
     let small = few_versions p.version in
@@ -315,23 +331,32 @@ others_are p v second g all half_0 half_1 total read =
     drop_at p.ranges (replicate (8 - length p.ranges) unused) (length p.ranges) refl)
     (All-replicate (λ (r : HomeRange). r ≡ unused) (8 - length p.ranges) unused refl)
 
-pub all_from : (all : List HomeRange) (used : ℕ) → length all ≡ 8 → used ≤ 8 → All (λ r. r ≡ unused) (drop used all) → all ≡ eight_ranges (take used all)
+pub all_from : (all : List HomeRange) (used : ℕ) → length all ≡ 8 → used ≤ 8 → All (λ r. r ≡ unused) (drop used all) →
+    all ≡ eight_ranges (take used all)
 all_from all used eight few blank =
     let size : length (take used all) ≡ used = length-take-le used all (omega arith) in
-    let behind : drop used all ≡ replicate (8 - used) unused = grind (arith, nat_tests, same_lists, length-drop, length-replicate, get_or-replicate) in
-    sym (take-append-drop used all) ∙ ap (λ (r : List HomeRange). take used all ++ r) (behind ∙ ap (λ (n : ℕ). replicate (8 - n) unused) (sym size))
+    let behind : drop used all ≡ replicate (8 - used) unused = grind (
+      arith,
+      nat_tests,
+      same_lists,
+      length-drop,
+      length-replicate,
+      get_or-replicate,
+    ) in
+    sym (take-append-drop used all) ∙ ap (λ (r : List HomeRange). take used all ++ r)
+    (behind ∙ ap (λ (n : ℕ). replicate (8 - n) unused) (sym size))
 
 pub plan_found : (v : Version) (bytes : List ℕ) (second : ℕ) (g : Geometry) (all : List HomeRange) (half_0 half_1 total used : ℕ)
     → bytes ≡ stream (magic ∷ second ∷ numbers_of (plan_of v g all half_0 half_1 total)) (ranges_bytes all ++ drop 256 bytes)
-    → second % 4294967296 ≡ version_number v → used ≡ second / 4294967296 → used ≤ 8 → length all ≡ 8 → All (λ r. r ≡ unused) (drop used all) →
-    drop 256 bytes ≡ zeros 256
+    → second % 4294967296 ≡ version_number v → used ≡ second / 4294967296 → used ≤ 8 → length all ≡ 8 →
+    All (λ r. r ≡ unused) (drop used all) → drop 256 bytes ≡ zeros 256
     → bytes ≡ superblock_bytes (plan_of v g (take used all) half_0 half_1 total)
 plan_found v bytes second g all half_0 half_1 total used read version u few eight others blank =
     grind (arith, nat_tests, length-take-le, all_from, plan_stream)
 
 -- eight numbers are read, and the ranges after them
-pub eight_read : (bytes : List ℕ) (m s a b c d e f : ℕ) (all : List HomeRange) → bytes ≡ number m ++ drop 8 bytes → drop 8 bytes ≡ number s ++ drop 16 bytes →
-    drop 16 bytes ≡ number a ++ drop 24 bytes
+pub eight_read : (bytes : List ℕ) (m s a b c d e f : ℕ) (all : List HomeRange) → bytes ≡ number m ++ drop 8 bytes →
+    drop 8 bytes ≡ number s ++ drop 16 bytes → drop 16 bytes ≡ number a ++ drop 24 bytes
     → drop 24 bytes ≡ number b ++ drop 32 bytes → drop 32 bytes ≡ number c ++ drop 40 bytes → drop 40 bytes ≡ number d ++ drop 48 bytes →
     drop 48 bytes ≡ number e ++ drop 56 bytes
     → drop 56 bytes ≡ number f ++ drop 64 bytes → between 64 256 bytes ≡ ranges_bytes all →
@@ -357,9 +382,11 @@ one_plan p q ip iq e =
     let count : length p.ranges ≡ length q.ranges = omega (arith, two.0, small_p, small_q) in
     let ranges : p.ranges ≡ q.ranges = sym (take_at p.ranges (replicate (8 - length p.ranges) unused) (length p.ranges) refl) ∙
     ap (take (length p.ranges)) rest.0
-    ∙ ap (λ (n : ℕ). take n (eight_ranges q.ranges)) count ∙ take_at q.ranges (replicate (8 - length q.ranges) unused) (length q.ranges) refl in
+    ∙ ap (λ (n : ℕ). take n (eight_ranges q.ranges)) count ∙ take_at q.ranges (replicate (8 - length q.ranges) unused) (length q.ranges)
+    refl in
     ap (λ (rs : List HomeRange). plan_of p.version p.geometry rs p.half_0 p.half_1 p.total) ranges
-    ∙ same_plan p.version q.ranges p.geometry.nodes p.geometry.pages p.geometry.log p.half_0 p.half_1 p.total q.geometry.nodes q.geometry.pages q.geometry.log
+    ∙ same_plan p.version q.ranges p.geometry.nodes p.geometry.pages p.geometry.log p.half_0 p.half_1 p.total q.geometry.nodes
+    q.geometry.pages q.geometry.log
     q.half_0 q.half_1 q.total two.1
     ∙ ap (λ (v : Version). plan_of v q.geometry q.ranges q.half_0 q.half_1 q.total) version
 
@@ -377,8 +404,8 @@ pub plan_read : (bytes : List ℕ) (q : Plan) (made : Option Plan) → bytes ≡
     IfSome made (λ s. bytes ≡ superblock_bytes s)
 plan_read bytes q made read reported = grind (arith, nat_tests)
 
-pub none_read_of : (bytes : List ℕ) (q : Plan) (made : Option Plan) → ((p : Plan) → IsPlan p → bytes ≡ superblock_bytes p → q ≡ p) → IfNone made (IsPlan q → ⊥)
-    → IfNone made ((p : Plan) → IsPlan p → bytes ≡ superblock_bytes p → ⊥)
+pub none_read_of : (bytes : List ℕ) (q : Plan) (made : Option Plan) → ((p : Plan) → IsPlan p → bytes ≡ superblock_bytes p → q ≡ p) →
+    IfNone made (IsPlan q → ⊥) → IfNone made ((p : Plan) → IsPlan p → bytes ≡ superblock_bytes p → ⊥)
 none_read_of bytes q made same reported = grind (arith, nat_tests)
 
 -- ---- writing
@@ -389,7 +416,8 @@ rest_size n k few e = omega arith
 shift : (f a b z : List ℕ) → f ++ a ++ (b ++ z) ≡ f ++ ((a ++ b) ++ z)
 shift f a b z = simp append_assoc
 
-front_deep : (m v a b c d e f z : List ℕ) → (m ++ v ++ a ++ b ++ c ++ d ++ e ++ f) ++ z ≡ m ++ (v ++ (a ++ (b ++ (c ++ (d ++ (e ++ (f ++ z)))))))
+front_deep : (m v a b c d e f z : List ℕ) → (m ++ v ++ a ++ b ++ c ++ d ++ e ++ f) ++ z
+    ≡ m ++ (v ++ (a ++ (b ++ (c ++ (d ++ (e ++ (f ++ z)))))))
 front_deep m v a b c d e f z = simp append_assoc
 
 three_zeros : number 0 ++ number 0 ++ number 0 ≡ zeros 24
@@ -401,25 +429,36 @@ unused_bytes zero = no_range ∙ sym zeros_none
 unused_bytes (suc k) = grind (arith, nat_tests, cons_range, three, three_zeros, zeros_add, unused_bytes k)
 
 pub plan_written : (p : Plan) (blanked eight new : List ℕ) (k : ℕ) → length p.ranges ≤ 8 → blanked ≡ zeros 512
-    → IsWritten blanked (number magic ++ number (second_of p) ++ number p.geometry.nodes ++ number p.geometry.pages ++ number p.geometry.log ++ number p.half_0
+    → IsWritten blanked (number magic ++ number (second_of p) ++ number p.geometry.nodes ++ number p.geometry.pages ++ number p.geometry.log
+    ++ number p.half_0
     ++ number p.half_1 ++ number p.total) eight 64
     → k ≡ 24 * length p.ranges → new ≡ put_mid 64 k eight (ranges_bytes p.ranges) → new ≡ superblock_bytes p
 plan_written p blanked eight new k few blank was size is =
     let n : ℕ = length p.ranges in
-    let front : List ℕ = number magic ++ number (second_of p) ++ number p.geometry.nodes ++ number p.geometry.pages ++ number p.geometry.log ++ number p.half_0
+    let front : List ℕ = number magic ++ number (second_of p) ++ number p.geometry.nodes ++ number p.geometry.pages ++ number p.geometry.log
+    ++ number p.half_0
     ++ number p.half_1 ++ number p.total in
     let rest : drop (64 + k) eight ≡ ranges_bytes (replicate (8 - n) unused) ++ zeros 256 =
-    cc (drop-drop k 64 eight, drop_zeros 64 512, drop_zeros k 448, rest_size n k few size, zeros_add (24 * (8 - n)) 256, unused_bytes (8 - n)) in
+    cc (
+      drop-drop k 64 eight,
+      drop_zeros 64 512,
+      drop_zeros k 448,
+      rest_size n k few size,
+      zeros_add (24 * (8 - n)) 256,
+      unused_bytes (8 - n),
+    ) in
     is ∙ mid_put 64 k eight (ranges_bytes p.ranges)
     ∙ ap (λ (f : List ℕ). f ++ ranges_bytes p.ranges ++ drop (64 + k) eight) was.before
     ∙ ap (λ (r : List ℕ). front ++ ranges_bytes p.ranges ++ r) rest
     ∙ (shift front (ranges_bytes p.ranges) (ranges_bytes (replicate (8 - n) unused)) (zeros 256))
     ∙ ap (λ (r : List ℕ). front ++ (r ++ zeros 256)) (sym (append_ranges p.ranges (replicate (8 - n) unused)))
-    ∙ front_deep (number magic) (number (second_of p)) (number p.geometry.nodes) (number p.geometry.pages) (number p.geometry.log) (number p.half_0)
+    ∙ front_deep (number magic) (number (second_of p)) (number p.geometry.nodes) (number p.geometry.pages) (number p.geometry.log)
+    (number p.half_0)
     (number p.half_1) (number p.total) (ranges_bytes (eight_ranges p.ranges) ++ zeros 256)
     ∙ sym (plan_stream p few)
 
 pub front_same : (v n p r a b t v' n' p' r' a' b' t' : ℕ) → v ≡ v' → n ≡ n' → p ≡ p' → r ≡ r' → a ≡ a' → b ≡ b' → t ≡ t'
-    → number magic ++ number v ++ number n ++ number p ++ number r ++ number a ++ number b ++ number t ≡ number magic ++ number v' ++ number n' ++ number p' ++
+    → number magic ++ number v ++ number n ++ number p ++ number r ++ number a ++ number b ++ number t
+    ≡ number magic ++ number v' ++ number n' ++ number p' ++
     number r' ++ number a' ++ number b' ++ number t'
 front_same v n p r a b t v' n' p' r' a' b' t' ev en ep er ea eb et = rw (ev, en, ep, er, ea, eb, et) refl

@@ -26,7 +26,8 @@ header_extent h = record { sector = header_sector h; length = 2 }
 pub headers_spare : {size : ℕ} {image : Image} {b : Books} (h : CheckpointHeader) → IsIntact size image b → SparesKept b (header_extent h)
 headers_spare {size} {image} {b} h kept = grind (arith, nat_tests, frames_behind, homes_behind, places_within, half_within)
 
-module _ {size : ℕ} {b : Books} {next : CheckpointHeader} {old new : Image} (kept : IsIntact size old b) (only : SavesOnly b.plan next old new)
+module _ {size : ℕ} {b : Books} {next : CheckpointHeader} {old new : Image} (kept : IsIntact size old b)
+    (only : SavesOnly b.plan next old new)
     (spares : SparesKept b (directory_extent b.plan next.generation next.entries)) where
   between_kept : IsIntact size only.between b
   between_kept = kept_on size spares only.directory kept
@@ -50,14 +51,16 @@ slots_apart_directory p generation {s} m n lt le = grind (arith, nat_tests)
 pub directory_spares : {p : Plan} (generation m : ℕ) {es : List Entry} → IsPlan p → IsDirectory p.geometry es → m ≤ p.geometry.log →
     SparesFrames p generation es (directory_extent p generation m)
 directory_spares {p} generation m {es} fits is few n lt =
-    frame_apart p generation es n (directory_extent p generation m) (λ s slot. slots_apart_directory p generation m n (frame_slot_fits p n is slot) few)
+    frame_apart p generation es n (directory_extent p generation m) (λ s slot. slots_apart_directory p generation m n
+    (frame_slot_fits p n is slot) few)
     (λ _. home_apart generation fits lt (directories_inside p generation m few))
 
 -- ---- the header that is committed next
 
-pub next_fits : {room age : ℕ} (b : Books) → IsHeader room b.header → b.header.age < age → age ≤ 2 ^ 62 → taken_count b.frozen ≤ room → room ≤ 4096 →
-    IsHeader room (next_header age b)
-next_fits {age} b is later most few small = let more = one_more (b.header.entries == 0) in search (arith, is.generation, is.sequence, later, few, small)
+pub next_fits : {room age : ℕ} (b : Books) → IsHeader room b.header → b.header.age < age → age ≤ 2 ^ 62 → taken_count b.frozen ≤ room →
+    room ≤ 4096 → IsHeader room (next_header age b)
+next_fits {age} b is later most few small = let more = one_more (b.header.entries == 0) in
+    search (arith, is.generation, is.sequence, later, few, small)
 
 -- ---- the frames that are saved next
 
@@ -86,7 +89,8 @@ module _ {size : ℕ} {image : Image} {b : Books} (k : ℕ) (kept : IsIntact siz
   fs_fit = frozen_fits kept
 
   whole_at : {n s : ℕ} → n < count_of b.plan → slot_of (place_at b.frozen n) ≡ Some s → place_at b.frozen n ≡ Whole s
-  whole_at {n} {s} lt is = let less = whole_taken b.frozen in all_whole b.frozen n (omega (arith, was.1, stable)) (omega (arith, lt, kept.frozen.count)) is
+  whole_at {n} {s} lt is = let less = whole_taken b.frozen in all_whole b.frozen n (omega (arith, was.1, stable))
+      (omega (arith, lt, kept.frozen.count)) is
 
   slot_frame_in : (n : ℕ) {s : ℕ} → slot_of (place_at b.frozen n) ≡ Some s → frame_in image b.plan (b.header.generation + 1)
       (entries_of b.frozen) n ≡ slot_bytes image b.plan (b.header.generation + 1) s n
@@ -101,12 +105,12 @@ module _ {size : ℕ} {image : Image} {b : Books} (k : ℕ) (kept : IsIntact siz
   -- and each without a place, whose cluster has one, lies beside it as at home
   module _ (complete : AreComplete image b.plan (frozen_generation b) (entries_of b.frozen)) where
     -- where an object has no place it has the frame that lies at home, as before
-    home_frame : {n : ℕ} → n < count_of b.plan → slot_of (place_at b.frozen n) ≡ None → frame_in image b.plan (b.header.generation + 1) (entries_of b.frozen) n
-        ≡ frame_in image b.plan b.header.generation b.directory n
+    home_frame : {n : ℕ} → n < count_of b.plan → slot_of (place_at b.frozen n) ≡ None →
+        frame_in image b.plan (b.header.generation + 1) (entries_of b.frozen) n ≡ frame_in image b.plan b.header.generation b.directory n
     home_frame {n} lt none = grind (arith, nat_tests, slot_entries, at_home, beside_frame_slot, none_saved, in_frame_slot)
 
-    frame_next : (n : ℕ) → n < count_of b.plan → frame_read image b.plan (b.header.generation + 1) (entries_of b.frozen) n ≡ put_or (put_at frozen_puts n)
-        (frame_at saved_frames n)
+    frame_next : (n : ℕ) → n < count_of b.plan → frame_read image b.plan (b.header.generation + 1) (entries_of b.frozen) n
+        ≡ put_or (put_at frozen_puts n) (frame_at saved_frames n)
     frame_next n lt = grind (arith, nat_tests, home_frame, read_at, put_is, slot_frame_in, whole_at)
 
     -- the frames that are saved next are the saved ones with the frozen ones in their place
@@ -115,7 +119,8 @@ module _ {size : ℕ} {image : Image} {b : Books} (k : ℕ) (kept : IsIntact siz
     frames_next = search (arith, length_read, maps_same, frame_next)
 
     module _ {age : ℕ} (keepable : AreKeepable b.plan.geometry age (overlaid frozen_puts saved_frames)) where
-      keepable_at : {n : ℕ} → n < count_of b.plan → IsKeepable b.plan.geometry age n (frame_read image b.plan (b.header.generation + 1) (entries_of b.frozen) n)
+      keepable_at : {n : ℕ} → n < count_of b.plan → IsKeepable b.plan.geometry age n
+          (frame_read image b.plan (b.header.generation + 1) (entries_of b.frozen) n)
       keepable_at {n} lt = rw (← ap (λ (xs : List Frame). frame_at xs n) (sym frames_next)
           ∙ read_at image b.plan (b.header.generation + 1) (entries_of b.frozen) n lt) (keepable.each n lt)
 
@@ -124,106 +129,117 @@ module _ {size : ℕ} {image : Image} {b : Books} (k : ℕ) (kept : IsIntact siz
         by : (o : Option ℕ) → slot_of (place_at b.frozen n) ≡ o → IsSpelt image b.plan age (b.header.generation + 1) (entries_of b.frozen) n
         by None is =
             spelt_at image b.plan b.header.age age (b.header.generation + 1) (entries_of b.frozen) n
-            (spelt_same image image b.plan b.header.age (b.header.generation + 1) b.header.generation (entries_of b.frozen) b.directory n (home_frame lt is)
+            (spelt_same image image b.plan b.header.age (b.header.generation + 1) b.header.generation (entries_of b.frozen) b.directory n
+            (home_frame lt is)
             (kept.saved n lt)) (keepable_at lt)
         by (Some s) is =
             spelt_at image b.plan most age (b.header.generation + 1) (entries_of b.frozen) n
-            (subst (λ (bytes : List ℕ). IsFrameOf b.plan.geometry most n bytes (frame_from b.plan.geometry n bytes)) (sym (slot_frame_in n is))
+            (subst (λ (bytes : List ℕ). IsFrameOf b.plan.geometry most n bytes (frame_from b.plan.geometry n bytes))
+            (sym (slot_frame_in n is))
             (kept.frozen.spelt n s lt (whole_at lt is))) (keepable_at lt)
 
 -- ---- a commit
 
-module _ (disk : Disk) {b : Books} (k : ℕ) (kept : IsIntact disk.sectors disk.seen b) (running : b.frozen_size ≡ Some k) (stable : k ≤ whole_count b.frozen)
-    (complete : AreComplete disk.seen b.plan (frozen_generation b) (entries_of b.frozen)) {age : ℕ} (later : b.header.age < age) (most_age : age ≤ 2 ^ 62)
+module _ (disk : Disk) {b : Books} (k : ℕ) (kept : IsIntact disk.sectors disk.seen b) (running : b.frozen_size ≡ Some k)
+    (stable : k ≤ whole_count b.frozen)
+    (complete : AreComplete disk.seen b.plan (frozen_generation b) (entries_of b.frozen)) {age : ℕ} (later : b.header.age < age)
+    (most_age : age ≤ 2 ^ 62)
     (keepable : AreKeepable b.plan.geometry age
-    (overlaid (puts_in disk.seen b.plan (frozen_generation b) b.frozen) (frames_read disk.seen b.plan b.header.generation b.directory))) where
-  abbrev extent : Extent
-  extent = directory_extent b.plan (frozen_generation b) (taken_count b.frozen)
+    (overlaid (puts_in disk.seen b.plan (frozen_generation b) b.frozen) (frames_read disk.seen b.plan b.header.generation b.directory)))
+  where
+    abbrev extent : Extent
+    extent = directory_extent b.plan (frozen_generation b) (taken_count b.frozen)
 
-  abbrev es : List Entry
-  es = entries_of b.frozen
+    abbrev es : List Entry
+    es = entries_of b.frozen
 
-  abbrev putting : List Put
-  putting = puts_in disk.seen b.plan (working_generation b) b.working
+    abbrev putting : List Put
+    putting = puts_in disk.seen b.plan (working_generation b) b.working
 
-  abbrev after : Books
-  after = adopted (next_header age b) es b
+    abbrev after : Books
+    after = adopted (next_header age b) es b
 
-  directory_next : IsDirectory b.plan.geometry es
-  directory_next = fs_fit k kept running stable
+    directory_next : IsDirectory b.plan.geometry es
+    directory_next = fs_fit k kept running stable
 
-  inside_half : IsInside extent (half_extent b.plan.geometry (half_sector b.plan (frozen_generation b)))
-  inside_half = directories_inside b.plan (frozen_generation b) (taken_count b.frozen) kept.frozen.few
+    inside_half : IsInside extent (half_extent b.plan.geometry (half_sector b.plan (frozen_generation b)))
+    inside_half = directories_inside b.plan (frozen_generation b) (taken_count b.frozen) kept.frozen.few
 
-  spares_now : Spares b.plan b.header b.directory extent
-  spares_now = spares_other b.header (frozen_generation b) kept.plan kept.directory kept.header.entries (other_parity b.header.generation) inside_half
+    spares_now : Spares b.plan b.header b.directory extent
+    spares_now = spares_other b.header (frozen_generation b) kept.plan kept.directory kept.header.entries (other_parity b.header.generation)
+        inside_half
 
-  generation_is : working_generation b ≡ frozen_generation b + 1
-  generation_is = ap (generation_after b.header.generation) running
+    generation_is : working_generation b ≡ frozen_generation b + 1
+    generation_is = ap (generation_after b.header.generation) running
 
-  -- what was kept lies apart from the directory
-  spares_kept : SparesKept b extent
-  spares_kept = record {
-    frames = spares_now.frames;
-    homes = homes_spare (frozen_generation b) kept inside_half;
-    frozen = λ n s lt is. let less = kept.frozen.table.few n s (ap slot_of is) in slots_apart_directory b.plan (frozen_generation b) (taken_count b.frozen) n
-        (omega (arith, less, kept.frozen.few)) kept.frozen.few;
-    working = half_spares (working_generation b) (frozen_generation b) kept.plan (later_half b running) kept.working.table kept.working.few inside_half;
-  }
+    -- what was kept lies apart from the directory
+    spares_kept : SparesKept b extent
+    spares_kept = record {
+      frames = spares_now.frames;
+      homes = homes_spare (frozen_generation b) kept inside_half;
+      frozen = λ n s lt is. let less = kept.frozen.table.few n s (ap slot_of is) in
+          slots_apart_directory b.plan (frozen_generation b) (taken_count b.frozen) n
+          (omega (arith, less, kept.frozen.few)) kept.frozen.few;
+      working = half_spares (working_generation b) (frozen_generation b) kept.plan (later_half b running) kept.working.table
+          kept.working.few
+          inside_half;
+    }
 
-  abbrev blank : List Place
-  blank = replicate (length b.frozen) Nowhere
+    abbrev blank : List Place
+    blank = replicate (length b.frozen) Nowhere
 
-  none : (n : ℕ) → place_at blank n ≡ Nowhere
-  none n = blank_at (length b.frozen) n
+    none : (n : ℕ) → place_at blank n ≡ Nowhere
+    none n = blank_at (length b.frozen) n
 
-  no_place : ArePut disk.seen b.plan (frozen_generation b + 1) blank
-  no_place = grind (arith, nat_tests, length-replicate, tally-blank, blank_table, none)
+    no_place : ArePut disk.seen b.plan (frozen_generation b + 1) blank
+    no_place = grind (arith, nat_tests, length-replicate, tally-blank, blank_table, none)
 
-  committed_kept : IsIntact disk.sectors disk.seen after
-  committed_kept = record {
-    readable = search (
-      kept,
-      next_fits b kept.header later most_age kept.frozen.few kept.plan.geometry.most_log,
-      length_entries b.frozen,
-      directory_next,
-      spelt_next k kept running stable complete keepable,
-    );
-    few = omega arith;
-    moved = λ i lt. absurd (omega (arith, lt));
-    frozen = no_place;
-    running = none;
-    working = subst (λ (g : ℕ). ArePut disk.seen b.plan g b.working) generation_is kept.working;
-  }
+    committed_kept : IsIntact disk.sectors disk.seen after
+    committed_kept = record {
+      readable = search (
+        kept,
+        next_fits b kept.header later most_age kept.frozen.few kept.plan.geometry.most_log,
+        length_entries b.frozen,
+        directory_next,
+        spelt_next k kept running stable complete keepable,
+      );
+      few = omega arith;
+      moved = λ i lt. absurd (omega (arith, lt));
+      frozen = no_place;
+      running = none;
+      working = subst (λ (g : ℕ). ArePut disk.seen b.plan g b.working) generation_is kept.working;
+    }
 
-  committed_spares : SparesKept after extent
-  committed_spares = record {
-    frames = directory_spares (frozen_generation b) (taken_count b.frozen) kept.plan directory_next kept.frozen.few;
-    homes = λ i lt. absurd (omega (arith, lt));
-    frozen = none_spares b.plan (frozen_generation b + 1) blank extent none;
-    working = half_spares (frozen_generation b + 1) (frozen_generation b) kept.plan
-        (λ same. other_parity (frozen_generation b) (sym same)) kept.working.table kept.working.few inside_half;
-  }
+    committed_spares : SparesKept after extent
+    committed_spares = record {
+      frames = directory_spares (frozen_generation b) (taken_count b.frozen) kept.plan directory_next kept.frozen.few;
+      homes = λ i lt. absurd (omega (arith, lt));
+      frozen = none_spares b.plan (frozen_generation b + 1) blank extent none;
+      working = half_spares (frozen_generation b + 1) (frozen_generation b) kept.plan
+          (λ same. other_parity (frozen_generation b) (sym same)) kept.working.table kept.working.few inside_half;
+    }
 
-  abbrev stored_as : ℕ → List Put → List Frame → Stored
-  stored_as entries working frames = record {
-    working = working;
-    frozen = None;
-    saved = record { geometry = b.plan.geometry; frames = frames; generation = frozen_generation b; entries = entries; age = age };
-    to_move = entries - 0;
-  }
+    abbrev stored_as : ℕ → List Put → List Frame → Stored
+    stored_as entries working frames = record {
+      working = working;
+      frozen = None;
+      saved = record { geometry = b.plan.geometry; frames = frames; generation = frozen_generation b; entries = entries; age = age };
+      to_move = entries - 0;
+    }
 
-  pub committed_stored : stored_in disk.seen (adopted (next_header age b) (entries_of b.frozen) b) ≡ on_snapshots (committed puts age (frozen_of disk.seen b k))
-      (stored_in disk.seen b)
-  committed_stored =
-      ap (λ (g : ℕ). stored_as (taken_count b.frozen) (puts_in disk.seen b.plan g b.working)
-      (frames_read disk.seen b.plan (frozen_generation b) es)) (sym generation_is) ∙ ap (λ (fs : List Frame). stored_as (taken_count b.frozen) putting fs)
-      (frames_next k kept running stable complete) ∙ ap (λ (n : ℕ). stored_as n putting
-      (overlaid (puts_in disk.seen b.plan (frozen_generation b) b.frozen) (frames_read disk.seen b.plan b.header.generation b.directory)))
-      (taken_all k kept running stable)
-      ∙ same_move k (overlaid (puts_in disk.seen b.plan (frozen_generation b) b.frozen) (frames_read disk.seen b.plan b.header.generation b.directory)) where
-        same_move : (n : ℕ) (fs : List Frame) → stored_as n putting fs ≡ record (stored_as n putting fs) { to_move = n }
-        same_move n fs = let same : n - 0 ≡ n = omega arith in ap (λ (m : ℕ). record (stored_as n putting fs) { to_move = m }) same
+    pub committed_stored : stored_in disk.seen (adopted (next_header age b) (entries_of b.frozen) b)
+        ≡ on_snapshots (committed puts age (frozen_of disk.seen b k)) (stored_in disk.seen b)
+    committed_stored =
+        ap (λ (g : ℕ). stored_as (taken_count b.frozen) (puts_in disk.seen b.plan g b.working)
+        (frames_read disk.seen b.plan (frozen_generation b) es)) (sym generation_is)
+        ∙ ap (λ (fs : List Frame). stored_as (taken_count b.frozen) putting fs)
+        (frames_next k kept running stable complete) ∙ ap (λ (n : ℕ). stored_as n putting
+        (overlaid (puts_in disk.seen b.plan (frozen_generation b) b.frozen) (frames_read disk.seen b.plan b.header.generation b.directory)))
+        (taken_all k kept running stable)
+        ∙ same_move k (overlaid (puts_in disk.seen b.plan (frozen_generation b) b.frozen)
+        (frames_read disk.seen b.plan b.header.generation b.directory)) where
+          same_move : (n : ℕ) (fs : List Frame) → stored_as n putting fs ≡ record (stored_as n putting fs) { to_move = n }
+          same_move n fs = let same : n - 0 ≡ n = omega arith in ap (λ (m : ℕ). record (stored_as n putting fs) { to_move = m }) same
 
-  pub may_commit : IsDurable disk b → b.unwritten ≡ None → IsSoundOn disk b → MayAdopt disk b (next_header age b) (entries_of b.frozen)
-  may_commit is written sound = search (committed_kept, spares_now, spares_kept, committed_spares)
+    pub may_commit : IsDurable disk b → b.unwritten ≡ None → IsSoundOn disk b → MayAdopt disk b (next_header age b) (entries_of b.frozen)
+    may_commit is written sound = search (committed_kept, spares_now, spares_kept, committed_spares)

@@ -35,14 +35,16 @@ module _ {old new : Disk} {b : Books} {was now : Option Unwritten} {k : ℕ} (ke
   inside = record { starts = omega arith; ends = omega arith }
 
   spares : Spares b.plan b.header b.directory extent
-  spares = spares_other b.header (frozen_generation b) kept.plan kept.directory kept.header.entries (other_parity b.header.generation) inside
+  spares = spares_other b.header (frozen_generation b) kept.plan kept.directory kept.header.entries (other_parity b.header.generation)
+      inside
 
   working_spares : SparesPuts b.plan (working_generation b) b.working extent
-  working_spares = half_spares (working_generation b) (frozen_generation b) kept.plan (later_half b running) kept.working.table kept.working.few inside
+  working_spares = half_spares (working_generation b) (frozen_generation b) kept.plan (later_half b running) kept.working.table
+      kept.working.few inside
 
   -- the frozen frames stay in their slots
-  frozen_stay : (n s : ℕ) → n < count_of b.plan → place_at b.frozen n ≡ Whole s → slot_bytes after b.plan (frozen_generation b) s n ≡ slot_bytes before b.plan
-      (frozen_generation b) s n
+  frozen_stay : (n s : ℕ) → n < count_of b.plan → place_at b.frozen n ≡ Whole s →
+      slot_bytes after b.plan (frozen_generation b) s n ≡ slot_bytes before b.plan (frozen_generation b) s n
   frozen_stay n s lt is = search (arith, found_slot (entries_of b.frozen) n s (slot_entries b.frozen n ∙ ap slot_of is), slot_entries)
 
   pub puts_after : puts_in after b.plan (frozen_generation b) b.frozen ≡ puts_in before b.plan (frozen_generation b) b.frozen
@@ -87,7 +89,8 @@ module _ {old new : Disk} {b : Books} {was now : Option Unwritten} {k : ℕ} (ke
         search (is, running, sym (slot_entries b.frozen entry.object) ∙ own)
 
 -- what is kept doesn't depend on what is unwritten
-pub kept_with : {size : ℕ} {image : Image} {b : Books} {o : Option Unwritten} → IsIntact size image b → IsIntact size image (record b { unwritten = o })
+pub kept_with : {size : ℕ} {image : Image} {b : Books} {o : Option Unwritten} → IsIntact size image b →
+    IsIntact size image (record b { unwritten = o })
 kept_with kept = search
 
 -- once all slots are complete, nothing is unwritten, and nothing changes
@@ -99,8 +102,9 @@ pub record IsCompleted (old : Disk) (image : Image) (b : Books) (k : ℕ) (mid :
   pub sound : LeavesState old (saved_state image b) → LeavesState mid (saved_state mid.seen b)
   pub any_moment : LeavesState old (saved_state image b) → LeavesSaved old mid (kept_of (saved_state image b))
 
-pub ready : {old mid : Disk} {b : Books} {was now : Option Unwritten} {k : ℕ} → IsIntact old.sectors (mended old.seen was) b → b.frozen_size ≡ Some k →
-    Keeps b.plan (frozen_generation b) (entries_of b.frozen) old was mid now → now ≡ None → IsCompleted old (mended old.seen was) b k mid
+pub ready : {old mid : Disk} {b : Books} {was now : Option Unwritten} {k : ℕ} → IsIntact old.sectors (mended old.seen was) b →
+    b.frozen_size ≡ Some k → Keeps b.plan (frozen_generation b) (entries_of b.frozen) old was mid now → now ≡ None →
+    IsCompleted old (mended old.seen was) b k mid
 ready {old} {mid} {b} {was} {now} {k} kept running keeps none =
     let goes = goes_after kept running keeps {c = b} refl refl refl in
     let image : mended mid.seen now ≡ mid.seen = unmended none in
@@ -110,17 +114,20 @@ ready {old} {mid} {b} {was} {now} {k} kept running keeps none =
       frozen = ap (λ (i : Image). frozen_of i b k) (sym image) ∙ frozen_after kept running keeps;
       stored = ap (λ (i : Image). stored_in i b) (sym image) ∙ stored_after kept running keeps;
       sound = λ sound. subst (λ (i : Image). LeavesState mid (saved_state i b)) image (goes.sound sound);
-      any_moment = λ sound. leaves_raw was now (λ c. Holds old.sectors c (kept_of (saved_state (mended old.seen was) b))) (goes.any_moment sound);
+      any_moment = λ sound. leaves_raw was now (λ c. Holds old.sectors c (kept_of (saved_state (mended old.seen was) b)))
+          (goes.any_moment sound);
     }
 
 -- ---- said of the header and the entries that are committed
 
-pub keeps_at : (b : Books) {old mid : Disk} {was now : Option Unwritten} {h : CheckpointHeader} {es : List Entry} {age : ℕ} → h ≡ next_header age b →
-    es ≡ entries_of b.frozen → Keeps b.plan h.generation es old was mid now → Keeps b.plan (frozen_generation b) (entries_of b.frozen) old was mid now
+pub keeps_at : (b : Books) {old mid : Disk} {was now : Option Unwritten} {h : CheckpointHeader} {es : List Entry} {age : ℕ} →
+    h ≡ next_header age b → es ≡ entries_of b.frozen → Keeps b.plan h.generation es old was mid now →
+    Keeps b.plan (frozen_generation b) (entries_of b.frozen) old was mid now
 keeps_at b {old} {mid} {was} {now} {h} {es} {age} header entries keeps = grind (arith, nat_tests)
 
-pub complete_at : (b : Books) (image : Image) {h : CheckpointHeader} {es : List Entry} {age : ℕ} → h ≡ next_header age b → es ≡ entries_of b.frozen →
-    AreComplete image b.plan h.generation es → AreComplete image b.plan (frozen_generation b) (entries_of b.frozen)
+pub complete_at : (b : Books) (image : Image) {h : CheckpointHeader} {es : List Entry} {age : ℕ} → h ≡ next_header age b →
+    es ≡ entries_of b.frozen → AreComplete image b.plan h.generation es → AreComplete image b.plan (frozen_generation b)
+    (entries_of b.frozen)
 complete_at b image {h} {es} {age} header entries complete = grind (arith, nat_tests)
 
 -- what is to be saved may be
@@ -142,7 +149,8 @@ filled image {p} generation e old new fits is gathered copied others = record {
 }
 
 -- a block whose end stays has the same zeros
-blank_on : (end at : ℕ) (old new : List ℕ) → end ≤ at → length new ≡ length old → drop end new ≡ drop end old → IsBlankFrom at old → IsBlankFrom at new
+blank_on : (end at : ℕ) (old new : List ℕ) → end ≤ at → length new ≡ length old → drop end new ≡ drop end old → IsBlankFrom at old →
+    IsBlankFrom at new
 blank_on end at old new low size same blank =
     let sum : end + (at - end) ≡ at = omega (arith, low) in
     ap (λ (k : ℕ). drop k new) (sym sum) ∙ sym (drop-drop (at - end) end new) ∙ ap (drop (at - end)) same ∙ drop-drop (at - end) end old ∙
@@ -151,12 +159,13 @@ blank_on end at old new low size same blank =
 -- what follows the frames stays zeros
 pub ends_on : (p : Plan) (n : ℕ) (old new : List ℕ) → IsObject p.geometry n → length new ≡ length old →
     drop (shape_end (shape_of p n)) new ≡ drop (shape_end (shape_of p n)) old → EndsInZeros p n old → EndsInZeros p n new
-ends_on p n old new is size same ends at behind = blank_on (shape_end (shape_of p n)) at old new (behind n is refl) size same (ends at behind)
+ends_on p n old new is size same ends at behind = blank_on (shape_end (shape_of p n)) at old new (behind n is refl) size same
+    (ends at behind)
 
 -- ---- it is written into the slot of its entry
 
-half_of_slot : (p : Plan) (generation : ℕ) {slot : ℕ} → slot < p.geometry.log → IsInside (record { sector = slot_sector p generation slot; length = 8 })
-    (half_extent p.geometry (half_sector p generation))
+half_of_slot : (p : Plan) (generation : ℕ) {slot : ℕ} → slot < p.geometry.log →
+    IsInside (record { sector = slot_sector p generation slot; length = 8 }) (half_extent p.geometry (half_sector p generation))
 half_of_slot p generation low = record { starts = omega arith; ends = omega (arith, low) }
 
 -- what a slot then has
@@ -176,47 +185,50 @@ zeros_written p n old new u {now} size seen none zeros = grind (arith, nat_tests
 pub packed_read : (image : Image) (u : Unwritten) (p : Plan) (n : ℕ) → length u.bytes ≡ 4096 → place_length p n ≡ 8 →
     bytes_at (mended image (Some u)) u.sector p n ≡ shape_bytes (shape_of p n) u.bytes
 packed_read image u p n size long =
-    ap (λ (k : ℕ). shape_bytes (shape_of p n) (sectors_from (mended image (Some u)) u.sector k)) long ∙ ap (shape_bytes (shape_of p n)) (cluster_read image u size)
+    ap (λ (k : ℕ). shape_bytes (shape_of p n) (sectors_from (mended image (Some u)) u.sector k)) long
+    ∙ ap (shape_bytes (shape_of p n)) (cluster_read image u size)
 
-module _ {p : Plan} (generation : ℕ) {es : List Entry} (i : ℕ) (fits : IsPlan p) (is : IsDirectory p.geometry es) (within : i < length es) where
-  abbrev e : Entry
-  e = entry_at es i
+module _ {p : Plan} (generation : ℕ) {es : List Entry} (i : ℕ) (fits : IsPlan p) (is : IsDirectory p.geometry es) (within : i < length es)
+  where
+    abbrev e : Entry
+    e = entry_at es i
 
-  -- each that shares the home, and has no entry, isn't the entry's object
-  other_object : (n : ℕ) → slot_in es n ≡ None → n ≡ e.object → ⊥
-  other_object n none same = let never : None ≡ Some e.slot = sym none ∙ ap (slot_in es) same ∙ own_slot es i is.rising within in cc
+    -- each that shares the home, and has no entry, isn't the entry's object
+    other_object : (n : ℕ) → slot_in es n ≡ None → n ≡ e.object → ⊥
+    other_object n none same = let never : None ≡ Some e.slot = sym none ∙ ap (slot_in es) same ∙ own_slot es i is.rising within in cc
 
-  -- an entry whose frame takes its block alone has a home of its own
-  pub own_complete : (image : Image) → IsWhole (shape_of p e.object) → IsComplete image p generation es i
-  own_complete image own = grind (arith, nat_tests, other_object, alone)
+    -- an entry whose frame takes its block alone has a home of its own
+    pub own_complete : (image : Image) → IsWhole (shape_of p e.object) → IsComplete image p generation es i
+    own_complete image own = grind (arith, nat_tests, other_object, alone)
 
-  -- and one that follows another completes nothing
-  pub later_complete : (image : Image) → (0 < i) × (home_place p (entry_at es (i - 1)).object ≡ home_place p e.object) → IsComplete image p generation es i
-  later_complete image follows first n is_n same none = absurd (first (i - 1) (omega (arith, follows.0)) follows.1)
+    -- and one that follows another completes nothing
+    pub later_complete : (image : Image) → (0 < i) × (home_place p (entry_at es (i - 1)).object ≡ home_place p e.object) →
+        IsComplete image p generation es i
+    later_complete image follows first n is_n same none = absurd (first (i - 1) (omega (arith, follows.0)) follows.1)
 
-  -- the sectors of the slot that a cluster takes
-  abbrev sectors : Extent
-  sectors = record { sector = slot_sector p generation e.slot; length = 8 }
+    -- the sectors of the slot that a cluster takes
+    abbrev sectors : Extent
+    sectors = record { sector = slot_sector p generation e.slot; length = 8 }
 
-  slot_low : e.slot < p.geometry.log
-  slot_low = (is.each i (record { object = 0; slot = 0 }) within).slot
+    slot_low : e.slot < p.geometry.log
+    slot_low = (is.each i (record { object = 0; slot = 0 }) within).slot
 
-  -- lie apart from the other slots
-  others_apart : {j : ℕ} (n : ℕ) → j < length es → (j ≡ i → ⊥) → IsApart (place_extent p generation (entry_at es j).slot n) sectors
-  others_apart {j} n lt other = grind (arith, nat_tests)
+    -- lie apart from the other slots
+    others_apart : {j : ℕ} (n : ℕ) → j < length es → (j ≡ i → ⊥) → IsApart (place_extent p generation (entry_at es j).slot n) sectors
+    others_apart {j} n lt other = grind (arith, nat_tests)
 
-  module _ {image new : Image} (change : Elsewhere (slot_sector p generation e.slot) 8 image new) where
-    -- what the other slots and the homes have stays
-    pub slot_stays : {j : ℕ} (n : ℕ) → j < length es → (j ≡ i → ⊥) → slot_bytes new p generation (entry_at es j).slot n ≡ slot_bytes image p generation
-        (entry_at es j).slot n
-    slot_stays {j} n lt other = bytes_stay p n (others_apart n lt other) change
+    module _ {image new : Image} (change : Elsewhere (slot_sector p generation e.slot) 8 image new) where
+      -- what the other slots and the homes have stays
+      pub slot_stays : {j : ℕ} (n : ℕ) → j < length es → (j ≡ i → ⊥) → slot_bytes new p generation (entry_at es j).slot n
+          ≡ slot_bytes image p generation (entry_at es j).slot n
+      slot_stays {j} n lt other = bytes_stay p n (others_apart n lt other) change
 
-    pub homes_stay : {n : ℕ} → IsObject p.geometry n → bytes_at new (home_place p n) p n ≡ bytes_at image (home_place p n) p n
-    homes_stay {n} is_n = bytes_stay p n (home_apart generation fits is_n (half_of_slot p generation slot_low)) change
+      pub homes_stay : {n : ℕ} → IsObject p.geometry n → bytes_at new (home_place p n) p n ≡ bytes_at image (home_place p n) p n
+      homes_stay {n} is_n = bytes_stay p n (home_apart generation fits is_n (half_of_slot p generation slot_low)) change
 
-    -- so do the clusters that are complete
-    pub complete_stays : {j : ℕ} → j < i → IsComplete image p generation es j → IsComplete new p generation es j
-    complete_stays {j} less was = grind (arith, nat_tests, slot_stays, homes_stay)
+      -- so do the clusters that are complete
+      pub complete_stays : {j : ℕ} → j < i → IsComplete image p generation es j → IsComplete new p generation es j
+      complete_stays {j} less was = grind (arith, nat_tests, slot_stays, homes_stay)
 
 -- ---- the outcome for one entry's cluster
 
@@ -232,7 +244,8 @@ module _ {p : Plan} (generation : ℕ) {es : List Entry} (i : ℕ) (fits : IsPla
   object = (is.each i (record { object = 0; slot = 0 }) within).object
 
   module _ {old new : Disk} (now : Option Unwritten) (filled : IsFilled old.seen p generation (entry_at es i) bytes)
-      (seen : mended new.seen now ≡ mended old.seen (Some u)) (touches : Touches u.sector 8 old new) (either : (now ≡ None) ⊎ (now ≡ Some u)) where
+      (seen : mended new.seen now ≡ mended old.seen (Some u)) (touches : Touches u.sector 8 old new)
+      (either : (now ≡ None) ⊎ (now ≡ Some u)) where
     change : Elsewhere u.sector 8 old.seen (mended new.seen now)
     change = subst (Elsewhere u.sector 8 old.seen) (sym seen) (mended_elsewhere u)
 
@@ -244,7 +257,8 @@ module _ {p : Plan} (generation : ℕ) {es : List Entry} (i : ℕ) (fits : IsPla
         search (
           touches,
           change,
-          ap (λ (image : Image). slot_bytes image p generation entry.slot entry.object) seen ∙ packed_read old.seen u p entry.object size long ∙ filled.own,
+          ap (λ (image : Image). slot_bytes image p generation entry.slot entry.object) seen
+              ∙ packed_read old.seen u p entry.object size long ∙ filled.own,
           now_fits either,
         )
 
@@ -254,7 +268,8 @@ module _ {p : Plan} (generation : ℕ) {es : List Entry} (i : ℕ) (fits : IsPla
         let there : new.seen ≡ mended old.seen (Some u) = ap (mended new.seen) (sym none) ∙ seen in
         ap (λ (image : Image). slot_bytes image p generation entry.slot n) there ∙ packed_read old.seen u p n size long_n
         ∙ filled.others n is_n same (other_object generation i fits is within n no_slot)
-        ∙ sym (ap (λ (image : Image). bytes_at image (home_place p n) p n) there ∙ homes_stay generation i fits is within (mended_elsewhere u) is_n)
+        ∙ sym (ap (λ (image : Image). bytes_at image (home_place p n) p n) there
+        ∙ homes_stay generation i fits is within (mended_elsewhere u) is_n)
 
 -- what doesn't take its block alone has a cluster of 8 sectors
 cluster_length : (p : Plan) (n : ℕ) → (IsWhole (shape_of p n) → ⊥) → place_length p n ≡ 8
@@ -263,7 +278,8 @@ cluster_length p n other = grind (arith, nat_tests)
 pub whole_length : (p : Plan) (n : ℕ) → IsWhole (shape_of p n) → place_length p n ≡ 8 → ⊥
 whole_length p n whole long = grind (arith, nat_tests)
 
-pub long_of : (p : Plan) (n : ℕ) {s : Shape} {test : Bool} → s ≡ shape_of p n → test ≡ false → (IsWhole s → test ≡ true) → place_length p n ≡ 8
+pub long_of : (p : Plan) (n : ℕ) {s : Shape} {test : Bool} → s ≡ shape_of p n → test ≡ false → (IsWhole s → test ≡ true) →
+    place_length p n ≡ 8
 long_of p n {s} {test} is fails holds = cluster_length p n (λ whole.
     let never : false ≡ true = sym fails ∙ holds (subst IsWhole (sym is) whole) in cc)
 
@@ -273,22 +289,24 @@ long_of p n {s} {test} is fails holds = cluster_length p n (λ whole.
 pub touches_none : {at n : ℕ} {disk : Disk} → OnlyNow disk → Touches at n disk disk
 touches_none {at} {n} {disk} only_now = grind (arith, nat_tests)
 
-slots_hold : (p : Plan) (generation : ℕ) {slot : ℕ} → slot < p.geometry.log → IsInside (record { sector = slot_sector p generation slot; length = 8 })
+slots_hold : (p : Plan) (generation : ℕ) {slot : ℕ} → slot < p.geometry.log →
+    IsInside (record { sector = slot_sector p generation slot; length = 8 })
     (record { sector = half_sector p generation; length = 9 * p.geometry.log })
 slots_hold p generation low = record { starts = omega arith; ends = omega (arith, low) }
 
 -- after a write nothing is unwritten, or the same as before
-pub either_of : {T E : Type 0} {o p : Option Unwritten} (result : Result T E) → OnOk result (p ≡ None) → OnErr result (p ≡ o) → (p ≡ None) ⊎ (p ≡ o)
+pub either_of : {T E : Type 0} {o p : Option Unwritten} (result : Result T E) → OnOk result (p ≡ None) → OnErr result (p ≡ o) →
+    (p ≡ None) ⊎ (p ≡ o)
 either_of {T} {E} {o} {p} result none same = grind (arith, nat_tests)
 
 -- a cluster that the device failed to write lies on it
-pub unwritten_inside : {p : Plan} (generation : ℕ) {es : List Entry} {o : Option Unwritten} {u : Unwritten} → IsPlan p → IsDirectory p.geometry es →
-    IfUnwritten p generation es o → o ≡ Some u → u.sector + 8 ≤ p.total
+pub unwritten_inside : {p : Plan} (generation : ℕ) {es : List Entry} {o : Option Unwritten} {u : Unwritten} → IsPlan p →
+    IsDirectory p.geometry es → IfUnwritten p generation es o → o ≡ Some u → u.sector + 8 ≤ p.total
 unwritten_inside {p} generation {es} {o} {u} fits is has some = grind (arith, nat_tests, object, inside, half_of_slot, halves_within)
 
 -- a cluster that the device failed to write before is written
-pub keeps_written : {p : Plan} {generation : ℕ} {es : List Entry} {old new : Disk} {was now : Option Unwritten} → OnlyNow old → IsDirectory p.geometry es →
-    IfUnwritten p generation es was → mended new.seen now ≡ mended old.seen was
+pub keeps_written : {p : Plan} {generation : ℕ} {es : List Entry} {old new : Disk} {was now : Option Unwritten} → OnlyNow old →
+    IsDirectory p.geometry es → IfUnwritten p generation es was → mended new.seen now ≡ mended old.seen was
     → ((u : Unwritten) → was ≡ Some u → Touches u.sector 8 old new) → (was ≡ None → new ≡ old) → (now ≡ None) ⊎ (now ≡ was) →
     Keeps p generation es old was new now
 keeps_written {p} {generation} {es} {old} {new} {was} only_now is fits seen touches none either = record {
@@ -296,9 +314,13 @@ keeps_written {p} {generation} {es} {old} {new} {was} only_now is fits seen touc
   elsewhere = subst (Elsewhere (half_sector p generation) (9 * p.geometry.log) (mended old.seen was)) (sym seen)
       (record { before = λ i lt. refl; after = λ i le. refl });
   frames = λ i lt. ap (λ (image : Image). slot_bytes image p generation (entry_at es i).slot (entry_at es i).object) seen;
-  unwritten = elim either [ inl empty ↦ subst (IfUnwritten p generation es) (sym empty) tt | inr same ↦ subst (IfUnwritten p generation es) (sym same) fits ];
+  unwritten = elim either [
+    | inl empty ↦ subst (IfUnwritten p generation es) (sym empty) tt
+    | inr same ↦ subst (IfUnwritten p generation es) (sym same) fits
+  ];
 } where
-  touched : (o : Option Unwritten) → was ≡ o → IfUnwritten p generation es o → Touches (half_sector p generation) (9 * p.geometry.log) old new
+  touched : (o : Option Unwritten) → was ≡ o → IfUnwritten p generation es o →
+      Touches (half_sector p generation) (9 * p.geometry.log) old new
   touched None empty fits = subst (Touches (half_sector p generation) (9 * p.geometry.log) old) (sym (none empty)) (touches_none only_now)
   touched (Some u) some fits =
       touches_within (let inside = slots_hold p generation (is.each fits.index (record { object = 0; slot = 0 }) fits.within).slot in
@@ -315,7 +337,8 @@ keeps_more {p} {generation} {es} {i} {old} {mid} {new} {was} {now} fits is withi
     search (
       arith,
       touches_on so_far.touches (touches_within inside one.touches),
-      elsewhere_on half.sector half.length (mended old.seen was) mid.seen (mended new.seen now) so_far.elsewhere (elsewhere_within inside one.elsewhere),
+      elsewhere_on half.sector half.length (mended old.seen was) mid.seen (mended new.seen now) so_far.elsewhere
+          (elsewhere_within inside one.elsewhere),
       one.unwritten,
       cases_eq,
       one,
@@ -323,8 +346,8 @@ keeps_more {p} {generation} {es} {i} {old} {mid} {new} {was} {now} fits is withi
     )
 
 -- after the last one
-pub all_complete : (image : Image) (p : Plan) (generation : ℕ) (es : List Entry) → ((i : ℕ) → i < length es → IsComplete image p generation es i) →
-    AreComplete image p generation es
+pub all_complete : (image : Image) (p : Plan) (generation : ℕ) (es : List Entry) →
+    ((i : ℕ) → i < length es → IsComplete image p generation es i) → AreComplete image p generation es
 all_complete image p generation es each n s is_n none beside = search (arith, found_first p es n s beside)
 
 -- ---- where nothing is unwritten
@@ -340,8 +363,8 @@ without b none = subst (MayHaveUnwritten b) (sym none) tt
 -- ---- what is put leaves it
 
 -- a place with the slot of the one before
-held_torn : (b : Books) (o : Option Unwritten) {n : ℕ} (q : Place) → n < length b.frozen → slot_of q ≡ Some (slot_for b.frozen n) → MayHaveUnwritten b o →
-    MayHaveUnwritten (record b { frozen = set b.frozen n q }) o
+held_torn : (b : Books) (o : Option Unwritten) {n : ℕ} (q : Place) → n < length b.frozen → slot_of q ≡ Some (slot_for b.frozen n) →
+    MayHaveUnwritten b o → MayHaveUnwritten (record b { frozen = set b.frozen n q }) o
 held_torn b o {n} q lt is has = grind (arith, nat_tests, object, set_here, slot_kept, set_there)
 
 pub held_after : (b : Books) {o p : Option Unwritten} {n : ℕ} (q : Place) → n < length b.frozen → slot_of q ≡ Some (slot_for b.frozen n) →
@@ -353,7 +376,12 @@ pub entry_of : (b : Books) (o : Option Unwritten) → MayHaveUnwritten b o → I
 entry_of b None has = tt
 entry_of b (Some u) has =
     let entry = found_slot (entries_of b.frozen) has.object has.slot (slot_entries b.frozen has.object ∙ has.place) in
-    search (has, entry, has.sector_is ∙ ap (slot_sector b.plan (frozen_generation b)) (sym entry.slot_is), ap (place_length b.plan) entry.object_is ∙ has.sectors)
+    search (
+      has,
+      entry,
+      has.sector_is ∙ ap (slot_sector b.plan (frozen_generation b)) (sym entry.slot_is),
+      ap (place_length b.plan) entry.object_is ∙ has.sectors,
+    )
 
 -- ---- what a read of the device itself gives
 
@@ -381,15 +409,19 @@ module _ {disk : Disk} {b : Books} (is : IsDurable disk b) where
 
   -- the saved frames
   saved_raw : {n : ℕ} → n < count_of b.plan
-      → frame_in (seen_by disk.seen b) b.plan b.header.generation b.directory n ≡ frame_in disk.seen b.plan b.header.generation b.directory n
-  saved_raw {n} lt = raw disk.seen n (λ u some. (spares_other b.header (frozen_generation b) is.kept.plan is.kept.directory is.kept.header.entries
+      → frame_in (seen_by disk.seen b) b.plan b.header.generation b.directory n
+      ≡ frame_in disk.seen b.plan b.header.generation b.directory n
+  saved_raw {n} lt = raw disk.seen n (λ u some. (spares_other b.header (frozen_generation b) is.kept.plan is.kept.directory
+      is.kept.header.entries
       (other_parity b.header.generation) (cluster_inside some)).frames n lt)
 
   pub spelt_raw : {n : ℕ} → n < count_of b.plan → IsSpelt disk.seen b.plan b.header.age b.header.generation b.directory n
   spelt_raw {n} lt = grind (arith, nat_tests, spelt_same, saved_raw)
 
-  pub read_raw : {n : ℕ} → n < count_of b.plan → frame_read disk.seen b.plan b.header.generation b.directory n ≡ frame_at (stored_on disk b).saved.frames n
-  read_raw {n} lt = ap (frame_from b.plan.geometry n) (sym (saved_raw lt)) ∙ sym (read_at (seen_by disk.seen b) b.plan b.header.generation b.directory n lt)
+  pub read_raw : {n : ℕ} → n < count_of b.plan → frame_read disk.seen b.plan b.header.generation b.directory n
+      ≡ frame_at (stored_on disk b).saved.frames n
+  read_raw {n} lt = ap (frame_from b.plan.geometry n) (sym (saved_raw lt)) ∙ sym
+      (read_at (seen_by disk.seen b) b.plan b.header.generation b.directory n lt)
 
   -- homes
   pub home_raw : {n : ℕ} → n < count_of b.plan →
@@ -399,7 +431,8 @@ module _ {disk : Disk} {b : Books} (is : IsDurable disk b) where
   -- what lies in the half of the frames that were put since, also after a write
   pub working_again : (new : Image) {s : ℕ} (n : ℕ) → s < b.plan.geometry.log
       → slot_bytes (mended new b.unwritten) b.plan (working_generation b) s n ≡ slot_bytes new b.plan (working_generation b) s n
-  working_again new n low = raw new n (λ u some. other_half (working_generation b) (frozen_generation b) n is.kept.plan (later_half b (has_some some).running)
+  working_again new n low = raw new n (λ u some. other_half (working_generation b) (frozen_generation b) n is.kept.plan
+      (later_half b (has_some some).running)
       low (cluster_inside some))
 
   -- and in another slot of the frozen frames
@@ -431,6 +464,7 @@ module _ {disk : Disk} {b : Books} (is : IsDurable disk b) where
     own_spelt lt = grind (arith, nat_tests, shape_fits, own_long, own_bytes, has)
 
     -- and gives it
-    pub own_frame : {read : Frame} → ((u : Unwritten) → b.unwritten ≡ Some u → read ≡ frame_from b.plan.geometry n (shape_bytes (shape_of b.plan n) u.bytes))
-        → read ≡ slot_frame (seen_by disk.seen b) b.plan (frozen_generation b) s n
+    pub own_frame : {read : Frame} → ((u : Unwritten) → b.unwritten ≡ Some u →
+        read ≡ frame_from b.plan.geometry n (shape_bytes (shape_of b.plan n) u.bytes)) →
+        read ≡ slot_frame (seen_by disk.seen b) b.plan (frozen_generation b) s n
     own_frame reported = reported own.0 own.1 ∙ ap (frame_from b.plan.geometry n) (sym own_bytes)

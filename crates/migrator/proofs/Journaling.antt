@@ -1,4 +1,5 @@
--- One object is saved anew: its frame lies in the half of the log that the saved generation used, and it is the one entry of the generation after the next.
+-- One object is saved anew: its frame lies in the half of the log that the saved generation used, and it is the one entry of the generation
+-- after the next.
 use Rattle.migrator.proofs.Names.{nat_tests, IsIdle, MayReplace, Stays, ℕ, Option, None, List, [], length, get_or, set, refl, sym, ap, subst, arith, option_map}
 use Rattle.migrator.proofs.Names.{get_or_past, get_or_default, Frame, ObjectHeader, Geometry, frame_at, IsKeepable, AreKeptWords, Image, Disk, Entry, Extent}
 use Rattle.migrator.proofs.Names.{IsDirectory, entry_at, IsFrameOf, page_frame_bytes, frame_from, IsHeader, frame_in, frame_slot_in, slot_sector, half_sector}
@@ -19,16 +20,21 @@ use Rattle.migrator.proofs.Putting.{half_spares, homes_spare, idle_half, none_sp
 
 -- ---- a page with other words
 
-words_keepable : {g : Geometry} {age n : ℕ} {f : Frame} {words : List ℕ} → f.header.role ≡ role.Page → AreKeptWords 512 words → IsKeepable g age n f →
-    IsKeepable g age n (with_words words f)
+words_keepable : {g : Geometry} {age n : ℕ} {f : Frame} {words : List ℕ} → f.header.role ≡ role.Page → AreKeptWords 512 words →
+    IsKeepable g age n f → IsKeepable g age n (with_words words f)
 words_keepable {g} {age} {n} {f} {words} page fits is = grind (arith, nat_tests)
 
 pub words_fit : {words : List ℕ} → length words ≡ 512 → ((i : ℕ) → get_or words i 0 < 2 ^ 64) → AreKeptWords 512 words
-words_fit {words} count fits = record { count_is = count; each = λ i d lt. subst (λ (word : ℕ). word < 2 ^ 64) (sym (get_or_default words i d 0 lt)) (fits i) }
+words_fit {words} count fits = record {
+  count_is = count;
+  each = λ i d lt. subst (λ (word : ℕ). word < 2 ^ 64)
+      (sym (get_or_default words i d 0 lt)) (fits i);
+}
 
 -- its bytes
 page_spelt : (p : Plan) {age n : ℕ} (image : Image) (at : ℕ) {f : Frame} → p.geometry.nodes ≤ n → IsKeepable p.geometry age n f →
-    length (page_words f.content) ≡ 512 → sectors_from image at 9 ≡ page_frame_bytes f → IsFrameOf p.geometry age n (bytes_at image at p n) f
+    length (page_words f.content) ≡ 512 → sectors_from image at 9 ≡ page_frame_bytes f →
+    IsFrameOf p.geometry age n (bytes_at image at p n) f
 page_spelt p {age} {n} image at {f} le is few written =
     let shape : shape_of p n ≡ page_shape = grind (arith, nat_tests) in
     let spelt : page_frame_bytes f ≡ frame_bytes p.geometry n f = grind (arith, nat_tests) in
@@ -44,12 +50,13 @@ module _ {size : ℕ} {image : Image} {b : Books} (kept : IsIntact size image b)
   pub lies_home : (n : ℕ) → frame_in image b.plan b.header.generation b.directory n ≡ bytes_at image (home_place b.plan n) b.plan n
   lies_home n = at_home image b.plan b.header.generation b.directory n (none_saved n)
 
-  pub saved_read : {n : ℕ} → n < count_of b.plan → frame_at (frames_read image b.plan b.header.generation b.directory) n ≡ frame_from b.plan.geometry n
-      (bytes_at image (home_place b.plan n) b.plan n)
+  pub saved_read : {n : ℕ} → n < count_of b.plan → frame_at (frames_read image b.plan b.header.generation b.directory) n
+      ≡ frame_from b.plan.geometry n (bytes_at image (home_place b.plan n) b.plan n)
   saved_read {n} lt = read_at image b.plan b.header.generation b.directory n lt ∙ ap (frame_from b.plan.geometry n) (lies_home n)
 
   -- only an object is a page
-  page_known : {n : ℕ} → (frame_at (frames_read image b.plan b.header.generation b.directory) n).header.role ≡ role.Page → n < count_of b.plan
+  page_known : {n : ℕ} → (frame_at (frames_read image b.plan b.header.generation b.directory) n).header.role ≡ role.Page →
+      n < count_of b.plan
   page_known {n} page = grind (arith, nat_tests, get_or_past, length_read)
 
   saved_keepable : {n : ℕ} → n < count_of b.plan →
@@ -57,27 +64,30 @@ module _ {size : ℕ} {image : Image} {b : Books} (kept : IsIntact size image b)
   saved_keepable {n} lt = rw (read_at image b.plan b.header.generation b.directory n lt) (kept.saved n lt).0
 
 -- the header that was read of its home is the saved one
-pub header_read : {old : Image} {size : ℕ} (new : Image) {b : Books} → IsIntact size old b → b.header.entries ≡ 0 → {n at : ℕ} {shape : Shape} →
-    n < count_of b.plan → at ≡ home_place b.plan n → shape ≡ shape_of b.plan n
-    → (bytes_at new (home_place b.plan n) b.plan n ≡ bytes_at old (home_place b.plan n) b.plan n) → {header : ObjectHeader} → IsHeaderAt new at shape header →
-    header ≡ (frame_at (stored_in old b).saved.frames n).header
+pub header_read : {old : Image} {size : ℕ} (new : Image) {b : Books} → IsIntact size old b → b.header.entries ≡ 0 →
+    {n at : ℕ} {shape : Shape} → n < count_of b.plan → at ≡ home_place b.plan n → shape ≡ shape_of b.plan n
+    → (bytes_at new (home_place b.plan n) b.plan n ≡ bytes_at old (home_place b.plan n) b.plan n) → {header : ObjectHeader} →
+    IsHeaderAt new at shape header → header ≡ (frame_at (stored_in old b).saved.frames n).header
 header_read {old} {size} new {b} kept home {n} {at} lt place shape_is same is =
     is b.plan.geometry n ∙ ap (λ (s : Shape). (frame_from b.plan.geometry n (shaped_at new at s)).header) shape_is
     ∙ ap (λ (sector : ℕ). (frame_from b.plan.geometry n (bytes_at new sector b.plan n)).header) place
-    ∙ ap (λ (bytes : List ℕ). (frame_from b.plan.geometry n bytes).header) same ∙ sym (ap (λ (f : Frame). f.header) (saved_read kept home lt))
+    ∙ ap (λ (bytes : List ℕ). (frame_from b.plan.geometry n bytes).header) same
+    ∙ sym (ap (λ (f : Frame). f.header) (saved_read kept home lt))
 
 -- ---- and no checkpoint is on its way
 
-module _ {size : ℕ} {image : Image} {b : Books} (kept : IsIntact size image b) (free : b.frozen_size ≡ None) (home : b.header.entries ≡ 0) where
-  -- the half of the saved generation lies apart from all that is kept
-  spares_half : (g : ℕ) {e : Extent} → g % 2 ≡ b.header.generation % 2 → IsInside e (half_extent b.plan.geometry (half_sector b.plan g)) → SparesKept b e
-  spares_half g {e} same inside =
-      search (
-        (spares_log b.header b.directory g kept.plan kept.count home inside).frames,
-        homes_spare g kept inside,
-        none_spares b.plan (frozen_generation b) b.frozen e (nowhere_frozen kept free),
-        half_spares (working_generation b) g kept.plan (idle_half b free g same) kept.working.table kept.working.few inside,
-      )
+module _ {size : ℕ} {image : Image} {b : Books} (kept : IsIntact size image b) (free : b.frozen_size ≡ None) (home : b.header.entries ≡ 0)
+  where
+    -- the half of the saved generation lies apart from all that is kept
+    spares_half : (g : ℕ) {e : Extent} → g % 2 ≡ b.header.generation % 2 → IsInside e (half_extent b.plan.geometry (half_sector b.plan g)) →
+        SparesKept b e
+    spares_half g {e} same inside =
+        search (
+          (spares_log b.header b.directory g kept.plan kept.count home inside).frames,
+          homes_spare g kept inside,
+          none_spares b.plan (frozen_generation b) b.frozen e (nowhere_frozen kept free),
+          half_spares (working_generation b) g kept.plan (idle_half b free g same) kept.working.table kept.working.few inside,
+        )
 
 -- ---- a page is written into the first slot of that half
 
@@ -96,7 +106,8 @@ module _ {old new : Disk} {b : Books} (is : IsDurable old b) (free : b.frozen_si
   page_stays =
       let apart = spares_log b.header b.directory b.header.generation is.kept.plan is.kept.count home inside in
       search (
-        subst (λ (size : ℕ). IsIntact size (mended new.seen b.unwritten) b) (sym writes.size) (kept_on old.sectors spares mended_writes.elsewhere is.kept),
+        subst (λ (size : ℕ). IsIntact size (mended new.seen b.unwritten) b) (sym writes.size)
+            (kept_on old.sectors spares mended_writes.elsewhere is.kept),
         is.unwritten,
         stored_stays old.sectors spares mended_writes.elsewhere,
         goes_seen (goes_spared {b = b} {c = b} refl refl refl apart (touches mended_writes)),
@@ -105,12 +116,14 @@ module _ {old new : Disk} {b : Books} (is : IsDurable old b) (free : b.frozen_si
   -- the slot spells the page with its words, at each age from the saved one on
   pub spelt_page : (n : ℕ) {header : ObjectHeader} {words : List ℕ} → (frame_at (stored_on old b).saved.frames n).header.role ≡ role.Page →
       header ≡ (frame_at (stored_on old b).saved.frames n).header → AreKeptWords 512 words
-      → sectors_from new.seen (slot_sector b.plan b.header.generation 0) 9 ≡ page_frame_bytes (record { header = header; content = content.Page words }) →
-      (age : ℕ) → b.header.age ≤ age → IsFrameOf b.plan.geometry age n (first_bytes new.seen b n) (with_words words (frame_at (stored_on old b).saved.frames n))
+      → sectors_from new.seen (slot_sector b.plan b.header.generation 0) 9 ≡ page_frame_bytes
+      (record { header = header; content = content.Page words }) → (age : ℕ) → b.header.age ≤ age →
+      IsFrameOf b.plan.geometry age n (first_bytes new.seen b n) (with_words words (frame_at (stored_on old b).saved.frames n))
   spelt_page n {header} {words} page same fits written age le =
       let f : Frame = frame_at (stored_on old b).saved.frames n in
       let keepable : IsKeepable b.plan.geometry age n (with_words words f) =
-      words_keepable page fits (keepable_later b.plan.geometry b.header.age age le (saved_keepable is.kept home (page_known is.kept home page))) in
+      words_keepable page fits (keepable_later b.plan.geometry b.header.age age le
+      (saved_keepable is.kept home (page_known is.kept home page))) in
       let there = subst (λ (h : ObjectHeader). sectors_from new.seen (slot_sector b.plan b.header.generation 0) 9 ≡
       page_frame_bytes (record { header = h; content = content.Page words })) same written in
       page_spelt b.plan new.seen (slot_sector b.plan b.header.generation 0) keepable.kind.0 keepable fits.count_is there
@@ -123,8 +136,10 @@ one_entry n = record { object = n; slot = 0 } ∷ []
 one_fits : {p : Plan} {n : ℕ} → IsPlan p → n < count_of p → IsDirectory p.geometry (record { object = n; slot = 0 } ∷ [])
 one_fits {p} {n} fits lt = grind (arith, nat_tests)
 
-header_fits : {room age : ℕ} (b : Books) → IsHeader room b.header → b.header.age < age → age ≤ 2 ^ 62 → 1 ≤ room → IsHeader room (replaced_header age b)
-header_fits {age} b is later most some = let more = one_more (b.header.entries == 0) in search (arith, is.generation, is.sequence, later, some)
+header_fits : {room age : ℕ} (b : Books) → IsHeader room b.header → b.header.age < age → age ≤ 2 ^ 62 → 1 ≤ room →
+    IsHeader room (replaced_header age b)
+header_fits {age} b is later most some = let more = one_more (b.header.entries == 0) in
+    search (arith, is.generation, is.sequence, later, some)
 
 none_frozen : (f g : ℕ → FrozenPuts) (o : Option ℕ) → o ≡ None → option_map f o ≡ option_map g o
 none_frozen f g o is = grind (arith, nat_tests)
@@ -164,16 +179,18 @@ module _ {disk : Disk} {b : Books} {n age : ℕ} (may : MayReplace disk b n age)
   frame_here = grind (arith, nat_tests)
 
   -- a page shares its home with none
-  one_page : (i : ℕ) → i < 1 → {m : ℕ} → m < count_of b.plan → home_place b.plan (entry_at (one_entry n) i).object ≡ home_place b.plan m → n ≡ m
+  one_page : (i : ℕ) → i < 1 → {m : ℕ} → m < count_of b.plan → home_place b.plan (entry_at (one_entry n) i).object ≡ home_place b.plan m →
+      n ≡ m
   one_page i few {m} within same = grind (arith, nat_tests, alone, kept, page_own)
 
-  frame_there : {m : ℕ} → m < count_of b.plan → (n ≡ m → ⊥) → frame_in disk.seen b.plan again (one_entry n) m ≡ frame_in disk.seen b.plan b.header.generation
-      b.directory m
+  frame_there : {m : ℕ} → m < count_of b.plan → (n ≡ m → ⊥) → frame_in disk.seen b.plan again (one_entry n) m
+      ≡ frame_in disk.seen b.plan b.header.generation b.directory m
   frame_there {m} within other =
       at_home disk.seen b.plan again (one_entry n) m (beside_frame_slot b.plan (one_entry n) m (slot_behind entry [] m other) ∙
       none_beside b.plan (one_entry n) m (λ i few same. other (one_page i few within same))) ∙ sym (lies_home kept may.home m)
 
-  frames_next : frames_read disk.seen b.plan again (one_entry n) ≡ set (frames_read disk.seen b.plan b.header.generation b.directory) n frame
+  frames_next : frames_read disk.seen b.plan again (one_entry n) ≡ set (frames_read disk.seen b.plan b.header.generation b.directory) n
+      frame
   unfolding frames_read
   frames_next = grind (arith, nat_tests, map_set, frame_here, frame_there)
 
@@ -186,8 +203,8 @@ module _ {disk : Disk} {b : Books} {n age : ℕ} (may : MayReplace disk b n age)
   pub may_replace : MayAdopt disk b (replaced_header age b) (one_entry n)
   may_replace = search (arith, may_adopt_idle, parity, header_fits, some, directory_next, spelt_next, spares_log, inside_half)
 
-  pub replaced_on : stored_on disk (adopted (replaced_header age b) (one_entry n) b) ≡ on_snapshots (replaced age n (first_frame disk.seen b n))
-      (stored_on disk b)
+  pub replaced_on : stored_on disk (adopted (replaced_header age b) (one_entry n) b)
+      ≡ on_snapshots (replaced age n (first_frame disk.seen b n)) (stored_on disk b)
   replaced_on = idle_stored (replaced_header age b) (one_entry n) may.stands may.free (replaced age n frame) replaced_stored
 
 -- no checkpoint is on its way
@@ -198,14 +215,17 @@ size_none f o is = grind (arith, nat_tests)
 
 module _ {old mid : Disk} {b : Books} {n age : ℕ} {words : List ℕ} (idle : IsIdle old b) (stays : Stays old mid b b)
     (may : MayJournal age n (stored_on old b).saved)
-    (spelt : IsFrameOf b.plan.geometry age n (first_bytes mid.seen b n) (with_words words (frame_at (stored_on old b).saved.frames n))) where
-  -- the slot spells a frame, which is the page
-  found : IsFrameOf b.plan.geometry age n (first_bytes mid.seen b n) (first_frame mid.seen b n)
-      × (first_frame mid.seen b n ≡ with_words words (frame_at (stored_on old b).saved.frames n))
-  found = bytes_spelt b.plan.geometry age n (first_bytes mid.seen b n) (with_words words (frame_at (stored_on old b).saved.frames n)) spelt.0 spelt.1
+    (spelt : IsFrameOf b.plan.geometry age n (first_bytes mid.seen b n) (with_words words (frame_at (stored_on old b).saved.frames n)))
+  where
+    -- the slot spells a frame, which is the page
+    found : IsFrameOf b.plan.geometry age n (first_bytes mid.seen b n) (first_frame mid.seen b n)
+        × (first_frame mid.seen b n ≡ with_words words (frame_at (stored_on old b).saved.frames n))
+    found = bytes_spelt b.plan.geometry age n (first_bytes mid.seen b n) (with_words words (frame_at (stored_on old b).saved.frames n))
+        spelt.0 spelt.1
 
-  pub may_save_first : MayReplace mid b n age
-  may_save_first = search (stays.goes_on.sound idle.sound, found.0)
+    pub may_save_first : MayReplace mid b n age
+    may_save_first = search (stays.goes_on.sound idle.sound, found.0)
 
-  pub journaled_is : on_snapshots (replaced age n (first_frame mid.seen b n)) (stored_on mid b) ≡ on_snapshots (journaled age n words) (stored_on old b)
-  journaled_is = grind (arith, nat_tests, found)
+    pub journaled_is : on_snapshots (replaced age n (first_frame mid.seen b n)) (stored_on mid b)
+        ≡ on_snapshots (journaled age n words) (stored_on old b)
+    journaled_is = grind (arith, nat_tests, found)

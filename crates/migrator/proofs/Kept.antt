@@ -21,10 +21,12 @@ pub record GoesOnSeen (old new : Disk) (b c : Books) : Type 0 where
   pub any_moment : LeavesState old (saved_state old.seen b) → LeavesSaved old new (kept_of (saved_state old.seen b))
 
 -- the same over a device that is partly in memory
-pub goes_seen : {old new : Disk} {b c : Books} → GoesOnSeen (mended_disk old b.unwritten) (mended_disk new c.unwritten) b c → GoesOnDisk old new b c
+pub goes_seen : {old new : Disk} {b c : Books} → GoesOnSeen (mended_disk old b.unwritten) (mended_disk new c.unwritten) b c →
+    GoesOnDisk old new b c
 goes_seen {old} {new} {b} {c} goes = grind (arith, nat_tests)
 
-same_state : (image : Image) (b c : Books) → c.plan ≡ b.plan → c.header ≡ b.header → c.directory ≡ b.directory → saved_state image b ≡ saved_state image c
+same_state : (image : Image) (b c : Books) → c.plan ≡ b.plan → c.header ≡ b.header → c.directory ≡ b.directory →
+    saved_state image b ≡ saved_state image c
 same_state image b c plan header directory = rw (plan, header, directory) refl
 
 pub goes_spared : {old new : Disk} {b c : Books} {e : Extent} → c.plan ≡ b.plan → c.header ≡ b.header → c.directory ≡ b.directory →
@@ -43,22 +45,33 @@ goes_spared {old} {new} {b} {c} {e} plan header directory spares writes = record
 pub map_set : {X : Type 0} (f g : ℕ → X) (n k : ℕ) (x : X) → k < n → g k ≡ x → ((i : ℕ) → i < n → (i ≡ k → ⊥) → g i ≡ f i) →
     map g (range_with_len 0 n) ≡ set (map f (range_with_len 0 n)) k x
 map_set {X} f g n k x within here others =
-    grind (arith, nat_tests, same_lists, length-map-range_with_len, length-set, get_or-map-range_with_len, get_or-set_same, get_or-set_other)
+    grind (
+      arith,
+      nat_tests,
+      same_lists,
+      length-map-range_with_len,
+      length-set,
+      get_or-map-range_with_len,
+      get_or-set_same,
+      get_or-set_other,
+    )
 
 -- ---- what was put
 
-put_same : (new old : Image) (p : Plan) (g h n : ℕ) (place : Place) → ((s : ℕ) → place ≡ Whole s → slot_bytes new p g s n ≡ slot_bytes old p h s n) →
-    put_of new p g n place ≡ put_of old p h n place
+put_same : (new old : Image) (p : Plan) (g h n : ℕ) (place : Place) → ((s : ℕ) → place ≡ Whole s →
+    slot_bytes new p g s n ≡ slot_bytes old p h s n) → put_of new p g n place ≡ put_of old p h n place
 put_same new old p g h n place same = grind (arith, nat_tests)
 
 -- where their bytes are the same, so are they
 pub puts_same : (p : Plan) (g h : ℕ) (ps : List Place) (old new : Image) →
-    ((n s : ℕ) → n < count_of p → place_at ps n ≡ Whole s → slot_bytes new p g s n ≡ slot_bytes old p h s n) → puts_in new p g ps ≡ puts_in old p h ps
+    ((n s : ℕ) → n < count_of p → place_at ps n ≡ Whole s → slot_bytes new p g s n ≡ slot_bytes old p h s n) →
+    puts_in new p g ps ≡ puts_in old p h ps
 unfolding puts_in
 puts_same p g h ps old new same = grind (arith, nat_tests, maps_same, put_same)
 
 pub are_put_same : {p : Plan} {g h : ℕ} {ps : List Place} {old new : Image} →
-    ((n s : ℕ) → n < count_of p → place_at ps n ≡ Whole s → slot_bytes new p g s n ≡ slot_bytes old p h s n) → ArePut old p h ps → ArePut new p g ps
+    ((n s : ℕ) → n < count_of p → place_at ps n ≡ Whole s → slot_bytes new p g s n ≡ slot_bytes old p h s n) → ArePut old p h ps →
+    ArePut new p g ps
 are_put_same {p} {g} {h} {ps} {old} {new} same are = grind (arith, nat_tests)
 
 module _ (p : Plan) (generation : ℕ) (ps : List Place) {e : Extent} {old new : Image} (spares : SparesPuts p generation ps e)
@@ -74,41 +87,43 @@ module _ (p : Plan) (generation : ℕ) (ps : List Place) {e : Extent} {old new :
 
 -- ---- all of it
 
-pub stored_same : (new old : Image) (b : Books) → puts_in new b.plan (working_generation b) b.working ≡ puts_in old b.plan (working_generation b) b.working
-    → puts_in new b.plan (frozen_generation b) b.frozen ≡ puts_in old b.plan (frozen_generation b) b.frozen → saved_state new b ≡ saved_state old b →
-    stored_in new b ≡ stored_in old b
+pub stored_same : (new old : Image) (b : Books) → puts_in new b.plan (working_generation b) b.working
+    ≡ puts_in old b.plan (working_generation b) b.working → puts_in new b.plan (frozen_generation b) b.frozen
+    ≡ puts_in old b.plan (frozen_generation b) b.frozen → saved_state new b ≡ saved_state old b → stored_in new b ≡ stored_in old b
 stored_same new old b working frozen saved = grind (arith, nat_tests)
 
 -- what is saved can still be read
-pub readable_stays : {size : ℕ} {p : Plan} {h : CheckpointHeader} {es : List Entry} {e : Extent} {old new : Image} → SparesFrames p h.generation es e →
-    Elsewhere e.sector e.length old new → IsReadable size old p h es → IsReadable size new p h es
+pub readable_stays : {size : ℕ} {p : Plan} {h : CheckpointHeader} {es : List Entry} {e : Extent} {old new : Image} →
+    SparesFrames p h.generation es e → Elsewhere e.sector e.length old new → IsReadable size old p h es → IsReadable size new p h es
 readable_stays {size} {p} {h} {es} {e} {old} {new} spares change is = grind (arith, nat_tests, spelt_same, frame_stays)
 
 -- the frames of a home stay
-pub home_stays : (b : Books) {e : Extent} {old new : Image} → SparesFrames b.plan b.header.generation b.directory e → Elsewhere e.sector e.length old new →
-    (i : ℕ) → IsPlan b.plan → (entry_at b.directory i).object < count_of b.plan
+pub home_stays : (b : Books) {e : Extent} {old new : Image} → SparesFrames b.plan b.header.generation b.directory e →
+    Elsewhere e.sector e.length old new → (i : ℕ) → IsPlan b.plan → (entry_at b.directory i).object < count_of b.plan
     → IsApart (home_extent b.plan (entry_at b.directory i).object) e → IsHome old b.plan b.header.generation b.directory i →
     IsHome new b.plan b.header.generation b.directory i
 home_stays b {e} {old} {new} spares change i plan fits apart is = grind (arith, nat_tests, one_length, bytes_stay, frame_stays)
 
-module _ (size : ℕ) {b : Books} {e : Extent} {old new : Image} (spares : SparesKept b e) (change : Elsewhere e.sector e.length old new) where
-  pub stored_stays : stored_in new b ≡ stored_in old b
-  stored_stays = grind (arith, nat_tests, stored_same, puts_stay, state_stays)
+module _ (size : ℕ) {b : Books} {e : Extent} {old new : Image} (spares : SparesKept b e) (change : Elsewhere e.sector e.length old new)
+  where
+    pub stored_stays : stored_in new b ≡ stored_in old b
+    stored_stays = grind (arith, nat_tests, stored_same, puts_stay, state_stays)
 
-  object_fits : IsIntact size old b → {i : ℕ} → i < b.moved → (entry_at b.directory i).object < count_of b.plan
-  object_fits kept {i} lt = (kept.directory.each i (record { object = 0; slot = 0 }) (omega (arith, lt, kept.few, kept.count))).object
+    object_fits : IsIntact size old b → {i : ℕ} → i < b.moved → (entry_at b.directory i).object < count_of b.plan
+    object_fits kept {i} lt = (kept.directory.each i (record { object = 0; slot = 0 }) (omega (arith, lt, kept.few, kept.count))).object
 
-  pub kept_on : IsIntact size old b → IsIntact size new b
-  kept_on kept =
-      let moved : (i : ℕ) → i < b.moved → IsHome new b.plan b.header.generation b.directory i =
-      λ i lt. home_stays b spares.frames change i kept.plan (object_fits kept lt) (spares.homes i lt) (kept.moved i lt) in
-      search (
-        kept,
-        readable_stays spares.frames change kept.readable,
-        are_put_on b.plan (frozen_generation b) b.frozen spares.frozen change kept.frozen,
-        are_put_on b.plan (working_generation b) b.working spares.working change kept.working,
-      )
+    pub kept_on : IsIntact size old b → IsIntact size new b
+    kept_on kept =
+        let moved : (i : ℕ) → i < b.moved → IsHome new b.plan b.header.generation b.directory i =
+        λ i lt. home_stays b spares.frames change i kept.plan (object_fits kept lt) (spares.homes i lt) (kept.moved i lt) in
+        search (
+          kept,
+          readable_stays spares.frames change kept.readable,
+          are_put_on b.plan (frozen_generation b) b.frozen spares.frozen change kept.frozen,
+          are_put_on b.plan (working_generation b) b.working spares.working change kept.working,
+        )
 
 -- where no checkpoint is on its way nothing is frozen
-pub nowhere_frozen : {size : ℕ} {image : Image} {b : Books} → IsIntact size image b → b.frozen_size ≡ None → (n : ℕ) → place_at b.frozen n ≡ Nowhere
+pub nowhere_frozen : {size : ℕ} {image : Image} {b : Books} → IsIntact size image b → b.frozen_size ≡ None → (n : ℕ) →
+    place_at b.frozen n ≡ Nowhere
 nowhere_frozen {b} kept idle = subst (IsRunning b) idle kept.running

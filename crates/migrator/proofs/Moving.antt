@@ -24,11 +24,12 @@ pub no_checkpoint : {size : ℕ} {image : Image} {b : Books} → IsIntact size i
 no_checkpoint {b} kept some = not_running b b.frozen_size kept.running some
 
 -- sectors that hold no frame that was put: a home
-puts_home : {p : Plan} (generation : ℕ) {m : ℕ} {ps : List Place} → IsPlan p → IsTable ps → taken_count ps ≤ p.geometry.log → m < count_of p →
-    SparesPuts p generation ps (home_extent p m)
+puts_home : {p : Plan} (generation : ℕ) {m : ℕ} {ps : List Place} → IsPlan p → IsTable ps → taken_count ps ≤ p.geometry.log →
+    m < count_of p → SparesPuts p generation ps (home_extent p m)
 puts_home {p} generation {m} fits table few within n s lt is =
     let less = table.few n s (ap slot_of is) in
-    apart_turned (home_extent p m) (place_extent p generation s n) (home_apart generation fits within (place_inside p generation n (omega (arith, less, few))))
+    apart_turned (home_extent p m) (place_extent p generation s n) (home_apart generation fits within
+    (place_inside p generation n (omega (arith, less, few))))
 
 abbrev pub moved_books : Books → ℕ → Books
 moved_books b k = record b { moved = b.moved + k }
@@ -48,11 +49,13 @@ module _ {old : Disk} (new : Disk) {b : Books} (is : IsDurable old b) (some : b.
   -- ---- the next frame is copied
 
   module _ (first : IsFirst b.plan b.directory b.moved)
-      (touches : Touches (home_place b.plan (entry_at b.directory b.moved).object) (place_length b.plan (entry_at b.directory b.moved).object) old new) where
+      (touches : Touches (home_place b.plan (entry_at b.directory b.moved).object)
+      (place_length b.plan (entry_at b.directory b.moved).object) old new) where
     abbrev object : ℕ
     object = (entry_at b.directory b.moved).object
 
-    seen_touches : Touches (home_place b.plan object) (place_length b.plan object) (mended_disk old b.unwritten) (mended_disk new b.unwritten)
+    seen_touches : Touches (home_place b.plan object) (place_length b.plan object) (mended_disk old b.unwritten)
+        (mended_disk new b.unwritten)
     seen_touches = touches_mended b.unwritten touches
 
     in_list : b.moved < length b.directory
@@ -62,13 +65,15 @@ module _ {old : Disk} (new : Disk) {b : Books} (is : IsDurable old b) (some : b.
     object_fits = (is.kept.directory.each b.moved (record { object = 0; slot = 0 }) in_list).object
 
     spares : Spares b.plan b.header b.directory (home_extent b.plan object)
-    spares = spares_home is.kept.plan is.kept.directory is.kept.header.entries object_fits (own_slot b.directory b.moved is.kept.directory.rising in_list)
+    spares = spares_home is.kept.plan is.kept.directory is.kept.header.entries object_fits
+        (own_slot b.directory b.moved is.kept.directory.rising in_list)
 
     spares_all : SparesKept b (home_extent b.plan object)
     spares_all = grind (arith, nat_tests, spares, places_apart, in_list, object_fits, none_spares, nowhere_frozen, none, puts_home)
 
     kept_new : IsIntact new.sectors (seen_by new.seen b) b
-    kept_new = subst (λ (k : ℕ). IsIntact k (seen_by new.seen b) b) (sym touches.size) (kept_on old.sectors spares_all seen_touches.elsewhere is.kept)
+    kept_new = subst (λ (k : ℕ). IsIntact k (seen_by new.seen b) b) (sym touches.size)
+        (kept_on old.sectors spares_all seen_touches.elsewhere is.kept)
 
     stored_new : stored_on new b ≡ stored_on old b
     stored_new = stored_stays old.sectors spares_all seen_touches.elsewhere
@@ -95,30 +100,33 @@ module _ {old : Disk} (new : Disk) {b : Books} (is : IsDurable old b) (some : b.
     pub copied_durable : IsCopied old.seen new.seen b.plan b.header.generation b.directory (entry_at b.directory b.moved).object →
         IsDurable new (moved_books b 1)
     copied_durable copied =
-        let seen = subst (λ (o : Option Unwritten). IsCopied (mended old.seen o) (mended new.seen o) b.plan b.header.generation b.directory object)
+        let seen = subst (λ (o : Option Unwritten). IsCopied (mended old.seen o) (mended new.seen o) b.plan b.header.generation b.directory
+        object)
         (sym written) copied in
         record {
           kept = moved_one kept_new some (λ n lt same. seen n lt same ∙
-              sym (frame_stays b.plan b.header.generation b.directory (home_extent b.plan object) spares.frames seen_touches.elsewhere n lt));
+              sym (frame_stays b.plan b.header.generation b.directory (home_extent b.plan object) spares.frames seen_touches.elsewhere n
+              lt));
           unwritten = without (moved_books b 1) written;
         }
 
   -- ---- it went home with the one before it
 
-  pub passed_durable : 0 < b.moved → home_place b.plan (entry_at b.directory (b.moved - 1)).object ≡ home_place b.plan (entry_at b.directory b.moved).object →
-      IsDurable old (moved_books b 1)
+  pub passed_durable : 0 < b.moved → home_place b.plan (entry_at b.directory (b.moved - 1)).object
+      ≡ home_place b.plan (entry_at b.directory b.moved).object → IsDurable old (moved_books b 1)
   passed_durable one same = grind (arith, nat_tests)
 
 -- ---- one after the other
 
-pub goes_trans : (old mid new : Disk) (a b c : Books) → (stored_in (seen_by mid.seen b) b).saved ≡ (stored_in (seen_by old.seen a) a).saved →
-    GoesOnDisk old mid a b → GoesOnDisk mid new b c → GoesOnDisk old new a c
+pub goes_trans : (old mid new : Disk) (a b c : Books) → (stored_in (seen_by mid.seen b) b).saved
+    ≡ (stored_in (seen_by old.seen a) a).saved → GoesOnDisk old mid a b → GoesOnDisk mid new b c → GoesOnDisk old new a c
 goes_trans old mid new a b c same first second = record {
   plan = second.plan ∙ first.plan;
   size = second.size ∙ first.size;
   sound = λ sound. second.sound (first.sound sound);
   any_moment = λ sound.
-      leaves_on {old = old} {mid = mid} {new = new} {P = λ x. Holds old.sectors x (stored_in (seen_by old.seen a) a).saved} (first.any_moment sound)
+      leaves_on {old = old} {mid = mid} {new = new} {P = λ x. Holds old.sectors x (stored_in (seen_by old.seen a) a).saved}
+      (first.any_moment sound)
       (subst (λ (k : ℕ). LeavesOnly mid new (λ x. Holds k x (stored_in (seen_by old.seen a) a).saved)) first.size
       (subst (λ (s : SavedFrames). LeavesOnly mid new (λ x. Holds mid.sectors x s)) same (second.any_moment (first.sound sound))));
 }
@@ -136,11 +144,13 @@ module _ {disk : Disk} {b : Books} (only_now : (c : Image) → disk.left_since d
   pub moved_on : MovedBy disk disk b (moved_books b 1) 1
   moved_on = grind (arith, nat_tests)
 
-pub moved_more : {old mid new : Disk} {a b c : Books} {i k : ℕ} → MovedBy old mid a b i → MovedBy mid new b c k → MovedBy old new a c (i + k)
+pub moved_more : {old mid new : Disk} {a b c : Books} {i k : ℕ} → MovedBy old mid a b i → MovedBy mid new b c k →
+    MovedBy old new a c (i + k)
 moved_more {old} {mid} {new} {a} {b} {c} {i} {k} first second =
     let total : a.moved + i + k ≡ a.moved + (i + k) = omega arith in
     record {
-      books = second.books ∙ ap (λ (x : Books). record x { moved = x.moved + k }) first.books ∙ ap (λ (n : ℕ). record a { moved = n }) total;
+      books = second.books ∙ ap (λ (x : Books). record x { moved = x.moved + k }) first.books
+          ∙ ap (λ (n : ℕ). record a { moved = n }) total;
       stored = second.stored ∙ ap (λ (s : Stored). record s { to_move = b.header.entries - (b.moved + k) }) first.stored
           ∙ ap (λ (x : Books). record (stored_on old a) { to_move = x.header.entries - (x.moved + k) }) first.books
           ∙ ap (λ (n : ℕ). record (stored_on old a) { to_move = a.header.entries - n }) total;
@@ -157,11 +167,12 @@ move_left : {entries m count some : ℕ} → m ≤ entries → IsLesser some cou
 move_left few lesser = ⊎_elim (λ e. omega (arith, e, few)) (λ e. omega (arith, e, few, lesser.0)) lesser.2
 
 -- the device failed while some went home
-pub migrates_part : {T E U F : Type 0} {old mid : Disk} {a b : Books} {count k : ℕ} {e : E} {r : Result U F} → IsDurable mid b → IsSoundOn old a →
-    MovedBy old mid a b k → IsErr r → Counts {T = T} old mid (Err e) → Migrates old mid a b count r
+pub migrates_part : {T E U F : Type 0} {old mid : Disk} {a b : Books} {count k : ℕ} {e : E} {r : Result U F} → IsDurable mid b →
+    IsSoundOn old a → MovedBy old mid a b k → IsErr r → Counts {T = T} old mid (Err e) → Migrates old mid a b count r
 migrates_part {T} {E} {U} {F} {old} {mid} {a} {b} {count} {k} {e} {r} stands sound so_far failed counts = grind (arith, nat_tests)
 
-module _ {old mid : Disk} {a b : Books} {count some : ℕ} (few : a.moved ≤ a.header.entries) (lesser : IsLesser some count (a.header.entries - a.moved))
+module _ {old mid : Disk} {a b : Books} {count some : ℕ} (few : a.moved ≤ a.header.entries)
+    (lesser : IsLesser some count (a.header.entries - a.moved))
     (so_far : MovedBy old mid a b some) where
   abbrev before : Stored
   before = stored_on old a
@@ -173,8 +184,9 @@ module _ {old mid : Disk} {a b : Books} {count some : ℕ} (few : a.moved ≤ a.
   left_number = omega (arith, left_is)
 
   -- not all is home yet, or all was
-  pub migrates_left : {T E : Type 0} {value : T} → IsDurable mid b → IsSoundOn old a → (b.header.entries ≡ 0) ⊎ (b.moved < b.header.entries) →
-      mid.failures ≡ old.failures → Migrates {T = T} {E = E} old mid a b count (Ok value)
+  pub migrates_left : {T E : Type 0} {value : T} → IsDurable mid b → IsSoundOn old a →
+      (b.header.entries ≡ 0) ⊎ (b.moved < b.header.entries) → mid.failures ≡ old.failures →
+      Migrates {T = T} {E = E} old mid a b count (Ok value)
   migrates_left {T} {E} {value} stands sound why none =
       let same : b.header.entries ≡ a.header.entries = ap (λ (x : Books). x.header.entries) so_far.books in grind (arith, nat_tests)
 
@@ -187,8 +199,9 @@ module _ {old mid : Disk} {a b : Books} {count some : ℕ} (few : a.moved ≤ a.
     all_number = omega (arith, all_old, lesser.0)
 
     -- and a header was to say so
-    pub migrates_all : {T E U F : Type 0} {new : Disk} {c : Books} {r : Result T E} {s : Result U F} → IsSoundOn old a → mid.failures ≡ old.failures →
-        Publishes mid new b c (on_snapshots all_moved (stored_on mid b)) r → (is_err s ≡ is_err r) → Migrates old new a c count s
+    pub migrates_all : {T E U F : Type 0} {new : Disk} {c : Books} {r : Result T E} {s : Result U F} → IsSoundOn old a →
+        mid.failures ≡ old.failures → Publishes mid new b c (on_snapshots all_moved (stored_on mid b)) r → (is_err s ≡ is_err r) →
+        Migrates old new a c count s
     migrates_all {T} {E} {U} {F} {new} {c} {r} {s} sound none is same = grind (arith, nat_tests)
 
 -- ---- all that is saved is home, and a header says so
@@ -210,14 +223,17 @@ module _ {disk : Disk} {b : Books} (may : MayFinish disk b) where
   kept = idle_kept header [] may.stands idle
 
   -- an object's home frame is its saved frame
-  same_frame : {n : ℕ} → n < count_of b.plan → frame_in disk.seen b.plan b.header.generation [] n ≡ frame_in disk.seen b.plan b.header.generation b.directory n
+  same_frame : {n : ℕ} → n < count_of b.plan → frame_in disk.seen b.plan b.header.generation [] n
+      ≡ frame_in disk.seen b.plan b.header.generation b.directory n
   same_frame {n} lt = by (frame_slot_in b.plan b.directory n) refl where
-    by : (o : Option ℕ) → frame_slot_in b.plan b.directory n ≡ o → frame_in disk.seen b.plan b.header.generation [] n ≡ frame_in disk.seen b.plan
-        b.header.generation b.directory n
-    by None is = at_home disk.seen b.plan b.header.generation [] n refl ∙ sym (at_home disk.seen b.plan b.header.generation b.directory n is)
+    by : (o : Option ℕ) → frame_slot_in b.plan b.directory n ≡ o → frame_in disk.seen b.plan b.header.generation [] n
+        ≡ frame_in disk.seen b.plan b.header.generation b.directory n
+    by None is = at_home disk.seen b.plan b.header.generation [] n refl ∙ sym
+        (at_home disk.seen b.plan b.header.generation b.directory n is)
     by (Some s) is =
         let entry = frame_slot_entry b.plan b.directory n s is in
-        at_home disk.seen b.plan b.header.generation [] n refl ∙ kept.moved entry.index (omega (arith, entry.within, kept.count, may.all)) n lt
+        at_home disk.seen b.plan b.header.generation [] n refl ∙ kept.moved entry.index (omega (arith, entry.within, kept.count, may.all)) n
+        lt
         (sym entry.home_is)
 
   spelt_home : AreSpelt disk.seen b.plan b.header.age b.header.generation []
@@ -230,7 +246,8 @@ module _ {disk : Disk} {b : Books} (may : MayFinish disk b) where
   home_stored = grind (arith, nat_tests, read_same, same_frame)
 
   pub may_finish : MayAdopt disk b (home_header b.header) []
-  may_finish = may_adopt_idle header [] may.stands idle refl (home_fits kept.header may.some) refl (no_directory b.plan) spelt_home apart may.sound refl
+  may_finish = may_adopt_idle header [] may.stands idle refl (home_fits kept.header may.some) refl (no_directory b.plan) spelt_home apart
+      may.sound refl
 
   pub finished_stored : stored_on disk (adopted (home_header b.header) [] b) ≡ on_snapshots all_moved (stored_on disk b)
   finished_stored = idle_stored header [] may.stands idle all_moved home_stored

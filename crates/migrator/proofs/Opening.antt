@@ -39,17 +39,17 @@ frames_until image p generation es k = map (frame_read image p generation es) (r
 pub length-until : (image : Image) (p : Plan) (generation : ℕ) (es : List Entry) (k : ℕ) → length (frames_until image p generation es k) ≡ k
 length-until image p generation es k = length-map-range_with_len (frame_read image p generation es) 0 k
 
-pub frames_more : (image : Image) (p : Plan) (generation : ℕ) (es : List Entry) (k : ℕ) → frames_until image p generation es k ++ frame_read image p generation
-    es k ∷ [] ≡ frames_until image p generation es (k + 1)
+pub frames_more : (image : Image) (p : Plan) (generation : ℕ) (es : List Entry) (k : ℕ) →
+    frames_until image p generation es k ++ frame_read image p generation es k ∷ [] ≡ frames_until image p generation es (k + 1)
 frames_more image p generation es k = sym (map-range_with_len_more (frame_read image p generation es) 0 k k (omega arith))
 
-pub frames_all : (image : Image) (p : Plan) (generation : ℕ) (es : List Entry) → frames_until image p generation es (count_of p) ≡ frames_read image p
-    generation es
+pub frames_all : (image : Image) (p : Plan) (generation : ℕ) (es : List Entry) →
+    frames_until image p generation es (count_of p) ≡ frames_read image p generation es
 unfolding frames_read
 frames_all image p generation es = refl
 
-pub spelt_more : (image : Image) (p : Plan) (age generation : ℕ) (es : List Entry) (k : ℕ) → ((n : ℕ) → n < k → IsSpelt image p age generation es n) →
-    IsSpelt image p age generation es k
+pub spelt_more : (image : Image) (p : Plan) (age generation : ℕ) (es : List Entry) (k : ℕ) →
+    ((n : ℕ) → n < k → IsSpelt image p age generation es n) → IsSpelt image p age generation es k
     → (n : ℕ) → n < k + 1 → IsSpelt image p age generation es n
 spelt_more image p age generation es k below here n lt = elim (cases_lt n k) [
   | inl less ↦ below n less
@@ -59,11 +59,13 @@ spelt_more image p age generation es k below here n lt = elim (cases_lt n k) [
 -- ---- why an image is refused
 
 -- the frame of some object is none
-pub bad_frame : {image : Image} {size : ℕ} {p : Plan} {h : CheckpointHeader} {es : List Entry} {n : ℕ} (e : OpenFault) → HasPlan image size p →
-    HasHeader image p h → HasDirectory image p h es → n < count_of p → IsBadAt image p h es n e → IsBadFor image size e
+pub bad_frame : {image : Image} {size : ℕ} {p : Plan} {h : CheckpointHeader} {es : List Entry} {n : ℕ} (e : OpenFault) →
+    HasPlan image size p → HasHeader image p h → HasDirectory image p h es → n < count_of p → IsBadAt image p h es n e →
+    IsBadFor image size e
 bad_frame refusal.Failed plan header directory lt is = tt
 bad_frame refusal.NoMemory plan header directory lt is = tt
-bad_frame {image} {size} {p} {h} {es} {n} (refusal.Bad reason) plan header directory lt is = rw is.0 (p, h, es, plan, header, directory, (n, lt, is.1))
+bad_frame {image} {size} {p} {h} {es} {n} (refusal.Bad reason) plan header directory lt is =
+    rw is.0 (p, h, es, plan, header, directory, (n, lt, is.1))
 
 -- what was read of an object after others is refused for what is there
 pub refused_same : (p : Plan) (h : CheckpointHeader) (es : List Entry) (n : ℕ) (old new : Image) (e : OpenFault) → new ≡ old →
@@ -76,26 +78,27 @@ refused_same p h es n old new (refusal.Bad reason) same is =
 -- ---- a device that was read whole
 
 -- each crash leaves the state that was read, where all is durable
-pub opened_sound : (disk : Disk) {p : Plan} {h : CheckpointHeader} {es : List Entry} → Only disk.seen disk → HasPlan disk.seen disk.sectors p →
-    HasHeader disk.seen p h → HasDirectory disk.seen p h es → AreSpelt disk.seen p h.age h.generation es → LeavesState disk (state_in disk.seen p h es)
+pub opened_sound : (disk : Disk) {p : Plan} {h : CheckpointHeader} {es : List Entry} → Only disk.seen disk →
+    HasPlan disk.seen disk.sectors p → HasHeader disk.seen p h → HasDirectory disk.seen p h es →
+    AreSpelt disk.seen p h.age h.generation es → LeavesState disk (state_in disk.seen p h es)
 opened_sound disk {p} {h} {es} only plan header directory spelt c left =
     rw (agrees_is c disk.seen (only c left)) (denotes disk.seen disk.sectors p h es plan header directory spelt)
 
 -- ---- frames that are spelt are read, and never refused
 
 -- of bytes that are a function of an image
-pub read_is : {g : Geometry} {age n : ℕ} (bytes : Image → List ℕ) {old mid : Image} {f read : Frame} → Agrees mid old → IsFrameOf g age n (bytes old) f →
-    IsFrameOf g age n (bytes mid) read → read ≡ f
+pub read_is : {g : Geometry} {age n : ℕ} (bytes : Image → List ℕ) {old mid : Image} {f read : Frame} → Agrees mid old →
+    IsFrameOf g age n (bytes old) f → IsFrameOf g age n (bytes mid) read → read ≡ f
 read_is {g} {age} {n} bytes {old} {mid} {f} {read} same is found =
     one_frame g age n (bytes old) read f (subst (λ (i : Image). IsFrameOf g age n (bytes i) read) (agrees_is mid old same) found) is
 
-pub only_failed : {g : Geometry} {age n : ℕ} (bytes : Image → List ℕ) {old mid : Image} {f : Frame} → Agrees mid old → IsFrameOf g age n (bytes old) f →
-    (e : OpenFault) → IsRefused g age n (bytes mid) e → e ≡ refusal.Failed
+pub only_failed : {g : Geometry} {age n : ℕ} (bytes : Image → List ℕ) {old mid : Image} {f : Frame} → Agrees mid old →
+    IsFrameOf g age n (bytes old) f → (e : OpenFault) → IsRefused g age n (bytes mid) e → e ≡ refusal.Failed
 only_failed {g} {age} {n} bytes {old} {mid} {f} same is e refused = grind (arith, nat_tests, agrees_is)
 
 -- and where such a failure is passed on, it is reported exactly if the device failed
-pub failure_counts : {T U : Type 0} {old new : Disk} {e : OpenFault} {failed : Failed} → e ≡ refusal.Failed → CountsOpen {T = T} old new (Err e) →
-    Counts {T = U} {E = Failed} old new (Err failed)
+pub failure_counts : {T U : Type 0} {old new : Disk} {e : OpenFault} {failed : Failed} → e ≡ refusal.Failed →
+    CountsOpen {T = T} old new (Err e) → Counts {T = U} {E = Failed} old new (Err failed)
 failure_counts {T} {U} {old} {new} {e} {failed} is counts = grind (arith, nat_tests)
 
 module _ (old new : Disk) (b : Books) (reads : ReadsOnly old new) where
@@ -103,7 +106,8 @@ module _ (old new : Disk) (b : Books) (reads : ReadsOnly old new) where
   seen = agrees_is new.seen old.seen reads.seen
 
   fetched_kept : IsIntact old.sectors old.seen b → IsIntact new.sectors new.seen b
-  fetched_kept kept = subst (λ (i : Image). IsIntact new.sectors i b) (sym seen) (subst (λ (k : ℕ). IsIntact k old.seen b) (sym reads.size) kept)
+  fetched_kept kept = subst (λ (i : Image). IsIntact new.sectors i b) (sym seen)
+      (subst (λ (k : ℕ). IsIntact k old.seen b) (sym reads.size) kept)
 
   fetched_stored : stored_in new.seen b ≡ stored_in old.seen b
   fetched_stored = ap (λ (i : Image). stored_in i b) seen
@@ -113,15 +117,23 @@ module _ (old new : Disk) (b : Books) (reads : ReadsOnly old new) where
 
 -- nothing changes in what is stored
 pub read_stays : {old new : Disk} {b : Books} → ReadsOnly old new → IsDurable old b → Stays old new b b
-read_stays {old} {new} {b} reads is = search (arith, reads_mended b.unwritten reads, fetched_kept, fetched_stored, goes_seen, fetched_goes_on)
+read_stays {old} {new} {b} reads is = search (
+  arith,
+  reads_mended b.unwritten reads,
+  fetched_kept,
+  fetched_stored,
+  goes_seen,
+  fetched_goes_on,
+)
 
-pub reads_store : {D : Type 0} {disk : D → Disk} {old now : DurableState D} {back : D} → old ≡ now → IsDurable (disk old.beneath) old.books →
-    ReadsOnly (disk old.beneath) (disk back) → ReadsStore disk now (record { beneath = back; books = old.books })
+pub reads_store : {D : Type 0} {disk : D → Disk} {old now : DurableState D} {back : D} → old ≡ now →
+    IsDurable (disk old.beneath) old.books → ReadsOnly (disk old.beneath) (disk back) →
+    ReadsStore disk now (record { beneath = back; books = old.books })
 reads_store {D} {disk} {old} {now} {back} same is reads = search (arith, read_stays reads is, same)
 
 -- the slot of a whole place is one of the log
-pub whole_low : {image : Image} {p : Plan} {generation : ℕ} {ps : List Place} (n : ℕ) {s : ℕ} {place : Place} → ArePut image p generation ps →
-    place ≡ place_at ps n → place ≡ Whole s → s < p.geometry.log
+pub whole_low : {image : Image} {p : Plan} {generation : ℕ} {ps : List Place} (n : ℕ) {s : ℕ} {place : Place} →
+    ArePut image p generation ps → place ≡ place_at ps n → place ≡ Whole s → s < p.geometry.log
 whole_low n {s} are at is = let less = are.table.few n s (ap slot_of (sym at ∙ is)) in omega (arith, less, are.few)
 
 frozen_is : (image : Image) (b : Books) (o : Option ℕ) {n : ℕ} → n < count_of b.plan → IsRunning b o
@@ -129,8 +141,9 @@ frozen_is : (image : Image) (b : Books) (o : Option ℕ) {n : ℕ} → n < count
 frozen_is image b o {n} lt running = grind (arith, nat_tests, put_is)
 
 -- the frame below, by the place of the frozen one
-pub below_by : {size : ℕ} {image : Image} {b : Books} {n : ℕ} {place : Place} → n < count_of b.plan → IsIntact size image b → place_at b.frozen n ≡ place
-    → put_or (put_of image b.plan (frozen_generation b) n place) (frame_at (stored_in image b).saved.frames n) ≡ below_at (stored_in image b) n
+pub below_by : {size : ℕ} {image : Image} {b : Books} {n : ℕ} {place : Place} → n < count_of b.plan → IsIntact size image b →
+    place_at b.frozen n ≡ place → put_or (put_of image b.plan (frozen_generation b) n place) (frame_at (stored_in image b).saved.frames n)
+    ≡ below_at (stored_in image b) n
 below_by {size} {image} {b} {n} {place} lt kept at = grind (arith, nat_tests, frozen_is)
 
 -- the newest frame, by the place of the one that was put since
@@ -154,34 +167,37 @@ pub plan_refused : (image : Image) {size : ℕ} {bytes : List ℕ} (reason : Bad
     IsPlanRefused bytes reason → HasNoPlan image size reason
 plan_refused image {size} {bytes} reason is least whole refused = grind (arith, nat_tests)
 
-pub refused_plan : {T : Type 0} (result : Result T OpenFault) (image : Image) (size : ℕ) → IfErr result (λ why. IsUnplanned image size why) →
-    IfErr result (λ why. IsBadFor image size why)
+pub refused_plan : {T : Type 0} (result : Result T OpenFault) (image : Image) (size : ℕ) →
+    IfErr result (λ why. IsUnplanned image size why) → IfErr result (λ why. IsBadFor image size why)
 refused_plan {T} result image size none = grind (arith, nat_tests)
 
-pub plan_read : {image : Image} {size : ℕ} {bytes : List ℕ} {p : Plan} → image 0 ≡ bytes → 5 ≤ size → total_in bytes ≤ size → bytes ≡ superblock_bytes p →
-    IsPlan p → HasPlan image size p
+pub plan_read : {image : Image} {size : ℕ} {bytes : List ℕ} {p : Plan} → image 0 ≡ bytes → 5 ≤ size → total_in bytes ≤ size →
+    bytes ≡ superblock_bytes p → IsPlan p → HasPlan image size p
 plan_read {image} {size} {bytes} {p} is least whole spelt fits = grind (arith, nat_tests, total_reported)
 
 -- ---- looking a slot up
 
-pub found_at : (es : List Entry) {n i : ℕ} {e : Entry} → AreRising es → i < length es → e ≡ entry_at es i → e.object ≡ n → slot_in es n ≡ Some e.slot
+pub found_at : (es : List Entry) {n i : ℕ} {e : Entry} → AreRising es → i < length es → e ≡ entry_at es i → e.object ≡ n →
+    slot_in es n ≡ Some e.slot
 found_at es {i} rising lt is same = rw (← same, is) (own_slot es i rising lt)
 
-pub none_at : (es : List Entry) {n at : ℕ} → ((i : ℕ) → i < at → (entry_at es i).object < n) → ((i : ℕ) → at ≤ i → i < length es → n ≤ (entry_at es i).object) →
-    AreRising es → (at < length es → (entry_at es at).object ≡ n → ⊥) → slot_in es n ≡ None
+pub none_at : (es : List Entry) {n at : ℕ} → ((i : ℕ) → i < at → (entry_at es i).object < n) →
+    ((i : ℕ) → at ≤ i → i < length es → n ≤ (entry_at es i).object) → AreRising es → (at < length es → (entry_at es at).object ≡ n → ⊥) →
+    slot_in es n ≡ None
 none_at es {n} {at} below above rising other = grind (arith, nat_tests, no_slot, rising_to)
 
-pub below_more : (es : List Entry) (n middle : ℕ) → AreRising es → middle < length es → (entry_at es middle).object < n → (i : ℕ) → i < middle + 1 →
-    (entry_at es i).object < n
+pub below_more : (es : List Entry) (n middle : ℕ) → AreRising es → middle < length es → (entry_at es middle).object < n → (i : ℕ) →
+    i < middle + 1 → (entry_at es i).object < n
 below_more es n middle rising within less i lt = grind (arith, nat_tests, rising_to)
 
-pub above_more : (es : List Entry) (n middle : ℕ) → AreRising es → middle < length es → n ≤ (entry_at es middle).object → (i : ℕ) → middle ≤ i → i < length es →
-    n ≤ (entry_at es i).object
+pub above_more : (es : List Entry) (n middle : ℕ) → AreRising es → middle < length es → n ≤ (entry_at es middle).object → (i : ℕ) →
+    middle ≤ i → i < length es → n ≤ (entry_at es i).object
 above_more es n middle rising within less i le lt = grind (arith, nat_tests, rising_to)
 
 -- ---- a device that was read whole holds a store
 
-none_put : {image : Image} {p : Plan} {generation : ℕ} {ps : List Place} → ps ≡ replicate (count_of p) Nowhere → ArePut image p generation ps
+none_put : {image : Image} {p : Plan} {generation : ℕ} {ps : List Place} → ps ≡ replicate (count_of p) Nowhere →
+    ArePut image p generation ps
 none_put {image} {p} {generation} {ps} blank = grind (arith, nat_tests, length-replicate, tally-blank, blank_table, blank_at)
 
 module _ {old new : Disk} {p : Plan} {h : CheckpointHeader} {es : List Entry} {fs ws : List Place} (only_reads : OnlyReads old new)
@@ -222,8 +238,8 @@ module _ {old new : Disk} {p : Plan} {h : CheckpointHeader} {es : List Entry} {f
   first_holds : Holds old.sectors old.seen (stored_in new.seen (first_books p h es fs ws)).saved
   first_holds = holds first_state
 
-  first_working : (stored_in new.seen (first_books p h es fs ws)).working ≡ replicate (length (stored_in new.seen (first_books p h es fs ws)).saved.frames)
-      Absent
+  first_working : (stored_in new.seen (first_books p h es fs ws)).working ≡ replicate
+      (length (stored_in new.seen (first_books p h es fs ws)).saved.frames) Absent
   first_working = grind (arith, nat_tests, puts_blank, seen, blank_at, length_read)
 
   -- the frames that were read are those of the store
@@ -234,9 +250,10 @@ module _ {old new : Disk} {p : Plan} {h : CheckpointHeader} {es : List Entry} {f
   first_durable = record { kept = first_kept; unwritten = tt }
 
 -- so a store is opened
-pub first_opens : {D : Type 0} {disk : D → Disk} {device back : D} {p : Plan} {h : CheckpointHeader} {es : List Entry} {fs ws : List Place} →
-    OnlyReads (disk device) (disk back) → HasPlan (disk device).seen (disk device).sectors p
-    → IsRead (disk device).seen p h es → fs ≡ replicate (count_of p) Nowhere → ws ≡ replicate (count_of p) Nowhere → Only (disk back).seen (disk back) →
-    (disk back).failures ≡ (disk device).failures → OpensDurable disk device (record { beneath = back; books = first_books p h es fs ws })
+pub first_opens : {D : Type 0} {disk : D → Disk} {device back : D} {p : Plan} {h : CheckpointHeader} {es : List Entry} {fs ws : List Place}
+    → OnlyReads (disk device) (disk back) → HasPlan (disk device).seen (disk device).sectors p
+    → IsRead (disk device).seen p h es → fs ≡ replicate (count_of p) Nowhere → ws ≡ replicate (count_of p) Nowhere →
+    Only (disk back).seen (disk back) → (disk back).failures ≡ (disk device).failures →
+    OpensDurable disk device (record { beneath = back; books = first_books p h es fs ws })
 first_opens {D} {disk} {device} {back} {p} {h} {es} {fs} {ws} only_reads plan read frozen working only failures =
     search (arith, first_sound, holds, first_holds, first_working)

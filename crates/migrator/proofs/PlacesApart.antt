@@ -15,13 +15,14 @@ use Rattle.std.specs.Prelude.{if◌then◌else◌, ◌&&◌}
 
 -- ---- the first entry whose home is that of an object
 
-pub none_beside : (p : Plan) (es : List Entry) (n : ℕ) → ((i : ℕ) → i < length es → home_place p (entry_at es i).object ≡ home_place p n → ⊥) →
-    slot_beside p es n ≡ None
+pub none_beside : (p : Plan) (es : List Entry) (n : ℕ) → ((i : ℕ) → i < length es → home_place p (entry_at es i).object ≡ home_place p n →
+    ⊥) → slot_beside p es n ≡ None
 none_beside p [] n none = refl
-none_beside p (e ∷ es) n none = beside_behind p e es n (none 0 (omega arith)) ∙ none_beside p es n (λ i lt. none (suc i) (omega (arith, lt)))
+none_beside p (e ∷ es) n none = beside_behind p e es n (none 0 (omega arith))
+    ∙ none_beside p es n (λ i lt. none (suc i) (omega (arith, lt)))
 
-pub beside_at : (p : Plan) (es : List Entry) (n i : ℕ) → i < length es → ((j : ℕ) → j < i → home_place p (entry_at es j).object ≡ home_place p n → ⊥) →
-    home_place p (entry_at es i).object ≡ home_place p n
+pub beside_at : (p : Plan) (es : List Entry) (n i : ℕ) → i < length es → ((j : ℕ) → j < i →
+    home_place p (entry_at es j).object ≡ home_place p n → ⊥) → home_place p (entry_at es i).object ≡ home_place p n
     → slot_beside p es n ≡ Some (entry_at es i).slot
 beside_at p [] n i lt before is = absurd (omega (arith, lt))
 beside_at p (e ∷ es) n zero lt before is = beside_here p e es n is
@@ -63,7 +64,8 @@ found_first p (e ∷ es) n s is = elim (cases_eq (home_place p e.object) (home_p
   behind e es k other before (suc j) lt same = before j (omega (arith, lt)) same
 
 -- where an entry has the home there is such a slot
-some_beside : (p : Plan) (es : List Entry) (n i : ℕ) → i < length es → home_place p (entry_at es i).object ≡ home_place p n → slot_beside p es n ≡ None → ⊥
+some_beside : (p : Plan) (es : List Entry) (n i : ℕ) → i < length es → home_place p (entry_at es i).object ≡ home_place p n →
+    slot_beside p es n ≡ None → ⊥
 some_beside p [] n i lt is none = omega (arith, lt)
 some_beside p (e ∷ es) n zero lt is none = let never : None ≡ Some e.slot = sym none ∙ beside_here p e es n is in cc
 some_beside p (e ∷ es) n (suc i) lt is none = elim (cases_eq (home_place p e.object) (home_place p n)) [
@@ -72,8 +74,8 @@ some_beside p (e ∷ es) n (suc i) lt is none = elim (cases_eq (home_place p e.o
 ]
 
 -- an object whose frame takes its block alone has no slot but its own
-pub alone_beside : {p : Plan} {es : List Entry} {n : ℕ} → IsPlan p → IsDirectory p.geometry es → n < count_of p → IsWhole (shape_of p n) → slot_in es n ≡ None →
-    slot_beside p es n ≡ None
+pub alone_beside : {p : Plan} {es : List Entry} {n : ℕ} → IsPlan p → IsDirectory p.geometry es → n < count_of p → IsWhole (shape_of p n) →
+    slot_in es n ≡ None → slot_beside p es n ≡ None
 alone_beside {p} {es} {n} fits is lt own none = search (arith, none_beside, alone, own_slot)
 
 -- as that of a page does
@@ -86,8 +88,8 @@ no_entries p [] n size = refl
 no_entries p (e ∷ es) n size = absurd (omega (arith, size))
 
 -- an object without one doesn't share its home with an object that has a slot
-pub frame_slots_differ : (p : Plan) (es : List Entry) (n m : ℕ) {t : ℕ} → slot_in es m ≡ Some t → frame_slot_in p es n ≡ None → home_place p n ≡ home_place p m
-    → ⊥
+pub frame_slots_differ : (p : Plan) (es : List Entry) (n m : ℕ) {t : ℕ} → slot_in es m ≡ Some t → frame_slot_in p es n ≡ None →
+    home_place p n ≡ home_place p m → ⊥
 frame_slots_differ p es n m {t} has none same =
     let entry = found_slot es m t has in
     some_beside p es n entry.index entry.within (ap (home_place p) entry.object_is ∙ sym same) (beside_none (slot_in es n) refl) where
@@ -96,11 +98,13 @@ frame_slots_differ p es n m {t} has none same =
       beside_none (Some s) is = let never : None ≡ Some s = sym none ∙ own_frame_slot p es n is in absurd cc
 
 -- a frame slot is a slot of some entry
-pub frame_slot_fits : (p : Plan) {es : List Entry} (n : ℕ) {s : ℕ} → IsDirectory p.geometry es → frame_slot_in p es n ≡ Some s → s < p.geometry.log
+pub frame_slot_fits : (p : Plan) {es : List Entry} (n : ℕ) {s : ℕ} → IsDirectory p.geometry es → frame_slot_in p es n ≡ Some s →
+    s < p.geometry.log
 frame_slot_fits p {es} n {s} is frame_slot =
     omega (
       arith,
-      (is.each (frame_slot_entry p es n s frame_slot).index (record { object = 0; slot = 0 }) (frame_slot_entry p es n s frame_slot).within).slot,
+      (is.each (frame_slot_entry p es n s frame_slot).index (record { object = 0; slot = 0 })
+          (frame_slot_entry p es n s frame_slot).within).slot,
       (frame_slot_entry p es n s frame_slot).slot_is,
     )
 
@@ -120,39 +124,44 @@ first_of {p} {es} {i} fits is within other j less same =
     let before : j < length es = omega (arith, less, within) in
     let low : (entry_at es j).object ≤ (entry_at es (i - 1)).object = not_above es is.rising (omega (arith, less)) last in
     let high : (entry_at es (i - 1)).object ≤ (entry_at es i).object = not_above es is.rising (omega arith) within in
-    let object : (k : ℕ) → k < length es → (entry_at es k).object < count_of p = λ k lt. (is.each k (record { object = 0; slot = 0 }) lt).object in
+    let object : (k : ℕ) → k < length es → (entry_at es k).object < count_of p =
+    λ k lt. (is.each k (record { object = 0; slot = 0 }) lt).object in
     other (omega (arith, less)) (home_between fits (object i within) (object j before) low high (sym same) ∙ same)
 
 -- ---- the search from the first number of a cluster on
 
-module _ (p : Plan) (es : List Entry) (n first at : ℕ) (fits : IsPlan p) (is : IsDirectory p.geometry es) (lt : n < count_of p) (start : IsFirstOf p n first)
-    (below : (i : ℕ) → i < at → (entry_at es i).object < first) (from : (i : ℕ) → at ≤ i → i < length es → first ≤ (entry_at es i).object) where
-  object : (i : ℕ) → i < length es → (entry_at es i).object < count_of p
-  object i within = (is.each i (record { object = 0; slot = 0 }) within).object
+module _ (p : Plan) (es : List Entry) (n first at : ℕ) (fits : IsPlan p) (is : IsDirectory p.geometry es) (lt : n < count_of p)
+    (start : IsFirstOf p n first)
+    (below : (i : ℕ) → i < at → (entry_at es i).object < first) (from : (i : ℕ) → at ≤ i → i < length es → first ≤ (entry_at es i).object)
+  where
+    object : (i : ℕ) → i < length es → (entry_at es i).object < count_of p
+    object i within = (is.each i (record { object = 0; slot = 0 }) within).object
 
-  none_below : (i : ℕ) → i < length es → i < at → home_place p (entry_at es i).object ≡ home_place p n → ⊥
-  none_below i within less same = omega (arith, (start.least (entry_at es i).object (object i within) same), (below i less))
+    none_below : (i : ℕ) → i < length es → i < at → home_place p (entry_at es i).object ≡ home_place p n → ⊥
+    none_below i within less same = omega (arith, (start.least (entry_at es i).object (object i within) same), (below i less))
 
-  -- the entry there has the home, or none has
-  pub found_there : at < length es → home_place p (entry_at es at).object ≡ home_place p n → slot_beside p es n ≡ Some (entry_at es at).slot
-  found_there within same = beside_at p es n at within (λ j less. none_below j (omega (arith, less, within)) less) same
+    -- the entry there has the home, or none has
+    pub found_there : at < length es → home_place p (entry_at es at).object ≡ home_place p n →
+        slot_beside p es n ≡ Some (entry_at es at).slot
+    found_there within same = beside_at p es n at within (λ j less. none_below j (omega (arith, less, within)) less) same
 
-  pub none_there : (at < length es → home_place p (entry_at es at).object ≡ home_place p n → ⊥) → slot_beside p es n ≡ None
-  none_there other = none_beside p es n (λ i within same. elim (cases_lt i at) [
-    | inl less ↦ none_below i within less same
-    | inr le ↦
-        let low = from at (omega arith) (omega (arith, le, within)) in
-        let same_start : home_place p (entry_at es i).object ≡ home_place p first = same ∙ sym start.home in
-        let up : (entry_at es at).object ≤ (entry_at es i).object = not_above es is.rising le within in
-        let shared = home_between fits (object i within) (omega (arith, lt, start.below)) low up same_start in
-        other (omega (arith, le, within)) (shared ∙ start.home)
-  ])
+    pub none_there : (at < length es → home_place p (entry_at es at).object ≡ home_place p n → ⊥) → slot_beside p es n ≡ None
+    none_there other = none_beside p es n (λ i within same. elim (cases_lt i at) [
+      | inl less ↦ none_below i within less same
+      | inr le ↦
+          let low = from at (omega arith) (omega (arith, le, within)) in
+          let same_start : home_place p (entry_at es i).object ≡ home_place p first = same ∙ sym start.home in
+          let up : (entry_at es at).object ≤ (entry_at es i).object = not_above es is.rising le within in
+          let shared = home_between fits (object i within) (omega (arith, lt, start.below)) low up same_start in
+          other (omega (arith, le, within)) (shared ∙ start.home)
+    ])
 
 -- ---- where the frame of an object is read
 
 pub in_frame_slot : (image : Image) (p : Plan) (generation : ℕ) (es : List Entry) (n : ℕ) {s : ℕ} → frame_slot_in p es n ≡ Some s →
     frame_in image p generation es n ≡ slot_bytes image p generation s n
-in_frame_slot image p generation es n is = ap (λ (o : Option ℕ). bytes_at image (sector_or o (slot_sector p generation) (home_place p n)) p n) is
+in_frame_slot image p generation es n is = ap (λ (o : Option ℕ). bytes_at image (sector_or o (slot_sector p generation) (home_place p n)) p
+    n) is
 
 pub in_slot : (image : Image) (p : Plan) (generation : ℕ) (es : List Entry) (n : ℕ) {s : ℕ} → slot_in es n ≡ Some s →
     frame_in image p generation es n ≡ slot_bytes image p generation s n
@@ -184,35 +193,38 @@ pub other_half : {p : Plan} (a b : ℕ) {s : ℕ} (n : ℕ) {e : Extent} → IsP
     IsInside e (half_extent p.geometry (half_sector p b)) → IsApart (place_extent p a s n) e
 other_half {p} a b {s} n {e} fits differ lt inside = search (arith, apart_inside, place_inside, halves_apart)
 
-pub home_apart : {p : Plan} (generation : ℕ) {n : ℕ} {e : Extent} → IsPlan p → n < count_of p → IsInside e (half_extent p.geometry (half_sector p generation)) →
-    IsApart (home_extent p n) e
+pub home_apart : {p : Plan} (generation : ℕ) {n : ℕ} {e : Extent} → IsPlan p → n < count_of p →
+    IsInside e (half_extent p.geometry (half_sector p generation)) → IsApart (home_extent p n) e
 home_apart {p} generation {n} {e} fits lt inside = search (arith, apart_inside, home_extent, itself, places_spare_log)
 
 -- what is saved lies apart from the other half
-pub spares_other : {p : Plan} (h : CheckpointHeader) {es : List Entry} (generation : ℕ) {e : Extent} → IsPlan p → IsDirectory p.geometry es →
-    h.entries ≤ p.geometry.log → (h.generation % 2 ≡ generation % 2 → ⊥) → IsInside e (half_extent p.geometry (half_sector p generation)) → Spares p h es e
+pub spares_other : {p : Plan} (h : CheckpointHeader) {es : List Entry} (generation : ℕ) {e : Extent} → IsPlan p →
+    IsDirectory p.geometry es → h.entries ≤ p.geometry.log → (h.generation % 2 ≡ generation % 2 → ⊥) →
+    IsInside e (half_extent p.geometry (half_sector p generation)) → Spares p h es e
 spares_other {p} h {es} generation {e} fits is few differ inside = record {
   headers = (within_inside p.total e (half_extent p.geometry (half_sector p generation)) inside (halves_within p generation fits)).0;
   directory = inr (apart_inside (directory_extent p h.generation h.entries) e (half_extent p.geometry (half_sector p h.generation))
       (half_extent p.geometry (half_sector p generation))
       (directories_inside p h.generation h.entries few) inside (halves_apart p h.generation generation fits differ));
-  frames = λ n lt. frame_apart p h.generation es n e (λ s slot. other_half h.generation generation n fits differ (frame_slot_fits p n is slot) inside)
+  frames = λ n lt. frame_apart p h.generation es n e (λ s slot. other_half h.generation generation n fits differ
+      (frame_slot_fits p n is slot) inside)
       (λ _. home_apart generation fits lt inside);
 }
 
 -- and from both halves where all of it is home
-pub spares_log : {p : Plan} (h : CheckpointHeader) (es : List Entry) (generation : ℕ) {e : Extent} → IsPlan p → length es ≡ h.entries → h.entries ≡ 0
-    → IsInside e (half_extent p.geometry (half_sector p generation)) → Spares p h es e
+pub spares_log : {p : Plan} (h : CheckpointHeader) (es : List Entry) (generation : ℕ) {e : Extent} → IsPlan p → length es ≡ h.entries →
+    h.entries ≡ 0 → IsInside e (half_extent p.geometry (half_sector p generation)) → Spares p h es e
 spares_log {p} h es generation {e} fits count none inside = record {
   headers = (within_inside p.total e (half_extent p.geometry (half_sector p generation)) inside (halves_within p generation fits)).0;
   directory = inl none;
-  frames = λ n lt. frame_apart p h.generation es n e (λ s slot. let never : None ≡ Some s = sym (no_entries p es n (count ∙ none)) ∙ slot in absurd cc)
+  frames = λ n lt. frame_apart p h.generation es n e (λ s slot. let never : None ≡ Some s = sym (no_entries p es n (count ∙ none)) ∙ slot in
+      absurd cc)
       (λ _. home_apart generation fits lt inside);
 }
 
 -- and from the home of an object that lies in the log
-pub spares_home : {p : Plan} {h : CheckpointHeader} {es : List Entry} {m t : ℕ} → IsPlan p → IsDirectory p.geometry es → h.entries ≤ p.geometry.log →
-    m < count_of p → slot_in es m ≡ Some t → Spares p h es (home_extent p m)
+pub spares_home : {p : Plan} {h : CheckpointHeader} {es : List Entry} {m t : ℕ} → IsPlan p → IsDirectory p.geometry es →
+    h.entries ≤ p.geometry.log → m < count_of p → slot_in es m ≡ Some t → Spares p h es (home_extent p m)
 spares_home {p} {h} {es} {m} {t} fits is few within has =
     search (
       arith,
@@ -239,11 +251,13 @@ homes_behind {p} fits n lt = (places_within p n fits lt).0
 
 -- a change of other sectors leaves these
 pub stays : {d e : Extent} {old new : Image} → IsApart d e → Elsewhere e.sector e.length old new → SameFrom d.sector d.length old new
-stays {d} apart change i lt = ⊎_elim (λ le. change.before (d.sector + i) (omega (arith, le, lt))) (λ le. change.after (d.sector + i) (omega (arith, le))) apart
+stays {d} apart change i lt = ⊎_elim (λ le. change.before (d.sector + i) (omega (arith, le, lt)))
+    (λ le. change.after (d.sector + i) (omega (arith, le))) apart
 
 -- and the frame that lies in them
-pub bytes_stay : {at : ℕ} (p : Plan) (n : ℕ) {e : Extent} {old new : Image} → IsApart (record { sector = at; length = place_length p n }) e →
-    Elsewhere e.sector e.length old new → bytes_at new at p n ≡ bytes_at old at p n
+pub bytes_stay : {at : ℕ} (p : Plan) (n : ℕ) {e : Extent} {old new : Image} →
+    IsApart (record { sector = at; length = place_length p n }) e → Elsewhere e.sector e.length old new →
+    bytes_at new at p n ≡ bytes_at old at p n
 bytes_stay {at} p n {e} {old} {new} apart change = same_shaped at (shape_of p n) old new (stays apart change)
 
 pub frame_stays : (p : Plan) (generation : ℕ) (es : List Entry) (e : Extent) {old new : Image} → SparesFrames p generation es e →
@@ -254,16 +268,17 @@ pub state_stays : {p : Plan} {h : CheckpointHeader} {es : List Entry} {e : Exten
     Elsewhere e.sector e.length old new → state_in new p h es ≡ state_in old p h es
 state_stays {p} {h} {es} {e} {old} {new} spares change = search (arith, read_same, frame_stays)
 
-spares_same : {p : Plan} {h : CheckpointHeader} {es : List Entry} {e : Extent} {old new : Image} → Spares p h es e → Elsewhere e.sector e.length old new →
-    SameWhereRead p h es old new
+spares_same : {p : Plan} {h : CheckpointHeader} {es : List Entry} {e : Extent} {old new : Image} → Spares p h es e →
+    Elsewhere e.sector e.length old new → SameWhereRead p h es old new
 spares_same {p} {h} {es} {e} {old} {new} spares change = search (arith, stays)
 
 -- such a change leaves the saved state
-pub denotes_on : {p : Plan} {h : CheckpointHeader} {es : List Entry} {fs : List Frame} {e : Extent} {size : ℕ} {old new : Image} → Spares p h es e →
-    Elsewhere e.sector e.length old new → Encodes old size (record { plan = p; header = h; directory = es; frames = fs }) →
-    Encodes new size (record { plan = p; header = h; directory = es; frames = fs })
+pub denotes_on : {p : Plan} {h : CheckpointHeader} {es : List Entry} {fs : List Frame} {e : Extent} {size : ℕ} {old new : Image} →
+    Spares p h es e → Elsewhere e.sector e.length old new → Encodes old size (record { plan = p; header = h; directory = es; frames = fs })
+    → Encodes new size (record { plan = p; header = h; directory = es; frames = fs })
 denotes_on {p} {h} {es} {fs} {e} {size} {old} {new} spares change was =
-    same_saved old new size (record { plan = p; header = h; directory = es; frames = fs }) (λ i lt. change.before (0 + i) (omega (arith, lt, spares.headers)))
+    same_saved old new size (record { plan = p; header = h; directory = es; frames = fs })
+    (λ i lt. change.before (0 + i) (omega (arith, lt, spares.headers)))
     (spares_same spares change) was
 
 -- ---- over a device
@@ -284,7 +299,8 @@ module _ {old new : Disk} {p : Plan} {h : CheckpointHeader} {es : List Entry} {e
   pub state_spared : state_in new.seen p h es ≡ state_in old.seen p h es
   state_spared = state_stays spares.frames writes.elsewhere
 
-  left_spared : LeavesState old (state_in old.seen p h es) → (c : Image) → IsTorn e.sector e.length old c → Encodes c old.sectors (state_in old.seen p h es)
+  left_spared : LeavesState old (state_in old.seen p h es) → (c : Image) → IsTorn e.sector e.length old c →
+      Encodes c old.sectors (state_in old.seen p h es)
   left_spared sound c torn = denotes_on spares torn.2 (sound torn.0 torn.1)
 
   -- each crash still leaves it
@@ -292,7 +308,8 @@ module _ {old new : Disk} {p : Plan} {h : CheckpointHeader} {es : List Entry} {e
   sound_spared sound c left = rw (writes.size, state_spared) (left_spared sound c (writes.crash c left))
 
   -- also at each moment of the write
-  pub moments_spared : LeavesState old (state_in old.seen p h es) → LeavesOnly old new (λ c. Encodes c old.sectors (state_in old.seen p h es))
+  pub moments_spared : LeavesState old (state_in old.seen p h es) → LeavesOnly old new
+      (λ c. Encodes c old.sectors (state_in old.seen p h es))
   moments_spared sound = search (arith, leaves_weaker, left_spared)
 
 -- ---- its sectors and the others
@@ -301,7 +318,8 @@ mended_by : (image : Image) (u : Unwritten) (i : ℕ) {test : Bool} → (nat_le 
     mended image (Some u) i ≡ (if test then image_of u.bytes (i - u.sector) else image i)
 mended_by image u i e = ap (λ (b : Bool). if b then image_of u.bytes (i - u.sector) else image i) e
 
-pub mended_here : (image : Image) (u : Unwritten) {i : ℕ} → u.sector ≤ i → i < u.sector + 8 → mended image (Some u) i ≡ image_of u.bytes (i - u.sector)
+pub mended_here : (image : Image) (u : Unwritten) {i : ℕ} → u.sector ≤ i → i < u.sector + 8 →
+    mended image (Some u) i ≡ image_of u.bytes (i - u.sector)
 mended_here image u {i} low high = mended_by image u i {test = true} (grind (arith, nat_tests))
 
 mended_before : (image : Image) (u : Unwritten) {i : ℕ} → i < u.sector → mended image (Some u) i ≡ image i
@@ -323,8 +341,9 @@ same_unwritten : {u v : Unwritten} → Some u ≡ Some v → u ≡ v
 same_unwritten e = cc
 
 -- a frame that was read of it is the one that it spells
-pub buffer_read : {g : Geometry} {n : ℕ} {o : Option Unwritten} {u : Unwritten} {shape : Shape} {bytes : List ℕ} {read : Frame} → o ≡ Some u →
-    (v : Unwritten) × (o ≡ Some v) × IsSpeltIn v shape g n → bytes ≡ u.bytes → IsFrameOf g most n (shape_bytes shape bytes) read
+pub buffer_read : {g : Geometry} {n : ℕ} {o : Option Unwritten} {u : Unwritten} {shape : Shape} {bytes : List ℕ} {read : Frame} →
+    o ≡ Some u → (v : Unwritten) × (o ≡ Some v) × IsSpeltIn v shape g n → bytes ≡ u.bytes →
+    IsFrameOf g most n (shape_bytes shape bytes) read
     → read ≡ frame_from g n (shape_bytes shape u.bytes)
 buffer_read {g} {n} {u} {shape} {read} some has is found =
     let spelt : IsSpeltIn u shape g n = subst (λ (v : Unwritten). IsSpeltIn v shape g n) (same_unwritten (sym has.1 ∙ some)) has.2 in
@@ -333,8 +352,8 @@ buffer_read {g} {n} {u} {shape} {read} some has is found =
 
 -- ---- sectors that were touched
 
-pub elsewhere_within : {at n : ℕ} {e : Extent} {old new : Image} → IsInside (record { sector = at; length = n }) e → Elsewhere at n old new →
-    Elsewhere e.sector e.length old new
+pub elsewhere_within : {at n : ℕ} {e : Extent} {old new : Image} → IsInside (record { sector = at; length = n }) e →
+    Elsewhere at n old new → Elsewhere e.sector e.length old new
 elsewhere_within {at} {n} {e} {old} {new} inside change = grind (arith, nat_tests)
 
 torn_within : (at n : ℕ) {e : Extent} (disk : Disk) (c : Image) → IsInside (record { sector = at; length = n }) e → IsTorn at n disk c →
@@ -362,25 +381,36 @@ mended_disk disk o = record disk { seen = mended disk.seen o }
 pub unmended : {image : Image} {o : Option Unwritten} → o ≡ None → mended image o ≡ image
 unmended {image} none = ap (mended image) none
 
-pub elsewhere_mended : {at n : ℕ} {old new : Image} (o : Option Unwritten) → Elsewhere at n old new → Elsewhere at n (mended old o) (mended new o)
+pub elsewhere_mended : {at n : ℕ} {old new : Image} (o : Option Unwritten) → Elsewhere at n old new →
+    Elsewhere at n (mended old o) (mended new o)
 elsewhere_mended None change = change
-elsewhere_mended {old} {new} (Some u) change = record { before = λ i lt. same i (change.before i lt); after = λ i le. same i (change.after i le) } where
+elsewhere_mended {old} {new} (Some u) change = record {
+  before = λ i lt. same i (change.before i lt);
+  after = λ i le. same i (change.after i le);
+} where
   same : (i : ℕ) → new i ≡ old i → mended new (Some u) i ≡ mended old (Some u) i
   same i is = ap (λ (bytes : List ℕ). if nat_le u.sector i && nat_lt i (u.sector + 8) then image_of u.bytes (i - u.sector) else bytes) is
 
-pub leaves_mended : {old new : Disk} (a b : Option Unwritten) (P : Image → Type 0) → LeavesOnly old new P → LeavesOnly (mended_disk old a) (mended_disk new b) P
+pub leaves_mended : {old new : Disk} (a b : Option Unwritten) (P : Image → Type 0) → LeavesOnly old new P →
+    LeavesOnly (mended_disk old a) (mended_disk new b) P
 leaves_mended a b P run = record { later = run.later; each = run.each; before = run.before; keeps = run.keeps }
 
-pub leaves_raw : {old new : Disk} (a b : Option Unwritten) (P : Image → Type 0) → LeavesOnly (mended_disk old a) (mended_disk new b) P → LeavesOnly old new P
+pub leaves_raw : {old new : Disk} (a b : Option Unwritten) (P : Image → Type 0) → LeavesOnly (mended_disk old a) (mended_disk new b) P →
+    LeavesOnly old new P
 leaves_raw a b P run = record { later = run.later; each = run.each; before = run.before; keeps = run.keeps }
 
 elapses_mended : {old new : Disk} (o : Option Unwritten) → Elapses old new → Elapses (mended_disk old o) (mended_disk new o)
 elapses_mended o time = record { later = time.later; nothing_else = time.nothing_else; keeps = time.keeps }
 
-pub touches_mended : {at n : ℕ} {old new : Disk} (o : Option Unwritten) → Touches at n old new → Touches at n (mended_disk old o) (mended_disk new o)
-touches_mended {at} {n} {old} {new} o touches = search (elsewhere_mended o touches.elsewhere, leaves_mended o o (IsTorn at n old) touches.any_moment)
+pub touches_mended : {at n : ℕ} {old new : Disk} (o : Option Unwritten) → Touches at n old new →
+    Touches at n (mended_disk old o) (mended_disk new o)
+touches_mended {at} {n} {old} {new} o touches = search (
+  elsewhere_mended o touches.elsewhere,
+  leaves_mended o o (IsTorn at n old) touches.any_moment,
+)
 
-pub writes_mended : {at n : ℕ} {old new : Disk} (o : Option Unwritten) → WritesAt at n old new → WritesAt at n (mended_disk old o) (mended_disk new o)
+pub writes_mended : {at n : ℕ} {old new : Disk} (o : Option Unwritten) → WritesAt at n old new →
+    WritesAt at n (mended_disk old o) (mended_disk new o)
 writes_mended {at} {n} {old} {new} o writes = search (arith, elsewhere_mended, leaves_mended, elapses_mended)
 
 pub reads_mended : {old new : Disk} (o : Option Unwritten) → ReadsOnly old new → ReadsOnly (mended_disk old o) (mended_disk new o)

@@ -23,7 +23,8 @@ use Rattle.migrator.proofs.Kept.{are_put_same, goes_seen, nowhere_frozen}
 pub kept_raw : {disk : Disk} {b : Books} → b.unwritten ≡ None → IsDurable disk b → IsIntact disk.sectors disk.seen b
 kept_raw {disk} {b} none is = subst (λ (o : Option Unwritten). IsIntact disk.sectors (mended disk.seen o) b) none is.kept
 
-pub stored_raw : (disk : Disk) (b : Books) → b.unwritten ≡ None → (c : Books) → c.unwritten ≡ b.unwritten → stored_on disk c ≡ stored_in disk.seen c
+pub stored_raw : (disk : Disk) (b : Books) → b.unwritten ≡ None → (c : Books) → c.unwritten ≡ b.unwritten →
+    stored_on disk c ≡ stored_in disk.seen c
 stored_raw disk b none c same = ap (λ (o : Option Unwritten). stored_in (mended disk.seen o) c) (same ∙ none)
 
 -- ---- the calls
@@ -59,8 +60,10 @@ module _ {old mid : Disk} {b : Books} {next : CheckpointHeader} {fs : List Entry
   mid_sound = sound_spared may.apart touched sound
 
   -- where the write failed
-  pub either_before : LeavesOnly old mid (λ c. Encodes c old.sectors (saved_state old.seen b) ⊎ Encodes c old.sectors (state_in old.seen b.plan next fs))
-  either_before = leaves_weaker {old = old} {new = mid} {P = is_saved} (λ c. is_saved c ⊎ is_next c) (λ c is. inl is) (moments_spared may.apart touched sound)
+  pub either_before : LeavesOnly old mid (λ c. Encodes c old.sectors (saved_state old.seen b)
+      ⊎ Encodes c old.sectors (state_in old.seen b.plan next fs))
+  either_before = leaves_weaker {old = old} {new = mid} {P = is_saved} (λ c. is_saved c ⊎ is_next c) (λ c is. inl is)
+      (moments_spared may.apart touched sound)
 
   module _ (left : mid.may_leave mid.seen) where
     seen : Encodes mid.seen mid.sectors (saved mid.seen)
@@ -80,7 +83,8 @@ module _ {old mid : Disk} {b : Books} {next : CheckpointHeader} {fs : List Entry
         header = may.kept.header;
         directory = record { count = may.kept.count; fits = may.kept.directory; spelt = written };
         count = length_read mid.seen p next.generation fs;
-        each = λ n lt. subst (IsFrameOf p.geometry next.age n (frame_in mid.seen p next.generation fs n)) (sym (read_at mid.seen p next.generation fs n lt))
+        each = λ n lt. subst (IsFrameOf p.geometry next.age n (frame_in mid.seen p next.generation fs n))
+            (sym (read_at mid.seen p next.generation fs n lt))
             (spelt_same mid.seen old.seen p next.age next.generation next.generation fs fs n
             (frame_stays p next.generation fs extent may.spares_next.frames writes.elsewhere n lt) (may.kept.saved n lt));
       }
@@ -99,7 +103,8 @@ module _ {old mid : Disk} {b : Books} {next : CheckpointHeader} {fs : List Entry
 
       -- the run to its end
       pub either_run : {new : Disk} → LeavesOnly mid new (λ c. IsOld next mid c ⊎ HasNew next mid.seen c)
-          → LeavesOnly old new (λ c. Encodes c old.sectors (saved_state old.seen b) ⊎ Encodes c old.sectors (state_in old.seen b.plan next fs))
+          → LeavesOnly old new (λ c. Encodes c old.sectors (saved_state old.seen b)
+          ⊎ Encodes c old.sectors (state_in old.seen b.plan next fs))
       either_run {new} run =
           leaves_on {old = old} {mid = mid} {new = new} {P = λ c. is_saved c ⊎ is_next c} either_before
           (leaves_weaker {old = mid} {new = new} {P = λ c. IsOld next mid c ⊎ HasNew next mid.seen c} (λ c. is_saved c ⊎ is_next c)
@@ -112,7 +117,11 @@ module _ {old mid : Disk} {b : Books} {next : CheckpointHeader} {fs : List Entry
 
   -- what is written in all
   pub only_directory : SavesOnly p next old.seen mid.seen
-  only_directory = record { between = mid.seen; directory = writes.elsewhere; header = record { before = λ i lt. refl; after = λ i le. refl } }
+  only_directory = record {
+    between = mid.seen;
+    directory = writes.elsewhere;
+    header = record { before = λ i lt. refl; after = λ i le. refl };
+  }
 
   pub only_both : (new : Disk) → Elsewhere (header_sector next) 2 mid.seen new.seen → SavesOnly p next old.seen new.seen
   only_both new published = record { between = mid.seen; directory = writes.elsewhere; header = published }
@@ -150,7 +159,8 @@ module _ {old mid : Disk} {b : Books} {o : Option Unwritten} {k age : ℕ} (may 
     keepable = keepable_at now may.keepable
 
     pub may_commit_now : MayAdopt mid (record b { unwritten = o }) (next_header age b) (entries_of b.frozen)
-    may_commit_now = may_commit mid k kept may.running may.stable complete may.later may.most keepable mid_stays.stands none (mid_stays.goes_on.sound may.sound)
+    may_commit_now = may_commit mid k kept may.running may.stable complete may.later may.most keepable mid_stays.stands none
+        (mid_stays.goes_on.sound may.sound)
 
     pub commit_stored : stored_on mid (adopted (next_header age b) (entries_of b.frozen) (record b { unwritten = o })) ≡ on_snapshots
         (committed puts age (frozen_of (seen_by old.seen b) b k)) (stored_on old b)
@@ -177,23 +187,24 @@ pub either_first : {old new : Disk} {saved next : SavedFrames} → LeavesSaved o
 either_first {old} {new} {saved} {next} run = grind (arith, nat_tests)
 
 -- the calls before it failed
-pub publishes_none : {T E U F : Type 0} {old new : Disk} {b c : Books} {next : Stored} {e : E} {r : Result U F} → Stays old new b c → IsSoundOn old b → IsErr r
-    → Counts {T = T} old new (Err e) → Publishes old new b c next r
+pub publishes_none : {T E U F : Type 0} {old new : Disk} {b c : Books} {next : Stored} {e : E} {r : Result U F} → Stays old new b c →
+    IsSoundOn old b → IsErr r → Counts {T = T} old new (Err e) → Publishes old new b c next r
 publishes_none {T} {E} {U} {F} {old} {new} {b} {c} {next} {e} {r} stays sound failed counts = grind (arith, nat_tests)
 
 -- they didn't
-pub publishes_after : {T E : Type 0} {old mid new : Disk} {a b c : Books} {next after : Stored} {r : Result T E} → Stays old mid a b → IsSoundOn old a →
-    mid.failures ≡ old.failures → next ≡ after → Publishes mid new b c next r → Publishes old new a c after r
+pub publishes_after : {T E : Type 0} {old mid new : Disk} {a b c : Books} {next after : Stored} {r : Result T E} → Stays old mid a b →
+    IsSoundOn old a → mid.failures ≡ old.failures → next ≡ after → Publishes mid new b c next r → Publishes old new a c after r
 publishes_after {T} {E} {old} {mid} {new} {a} {b} {c} {next} {after} {r} stays sound none same is = grind (arith, nat_tests)
 
 -- what is then held is said in two ways
-pub publishes_as : {T E : Type 0} {old new : Disk} {b c : Books} {next after : Stored} {r : Result T E} → next ≡ after → Publishes old new b c next r →
-    Publishes old new b c after r
+pub publishes_as : {T E : Type 0} {old new : Disk} {b c : Books} {next after : Stored} {r : Result T E} → next ≡ after →
+    Publishes old new b c next r → Publishes old new b c after r
 publishes_as {old = old} {new = new} {b = b} {c = c} {r = r} same is = subst (λ (s : Stored). Publishes old new b c s r) same is
 
 -- ---- the call
 
-module _ {disk : Disk} {b : Books} {next : CheckpointHeader} {es : List Entry} (may : MayAdopt disk b next es) {new : Disk} (size : new.sectors ≡ disk.sectors)
+module _ {disk : Disk} {b : Books} {next : CheckpointHeader} {es : List Entry} (may : MayAdopt disk b next es) {new : Disk}
+    (size : new.sectors ≡ disk.sectors)
     (only : SavesOnly b.plan next disk.seen new.seen)
     (run : LeavesOnly disk new (λ c. Encodes c disk.sectors (state_in disk.seen b.plan b.header b.directory) ⊎ Encodes c disk.sectors
     (state_in disk.seen b.plan next es))) where
@@ -203,7 +214,8 @@ module _ {disk : Disk} {b : Books} {next : CheckpointHeader} {es : List Entry} (
   raw_kept : IsIntact disk.sectors disk.seen b
   raw_kept = kept_raw may.written may.stands
 
-  kept_then : {c : Books} → c.unwritten ≡ b.unwritten → IsIntact disk.sectors new.seen c → IsIntact new.sectors (mended new.seen c.unwritten) c
+  kept_then : {c : Books} → c.unwritten ≡ b.unwritten → IsIntact disk.sectors new.seen c →
+      IsIntact new.sectors (mended new.seen c.unwritten) c
   kept_then {c} same kept = grind (arith, nat_tests)
 
   moments : LeavesEither disk new (stored_on disk b).saved (stored_on disk after).saved
@@ -216,7 +228,8 @@ module _ {disk : Disk} {b : Books} {next : CheckpointHeader} {es : List Entry} (
       kept = kept_then refl (kept_saves may.kept only may.spares_next);
       unwritten = without after may.written;
     };
-    stored = stored_raw new b may.written after refl ∙ stored_saves may.kept only may.spares_next ∙ sym (stored_raw disk b may.written after refl);
+    stored = stored_raw new b may.written after refl ∙ stored_saves may.kept only may.spares_next
+        ∙ sym (stored_raw disk b may.written after refl);
     unchanged = tt;
     plan = refl;
     sound = rw (may.written, state_saves may.kept only may.spares_next) saved;
@@ -239,18 +252,21 @@ module _ {disk : Disk} {b : Books} {next : CheckpointHeader} {es : List Entry} (
 
 -- what is published then are the frozen frames
 pub commits_by : {T E : Type 0} {old new : Disk} {b c : Books} {k age : ℕ} {r : Result T E} → MayCommitAt old b k age →
-    Publishes old new b c (on_snapshots (committed puts age (frozen_of (seen_by old.seen b) b k)) (stored_on old b)) r → Commits old new b c age r
+    Publishes old new b c (on_snapshots (committed puts age (frozen_of (seen_by old.seen b) b k)) (stored_on old b)) r →
+    Commits old new b c age r
 commits_by {old = old} {new = new} {b = b} {c = c} {k = k} {age = age} {r = r} may is = record {
   stands = is.stands;
   stored = λ f some. subst (λ (g : FrozenPuts). OnOk r (stored_on new c ≡ on_snapshots (committed puts age g) (stored_on old b)))
-      (same_Some (frozen_of (seen_by old.seen b) b k) f (sym (ap (option_map (frozen_of (seen_by old.seen b) b)) may.running) ∙ some)) is.stored;
+      (same_Some (frozen_of (seen_by old.seen b) b k) f (sym (ap (option_map (frozen_of (seen_by old.seen b) b)) may.running) ∙ some))
+      is.stored;
   generation = on_ok_weaker r (λ e. ap (λ (s : Stored). s.saved.generation) e) is.stored;
   unchanged = is.unchanged;
   plan = is.plan;
   sound = is.sound;
   size = is.size;
   any_moment = subst (λ (o : Option ℕ). LeavesOneOf old new (stored_on old b).saved
-      (option_map (λ f. next_saved puts age f (stored_on old b).saved) (option_map (frozen_of (seen_by old.seen b) b) o))) (sym may.running) is.any_moment;
+      (option_map (λ f. next_saved puts age f (stored_on old b).saved) (option_map (frozen_of (seen_by old.seen b) b) o))) (sym may.running)
+      is.any_moment;
   cause = is.cause;
 }
 
@@ -266,7 +282,8 @@ no_places [] none = refl
 no_places (p ∷ ps) none = rw (none zero, no_places ps (λ n. none (suc n)))
 
 -- two generations of one half
-pub slot_same : (image : Image) (plan : Plan) (g h : ℕ) → g % 2 ≡ h % 2 → (s n : ℕ) → slot_bytes image plan g s n ≡ slot_bytes image plan h s n
+pub slot_same : (image : Image) (plan : Plan) (g h : ℕ) → g % 2 ≡ h % 2 → (s n : ℕ) →
+    slot_bytes image plan g s n ≡ slot_bytes image plan h s n
 slot_same image plan g h same s n = ap (λ (r : ℕ). bytes_at image (half_start plan (if r == 0 then First else Second) + 9 * s) plan n) same
 
 pub after_same : (g h : ℕ) (o : Option ℕ) → g % 2 ≡ h % 2 → generation_after g o % 2 ≡ generation_after h o % 2
@@ -293,7 +310,8 @@ module _ {disk : Disk} {b : Books} (next : CheckpointHeader) (es : List Entry) (
       stored_on disk (adopted next es b) ≡ on_snapshots stage (stored_on disk b)
   idle_stored stage stored = grind (arith, nat_tests)
 
-  module _ (parity : next.generation % 2 ≡ b.header.generation % 2) (header : IsHeader b.plan.geometry.log next) (count : length es ≡ next.entries)
+  module _ (parity : next.generation % 2 ≡ b.header.generation % 2) (header : IsHeader b.plan.geometry.log next)
+      (count : length es ≡ next.entries)
       (directory : IsDirectory b.plan.geometry es) (spelt : AreSpelt disk.seen b.plan next.age next.generation es)
       (apart : Spares b.plan b.header b.directory (directory_extent b.plan next.generation next.entries)) where
     abbrev sectors : Extent

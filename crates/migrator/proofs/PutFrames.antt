@@ -43,7 +43,8 @@ slot_low : (since : Bool) {size : ℕ} {image : Image} {b : Books} (n : ℕ) →
     slot_for (places since b) n < b.plan.geometry.log
 slot_low since {size} {image} {b} n kept has = grind (arith, nat_tests)
 
-same_places : (since : Bool) {size : ℕ} {image : Image} {b : Books} → IsIntact size image b → IsIntact size image (with_places since b (places since b))
+same_places : (since : Bool) {size : ℕ} {image : Image} {b : Books} → IsIntact size image b →
+    IsIntact size image (with_places since b (places since b))
 same_places since {size} {image} {b} kept = grind (arith, nat_tests)
 
 are_put : (since : Bool) {size : ℕ} {image : Image} (b : Books) (ps : List Place) → IsIntact size image (with_places since b ps) →
@@ -54,11 +55,13 @@ are_put since {size} {image} b ps kept = grind (arith, nat_tests)
 module _ {first : ℕ} {was : Image} {b : Books} (n : ℕ) (q : Place) (before : IsIntact first was b) where
   kept_places : (since : Bool) {size : ℕ} {image : Image} (ps : List Place) → n < length (places since b) → HasSlot since b n →
       slot_of q ≡ Some (slot_for (places since b) n) → IsIntact size image (with_places since b ps) →
-      ArePut image b.plan (generation_of since b) (set (places since b) n q) → IsIntact size image (with_places since b (set (places since b) n q))
+      ArePut image b.plan (generation_of since b) (set (places since b) n q) →
+      IsIntact size image (with_places since b (set (places since b) n q))
   kept_places true ps lt has slot kept are = search
   kept_places false ps lt has slot kept are =
       let runs : IsRunning b (Some has.0) = subst (IsRunning b) has.1 before.running in
-      search (subst (IsRunning (with_places false b (set b.frozen n q))) (sym has.1) (runs.0, taken_set b.frozen q lt slot runs.1 has.2, runs.2))
+      search (subst (IsRunning (with_places false b (set b.frozen n q))) (sym has.1)
+      (runs.0, taken_set b.frozen q lt slot runs.1 has.2, runs.2))
 
 -- what was put of it is all that differs
 stored_put : (since : Bool) (image : Image) (b : Books) (ps qs : List Place) (n : ℕ) (x : Put) →
@@ -70,7 +73,8 @@ pub put_twice : (since : Bool) (s : Stored) (n : ℕ) (x y : Put) → putting si
 put_twice since s n x y = grind (arith, nat_tests, set_twice)
 
 -- what was put of an object is rescinded
-module _ (since : Bool) {size : ℕ} {image : Image} {b : Books} {n : ℕ} (kept : IsIntact size image b) (lt : n < count_of b.plan) (has : HasSlot since b n) where
+module _ (since : Bool) {size : ℕ} {image : Image} {b : Books} {n : ℕ} (kept : IsIntact size image b) (lt : n < count_of b.plan)
+    (has : HasSlot since b n) where
   are : ArePut image b.plan (generation_of since b) (places since b)
   are = are_put since b (places since b) (same_places since kept)
 
@@ -81,7 +85,8 @@ module _ (since : Bool) {size : ℕ} {image : Image} {b : Books} {n : ℕ} (kept
   tear_kept = kept_places n (Torn (slot_for (places since b) n)) kept since (places since b) in_list has refl (same_places since kept)
       (torn_put are lt (slot_low since n kept has))
 
-  tear_stored : stored_in image (with_places since b (set (places since b) n (Torn (slot_for (places since b) n)))) ≡ putting since n Broken (stored_in image b)
+  tear_stored : stored_in image (with_places since b (set (places since b) n (Torn (slot_for (places since b) n))))
+      ≡ putting since n Broken (stored_in image b)
   tear_stored = grind (arith, nat_tests, stored_put, puts_set, are, slot_low)
 
 -- the sectors of its slot are none of the others
@@ -91,8 +96,8 @@ saved_spares true {b = b} kept inside = saved_working b.frozen_size kept kept.ru
 saved_spares false {b = b} kept inside =
     spares_other b.header (frozen_generation b) kept.plan kept.directory kept.header.entries (other_parity b.header.generation) inside
 
-all_spared : (since : Bool) {size : ℕ} {image : Image} {b : Books} {n : ℕ} → IsIntact size image b → HasSlot since b n → n < length (places since b) →
-    IsInside (place_extent b.plan (generation_of since b) (slot_for (places since b) n) n)
+all_spared : (since : Bool) {size : ℕ} {image : Image} {b : Books} {n : ℕ} → IsIntact size image b → HasSlot since b n →
+    n < length (places since b) → IsInside (place_extent b.plan (generation_of since b) (slot_for (places since b) n) n)
     (half_extent b.plan.geometry (half_sector b.plan (generation_of since b))) →
     SparesKept (with_places since b (set (places since b) n (Torn (slot_for (places since b) n))))
     (place_extent b.plan (generation_of since b) (slot_for (places since b) n) n)
@@ -131,12 +136,14 @@ module _ (since : Bool) {old new : Disk} {b : Books} {n : ℕ} (f : Frame) (kept
   spared = all_spared since kept has (in_list since kept lt has) inside
 
   stays_kept : IsIntact new.sectors new.seen torn
-  stays_kept = subst (λ (size : ℕ). IsIntact size new.seen torn) (sym writes.size) (kept_on old.sectors spared writes.elsewhere (tear_kept since kept lt has))
+  stays_kept = subst (λ (size : ℕ). IsIntact size new.seen torn) (sym writes.size)
+      (kept_on old.sectors spared writes.elsewhere (tear_kept since kept lt has))
 
   stays_stored : stored_in new.seen torn ≡ putting since n Broken (stored_in old.seen b)
   stays_stored = stored_stays old.sectors spared writes.elsewhere ∙ tear_stored since kept lt has
 
-  module _ (keepable : IsKeepable b.plan.geometry most n f) (written : slot_bytes new.seen b.plan g slot n ≡ frame_bytes b.plan.geometry n f) where
+  module _ (keepable : IsKeepable b.plan.geometry most n f) (written : slot_bytes new.seen b.plan g slot n
+      ≡ frame_bytes b.plan.geometry n f) where
     spelt : IsFrameOf b.plan.geometry most n (slot_bytes new.seen b.plan g slot n) (slot_frame new.seen b.plan g slot n)
         × (slot_frame new.seen b.plan g slot n ≡ f)
     spelt = bytes_spelt b.plan.geometry most n (slot_bytes new.seen b.plan g slot n) f keepable written
@@ -145,7 +152,8 @@ module _ (since : Bool) {old new : Disk} {b : Books} {n : ℕ} (f : Frame) (kept
     put_kept = kept_places n (Whole slot) kept since (set (places since b) n (Torn slot)) (in_list since kept lt has) has refl stays_kept
         (mended_put (places since b) n slot (are_put since b (set (places since b) n (Torn slot)) stays_kept) lt spelt.0)
 
-    put_stored : stored_in new.seen (with_places since b (set (places since b) n (Whole slot))) ≡ putting since n (Kept f) (stored_in old.seen b)
+    put_stored : stored_in new.seen (with_places since b (set (places since b) n (Whole slot)))
+        ≡ putting since n (Kept f) (stored_in old.seen b)
     put_stored =
         stored_put since new.seen b (set (places since b) n (Torn slot)) (set (places since b) n (Whole slot)) n (Kept f)
         (puts_mended (places since b) n slot (are_put since b (set (places since b) n (Torn slot)) stays_kept) lt spelt.1)
@@ -155,8 +163,9 @@ module _ (since : Bool) {old new : Disk} {b : Books} {n : ℕ} (f : Frame) (kept
   put_goes_on ps = goes_spared refl refl refl (saved_spares since kept inside) (touches writes)
 
   -- its outcome, whether or not the device failed
-  put_either : {T : Type 0} (r : Result T Failed) (ps : List Place) → IsKeepable b.plan.geometry most n f → OnOk r (ps ≡ set (places since b) n (Whole slot)) →
-      OnErr r (ps ≡ set (places since b) n (Torn slot)) → OnOk r (slot_bytes new.seen b.plan g slot n ≡ frame_bytes b.plan.geometry n f) →
+  put_either : {T : Type 0} (r : Result T Failed) (ps : List Place) → IsKeepable b.plan.geometry most n f →
+      OnOk r (ps ≡ set (places since b) n (Whole slot)) → OnErr r (ps ≡ set (places since b) n (Torn slot)) →
+      OnOk r (slot_bytes new.seen b.plan g slot n ≡ frame_bytes b.plan.geometry n f) →
       IsIntact new.sectors new.seen (with_places since b ps)
       × OnOk r (stored_in new.seen (with_places since b ps) ≡ putting since n (Kept f) (stored_in old.seen b))
       × OnErr r (stored_in new.seen (with_places since b ps) ≡ putting since n Broken (stored_in old.seen b))
@@ -167,11 +176,12 @@ module _ (since : Bool) {old new : Disk} {b : Books} {n : ℕ} (f : Frame) (kept
 module _ {old : Disk} {b : Books} {n : ℕ} (is : IsDurable old b) (lt : n < count_of b.plan)
     (has : HasFreeSlot b.plan.geometry.log (stored_on old b).working n) where
   pub working_room : slot_for b.working n < b.plan.geometry.log
-  working_room = slot_room (seen_by old.seen b) b.plan (working_generation b) is.kept.working.count lt is.kept.working.table is.kept.working.few has
+  working_room = slot_room (seen_by old.seen b) b.plan (working_generation b) is.kept.working.count lt is.kept.working.table
+      is.kept.working.few has
 
   pub working_puts : {T : Type 0} {new : Disk} {f : Frame} {r : Result T Failed} →
-      WritesAt (slot_sector b.plan (working_generation b) (slot_for b.working n)) (place_length b.plan n) old new → Counts old new r → {ps : List Place} →
-      IsKeepable b.plan.geometry most n f → OnOk r (ps ≡ set b.working n (Whole (slot_for b.working n)))
+      WritesAt (slot_sector b.plan (working_generation b) (slot_for b.working n)) (place_length b.plan n) old new → Counts old new r →
+      {ps : List Place} → IsKeepable b.plan.geometry most n f → OnOk r (ps ≡ set b.working n (Whole (slot_for b.working n)))
       → OnErr r (ps ≡ set b.working n (Torn (slot_for b.working n)))
       → OnOk r (slot_bytes new.seen b.plan (working_generation b) (slot_for b.working n) n ≡ frame_bytes b.plan.geometry n f)
       → PutsFrame old new b (record b { working = ps }) f (λ put. with_working n put (stored_on old b)) r
@@ -214,19 +224,23 @@ module _ {old : Disk} {b : Books} {k n : ℕ} (is : IsDurable old b) (size : b.f
           kept_with {o = o} (tear_kept false mid lt has_slot),
           held_after b (Torn (slot_for b.frozen n)) (omega (arith, lt, is.kept.frozen.count)) refl is.unwritten either,
           tear_stored false mid lt has_slot ∙ ap (with_frozen n Broken) (stored_after is.kept size keeps),
-          goes_seen (goes_after is.kept size keeps {c = record b { frozen = set b.frozen n (Torn (slot_for b.frozen n)); unwritten = o }} refl refl refl),
+          goes_seen (goes_after is.kept size keeps {c = record b { frozen = set b.frozen n (Torn (slot_for b.frozen n)); unwritten = o }}
+              refl refl refl),
         )
 
-pub frozen_puts : {T : Type 0} {old new : Disk} {b : Books} {n k : ℕ} {f : Frame} {r : Result T Failed} → MayPut old b k n f → b.unwritten ≡ None →
-    WritesAt (slot_sector b.plan (frozen_generation b) (slot_for b.frozen n)) (place_length b.plan n) old new → Counts old new r → {ps : List Place} →
-    OnOk r (ps ≡ set b.frozen n (Whole (slot_for b.frozen n))) → OnErr r (ps ≡ set b.frozen n (Torn (slot_for b.frozen n)))
+pub frozen_puts : {T : Type 0} {old new : Disk} {b : Books} {n k : ℕ} {f : Frame} {r : Result T Failed} → MayPut old b k n f →
+    b.unwritten ≡ None → WritesAt (slot_sector b.plan (frozen_generation b) (slot_for b.frozen n)) (place_length b.plan n) old new →
+    Counts old new r → {ps : List Place} → OnOk r (ps ≡ set b.frozen n (Whole (slot_for b.frozen n))) →
+    OnErr r (ps ≡ set b.frozen n (Torn (slot_for b.frozen n)))
     → OnOk r (slot_bytes new.seen b.plan (frozen_generation b) (slot_for b.frozen n) n ≡ frame_bytes b.plan.geometry n f)
     → PutsFrame old new b (record b { frozen = ps }) f (λ put. with_frozen n put (stored_on old b)) r
 frozen_puts {old = old} {new = new} {b = b} {n = n} {k = k} {f = f} {r = r} may none writes counts {ps} ok err written =
     let is = may.stands in
-    let has : (j : ℕ) × (b.frozen_size ≡ Some j) × (slot_for b.frozen n < j) = (k, may.running, frozen_low is may.running may.object may.room) in
+    let has : (j : ℕ) × (b.frozen_size ≡ Some j) × (slot_for b.frozen n < j) =
+    (k, may.running, frozen_low is may.running may.object may.room) in
     let wrote = writes_mended b.unwritten writes in
-    let read = on_ok_weaker r (λ is_written. ap (λ (image : Image). slot_bytes image b.plan (frozen_generation b) (slot_for b.frozen n) n) (unmended none)
+    let read = on_ok_weaker r (λ is_written. ap (λ (image : Image). slot_bytes image b.plan (frozen_generation b) (slot_for b.frozen n) n)
+    (unmended none)
     ∙ is_written) written in
     let both = put_either false f is.kept may.object has wrote r ps may.keepable ok err read in
     search (without (record b { frozen = ps }) none, goes_seen (put_goes_on false f is.kept may.object has wrote ps), counts)
@@ -234,7 +248,11 @@ frozen_puts {old = old} {new = new} {b = b} {n = n} {k = k} {f = f} {r = r} may 
 -- the cluster lies on the device
 pub unwritten_low : {disk : Disk} {b : Books} → IsDurable disk b → (u : Unwritten) → b.unwritten ≡ Some u → u.sector + 8 ≤ disk.sectors
 unwritten_low {disk} {b} is u some =
-    omega (arith, (unwritten_inside (frozen_generation b) is.kept.plan (frozen_fits is.kept) (entry_of b b.unwritten is.unwritten) some), is.kept.inside)
+    omega (
+      arith,
+      (unwritten_inside (frozen_generation b) is.kept.plan (frozen_fits is.kept) (entry_of b b.unwritten is.unwritten) some),
+      is.kept.inside,
+    )
 
 -- ---- what was put of an object is rescinded: its slot stays
 
@@ -244,8 +262,8 @@ torn_room : (old mid : Disk) (b c : Books) {size n : ℕ} → b.frozen_size ≡ 
 torn_room old mid b c {size} {n} running still torn known = grind (arith, nat_tests, length_puts, same_Some, get_or-set_same)
 
 -- it may then be put
-pub may_put_torn : {old mid : Disk} {a b : Books} {k n : ℕ} {f : Frame} → MayPut old a k n f → Stores old mid a b (with_frozen n Broken (stored_on old a)) →
-    b.frozen_size ≡ Some k → MayPut mid b k n f
+pub may_put_torn : {old mid : Disk} {a b : Books} {k n : ℕ} {f : Frame} → MayPut old a k n f →
+    Stores old mid a b (with_frozen n Broken (stored_on old a)) → b.frozen_size ≡ Some k → MayPut mid b k n f
 may_put_torn {old} {mid} {a} {b} {k} {n} {f} may torn still = grind (arith, nat_tests, torn_room)
 
 -- the device failed before
@@ -256,7 +274,8 @@ puts_none n {r} torn failed counts = search (IfOk-from_err, on_err r torn.stored
 
 pub puts_after : {T E : Type 0} {old mid new : Disk} {a b c : Books} (n : ℕ) {f : Frame} {r : Result T E} →
     Stores old mid a b (with_frozen n Broken (stored_on old a)) → mid.failures ≡ old.failures
-    → PutsFrame mid new b c f (λ put. with_frozen n put (stored_on mid b)) r → PutsFrame old new a c f (λ put. with_frozen n put (stored_on old a)) r
+    → PutsFrame mid new b c f (λ put. with_frozen n put (stored_on mid b)) r →
+    PutsFrame old new a c f (λ put. with_frozen n put (stored_on old a)) r
 puts_after {old = old} {mid = mid} {new = new} {a = a} {b = b} {c = c} n {f} {r} torn none is = record {
   stands = is.stands;
   put = on_ok_weaker r (λ e. e ∙ ap (with_frozen n (Kept f)) torn.stored ∙ put_twice false (stored_on old a) n Broken (Kept f)) is.put;

@@ -11,7 +11,8 @@ use native.Mathlib.Numerals.{unary_clauses}
 -- ---- counts
 
 -- one place has changed
-pub tally-set : (has : Place → ℕ) (ps : List Place) (n : ℕ) (q : Place) → n < length ps → tally has (set ps n q) + has (place_at ps n) ≡ tally has ps + has q
+pub tally-set : (has : Place → ℕ) (ps : List Place) (n : ℕ) (q : Place) → n < length ps →
+    tally has (set ps n q) + has (place_at ps n) ≡ tally has ps + has q
 unfolding tally
 tally-set has [] n q lt = absurd (omega (arith, lt))
 tally-set has (p ∷ ps) zero q lt = omega arith
@@ -36,7 +37,8 @@ whole_of : (p : Place) {s : ℕ} → has_slot p ≤ has_frame p → slot_of p �
 whole_of p {s} le is = grind (arith, nat_tests)
 
 -- where no slot is torn, each has its frame
-pub all_whole : (ps : List Place) (n : ℕ) {s : ℕ} → taken_count ps ≤ whole_count ps → n < length ps → slot_of (place_at ps n) ≡ Some s → place_at ps n ≡ Whole s
+pub all_whole : (ps : List Place) (n : ℕ) {s : ℕ} → taken_count ps ≤ whole_count ps → n < length ps → slot_of (place_at ps n) ≡ Some s →
+    place_at ps n ≡ Whole s
 unfolding tally
 all_whole [] n le lt is = absurd (omega (arith, lt))
 all_whole (p ∷ ps) zero {s} le lt is = let rest = whole_taken ps in whole_of p (omega (arith, le, rest)) is
@@ -76,12 +78,13 @@ pub set_there : (ps : List Place) {n m : ℕ} (q : Place) → (m ≡ n → ⊥) 
 set_there ps {n} {m} q other = get_or-set_other ps n m q Nowhere other
 
 -- an object with a slot stays in it
-table_kept : {ps : List Place} {n t : ℕ} (q : Place) → IsTable ps → n < length ps → slot_of (place_at ps n) ≡ Some t → slot_of q ≡ Some t → IsTable (set ps n q)
+table_kept : {ps : List Place} {n t : ℕ} (q : Place) → IsTable ps → n < length ps → slot_of (place_at ps n) ≡ Some t → slot_of q ≡ Some t →
+    IsTable (set ps n q)
 table_kept {ps} {n} {t} q is lt was has = grind (arith, nat_tests, tally-set, some_has, set_here, set_there)
 
 -- the next slot is taken
-table_more : {ps : List Place} {n : ℕ} (q : Place) → IsTable ps → n < length ps → slot_of (place_at ps n) ≡ None → slot_of q ≡ Some (taken_count ps) →
-    IsTable (set ps n q)
+table_more : {ps : List Place} {n : ℕ} (q : Place) → IsTable ps → n < length ps → slot_of (place_at ps n) ≡ None →
+    slot_of q ≡ Some (taken_count ps) → IsTable (set ps n q)
 table_more {ps} {n} q is lt was has = grind (arith, nat_tests, tally-set, none_has, some_has, same_Some, set_here, set_there)
 
 set_by : (o : Option ℕ) {ps : List Place} {n : ℕ} (q : Place) → IsTable ps → n < length ps → slot_of (place_at ps n) ≡ o →
@@ -99,7 +102,8 @@ entry_length n p es = grind (arith, nat_tests)
 length_from : (n : ℕ) (ps : List Place) → length (entries_from n ps) ≡ taken_count ps
 unfolding tally
 length_from n [] = refl
-length_from n (p ∷ ps) = let rest = length_from (n + 1) ps in let here = entry_length n p (entries_from (n + 1) ps) in omega (arith, rest, here)
+length_from n (p ∷ ps) = let rest = length_from (n + 1) ps in let here = entry_length n p (entries_from (n + 1) ps) in
+    omega (arith, rest, here)
 
 pub length_entries : (ps : List Place) → length (entries_of ps) ≡ taken_count ps
 unfolding entries_of
@@ -118,7 +122,8 @@ unheld_slot : (p : Place) → is_held p ≡ false → slot_of p ≡ None
 unheld_slot p unheld = grind (arith, nat_tests)
 
 -- the entries of the objects from the n-th on, whose number is i
-entries_step : (i n : ℕ) (ps : List Place) → entries_from i (drop n ps) ≡ entry_before i (slot_of (place_at ps n)) (entries_from (i + 1) (drop (n + 1) ps))
+entries_step : (i n : ℕ) (ps : List Place) → entries_from i (drop n ps) ≡ entry_before i (slot_of (place_at ps n))
+    (entries_from (i + 1) (drop (n + 1) ps))
 entries_step i zero [] = refl
 entries_step i (suc n) [] = simp unary_clauses refl
 entries_step i zero (p ∷ ps) = refl
@@ -142,21 +147,29 @@ pub next_held : (ps : List Place) {from n s : ℕ} → IsNextMarked (map is_held
 next_held ps {from} {n} next has =
     let end : from + (n - from) ≡ n = omega (arith, next.past) in
     entries_unheld ps from (n - from) (λ m past within. next.least m past (omega (arith, end)))
-    ∙ ap (λ (m : ℕ). entries_from m (drop m ps)) end ∙ entries_step n n ps ∙ ap (λ (o : Option ℕ). entry_before n o (entries_from (n + 1) (drop (n + 1) ps)))
+    ∙ ap (λ (m : ℕ). entries_from m (drop m ps)) end ∙ entries_step n n ps ∙ ap
+    (λ (o : Option ℕ). entry_before n o (entries_from (n + 1) (drop (n + 1) ps)))
     has
 
 -- and where there is none, there are no more entries
 pub none_held : (ps : List Place) {from : ℕ} → HasNoneMarked (map is_held ps) from → entries_from from (drop from ps) ≡ []
 none_held ps {from} none =
-    entries_unheld ps from (length ps) (λ m past within. none m past) ∙ ap (entries_from (from + length ps)) (drop_all (from + length ps) ps (omega arith))
+    entries_unheld ps from (length ps) (λ m past within. none m past) ∙ ap (entries_from (from + length ps))
+    (drop_all (from + length ps) ps (omega arith))
 
 -- as many entries are left as were not yet listed
 pub entries_left : (ps : List Place) (xs rest : List Entry) → entries_of ps ≡ xs ++ rest → length xs + length rest ≡ taken_count ps
 entries_left ps xs rest are = let all = ap length are in omega (arith, all, length_entries ps, length-append xs rest)
 
 -- so all are listed in the end
-pub entries_done : (ps : List Place) {xs : List Entry} (rest : List Entry) → entries_of ps ≡ xs ++ rest → length xs ≡ taken_count ps → xs ≡ entries_of ps
-entries_done ps {xs} rest are done = search (arith, nil_from_length rest (omega (arith, entries_left ps xs rest are, done)), entries_left, append-nil)
+pub entries_done : (ps : List Place) {xs : List Entry} (rest : List Entry) → entries_of ps ≡ xs ++ rest → length xs ≡ taken_count ps →
+    xs ≡ entries_of ps
+entries_done ps {xs} rest are done = search (
+  arith,
+  nil_from_length rest (omega (arith, entries_left ps xs rest are, done)),
+  entries_left,
+  append-nil,
+)
 
 -- ---- all slots are taken away
 
@@ -222,8 +235,8 @@ entry_place : (ps : List Place) {i : ℕ} → i < length (entries_of ps) → slo
     (entry_at (entries_of ps) i).slot
 entry_place ps {i} lt = sym (slot_entries ps (entry_at (entries_of ps) i).object) ∙ own_slot (entries_of ps) i (entries_are ps).rising lt
 
-pub entries_directory : {g : Geometry} {ps : List Place} → IsTable ps → length ps ≡ g.nodes + g.pages → taken_count ps ≤ g.log → g.nodes + g.pages ≤ 8192 →
-    g.log ≤ 4096 → IsDirectory g (entries_of ps)
+pub entries_directory : {g : Geometry} {ps : List Place} → IsTable ps → length ps ≡ g.nodes + g.pages → taken_count ps ≤ g.log →
+    g.nodes + g.pages ≤ 8192 → g.log ≤ 4096 → IsDirectory g (entries_of ps)
 entries_directory {g} {ps} is size few small small' =
     let es : List Entry = entries_of ps in
     let are = entries_are ps in
@@ -239,7 +252,8 @@ entries_directory {g} {ps} is size few small small' =
             slot_fits = omega (arith, slot, few, small');
           });
       rising = are.rising;
-      apart = λ i j lt within same. two_objects es i j are.rising lt within (is.apart (entry_at es i).object (entry_at es j).object (entry_at es j).slot
+      apart = λ i j lt within same. two_objects es i j are.rising lt within
+          (is.apart (entry_at es i).object (entry_at es j).object (entry_at es j).slot
           (entry_place ps (omega (arith, lt, within)) ∙ ap (λ (k : ℕ). Some k) same) (entry_place ps within));
     }
 
@@ -253,16 +267,16 @@ unfolding tally
 taken_few [] = omega arith
 taken_few (p ∷ ps) = let rest = taken_few ps in let here = one_slot p in omega (arith, rest, here)
 
-pub count_set : (has : Place → ℕ) {items now : List Place} {n : ℕ} {q old : Place} {count a b : ℕ} → items ≡ now → n < length now → old ≡ place_at now n →
-    count ≡ tally has items → a ≡ has q → b ≡ has old → count + a - b ≡ tally has (set items n q)
+pub count_set : (has : Place → ℕ) {items now : List Place} {n : ℕ} {q old : Place} {count a b : ℕ} → items ≡ now → n < length now →
+    old ≡ place_at now n → count ≡ tally has items → a ≡ has q → b ≡ has old → count + a - b ≡ tally has (set items n q)
 count_set has {items} {now} {n} {q} {old} {count} {a} {b} same lt is total one other = grind (arith, nat_tests, tally-set)
 
-pub count_at : (has : Place → ℕ) {items now : List Place} {n : ℕ} {old : Place} {count b : ℕ} → items ≡ now → n < length now → old ≡ place_at now n →
-    count ≡ tally has items → b ≡ has old → b ≤ count
+pub count_at : (has : Place → ℕ) {items now : List Place} {n : ℕ} {old : Place} {count b : ℕ} → items ≡ now → n < length now →
+    old ≡ place_at now n → count ≡ tally has items → b ≡ has old → b ≤ count
 count_at has {items} {now} {n} {old} {count} {b} same lt is total other = grind (arith, nat_tests, tally_at)
 
-pub table_is : {items now : List Place} {n : ℕ} (q : Place) → items ≡ now → n < length now → slot_of q ≡ Some (slot_for now n) → IsTable items →
-    IsTable (set items n q)
+pub table_is : {items now : List Place} {n : ℕ} (q : Place) → items ≡ now → n < length now → slot_of q ≡ Some (slot_for now n) →
+    IsTable items → IsTable (set items n q)
 table_is {items} {now} {n} q same lt has is = grind (arith, nat_tests, table_set)
 
 slot_held : (p : Place) {s : ℕ} → slot_of p ≡ Some s → is_held p ≡ true
@@ -270,7 +284,8 @@ slot_held p {s} has = grind (arith, nat_tests)
 
 pub held_set : (ps : List Place) {held : List Bool} (n : ℕ) {s : ℕ} (q : Place) → held ≡ map is_held ps → slot_of q ≡ Some s →
     set held n true ≡ map is_held (set ps n q)
-held_set ps n {s} q are has = ap (λ (bs : List Bool). set bs n true) are ∙ ap (set (map is_held ps) n) (sym (slot_held q has)) ∙ sym (map-set is_held ps n q)
+held_set ps n {s} q are has = ap (λ (bs : List Bool). set bs n true) are ∙ ap (set (map is_held ps) n) (sym (slot_held q has))
+    ∙ sym (map-set is_held ps n q)
 
 pub blank_is : {ps : List Place} {held : List Bool} (n : ℕ) → ps ≡ replicate n Nowhere → held ≡ map is_held ps →
     IsTable ps × (held ≡ map is_held ps) × (0 ≡ taken_count ps) × (0 ≡ whole_count ps)

@@ -32,7 +32,8 @@ pub usage_given_up : (os : List Object) (set : List ℕ) → IsTree os → IsGiv
 usage_given_up os set tree h x stays above each = grind (arith, nat_tests, lost_together, given_up_within, usage_rescinded)
 
 -- two numbers where a test differs
-pub differ_where : (test : Content Capability → Bool) (os : List Object) (m n : ℕ) → test (content_at os m) ≡ true → test (content_at os n) ≡ false → m ≢ n
+pub differ_where : (test : Content Capability → Bool) (os : List Object) (m n : ℕ) → test (content_at os m) ≡ true →
+    test (content_at os n) ≡ false → m ≢ n
 differ_where test os m n is isnt same = false≢true (sym isnt ∙ (ap (λ (k : ℕ). test (content_at os k)) (sym same) ∙ is))
 
 -- what one kind of content isn't
@@ -57,7 +58,10 @@ module _ (g : Geometry) (os : List Object) (h : IsFramed g os) where
   only P o n here e = subst P (sym (only_member o n e)) here
 
   pair : (P : ℕ → Type 0) (o a n : ℕ) → P o → P a → is_member (o ∷ a ∷ []) n ≡ true → P n
-  pair P o a n first second e = elim (member_cases o (a ∷ []) n e) [ inl same ↦ subst P (sym same) first | inr later ↦ only P a n second later ]
+  pair P o a n first second e = elim (member_cases o (a ∷ []) n e) [
+    | inl same ↦ subst P (sym same) first
+    | inr later ↦ only P a n second later
+  ]
 
   -- a process and its annex are two
   pub annex_differs : (p : ℕ) → IsTrue (is_process os p) → annex_at os p ≢ p
@@ -67,7 +71,8 @@ module _ (g : Geometry) (os : List Object) (h : IsFramed g os) where
   process_freed p is =
       let a = annex_at os p in
       let known = h.annexes p is in
-      let none = λ (n : ℕ) (e : is_member (p ∷ a ∷ []) n ≡ true). pair (λ m. is_bank (content_at os m) ≡ false) p a n (root_no_bank (content_at os p) is)
+      let none = λ (n : ℕ) (e : is_member (p ∷ a ∷ []) n ≡ true). pair (λ m. is_bank (content_at os m) ≡ false) p a n
+      (root_no_bank (content_at os p) is)
       (annex_no_bank (content_at os a) known.0) e in
       record {
         given_up = grind (arith, nat_tests, no_member, annex_differs, pair, used_where);
@@ -76,19 +81,21 @@ module _ (g : Geometry) (os : List Object) (h : IsFramed g os) where
       }
 
   -- what a capability frees is rescinded together
-  pub freed_set : (c : Capability) (n : ℕ) (ns : List ℕ) → NamesItsKind os c → freed_by os c ≡ n ∷ ns → IsFreedSet os (owner_at os n) (n ∷ ns)
+  pub freed_set : (c : Capability) (n : ℕ) (ns : List ℕ) → NamesItsKind os c → freed_by os c ≡ n ∷ ns →
+      IsFreedSet os (owner_at os n) (n ∷ ns)
   freed_set (Page o a) n ns names e = grind (arith, nat_tests, used_where)
   freed_set (Node o a) n ns names e = grind (arith, nat_tests, used_where)
   freed_set (Process p) n ns names e = subst (λ xs. IsFreedSet os (owner_at os (get_or xs 0 0)) xs) e (process_freed p names)
   freed_set c n ns names e = cc
 
 -- what isn't free is under a bank where the chain of its owner passes through it
-pub under_owner : (os : List Object) (x n : ℕ) → is_free (content_at os n) ≡ false → is_under os x (object_at os n) ≡ is_member (chain os (owner_at os n)) x
+pub under_owner : (os : List Object) (x n : ℕ) → is_free (content_at os n) ≡ false →
+    is_under os x (object_at os n) ≡ is_member (chain os (owner_at os n)) x
 under_owner os x n used = rw used refl
 
 -- what is left of a bank's usage after a free, with what is freed, is what it was
-usage_freed_both : (g : Geometry) (os : List Object) (c : Capability) (b n : ℕ) (ns : List ℕ) → IsNow g os → owner_at os n ≡ b → freed_by os c ≡ n ∷ ns
-    → NamesItsKind os c → (x : ℕ) → IsTrue (is_bank (content_at os x))
+usage_freed_both : (g : Geometry) (os : List Object) (c : Capability) (b n : ℕ) (ns : List ℕ) → IsNow g os → owner_at os n ≡ b →
+    freed_by os c ≡ n ∷ ns → NamesItsKind os c → (x : ℕ) → IsTrue (is_bank (content_at os x))
     → usage (rescind (n ∷ ns) os) x + (if is_member (chain os b) x then length (n ∷ ns) else 0) ≡ usage os x
 usage_freed_both g os c b n ns h own frees names x bank =
     let set = freed_set g os h.frame c n ns names frees in
@@ -98,14 +105,15 @@ usage_freed_both g os c b n ns h own frees names x bank =
     (λ m e. under_owner os x m (set.given_up.used m e) ∙ ap (λ (k : ℕ). is_member (chain os k) x) (set.owner m e ∙ own))
 
 -- the usage of a bank after a free
-pub usage_freed : (g : Geometry) (os : List Object) (c : Capability) (b n : ℕ) (ns : List ℕ) → IsNow g os → owner_at os n ≡ b → freed_by os c ≡ n ∷ ns
-    → NamesItsKind os c → (x : ℕ) → IsTrue (is_bank (content_at os x))
+pub usage_freed : (g : Geometry) (os : List Object) (c : Capability) (b n : ℕ) (ns : List ℕ) → IsNow g os → owner_at os n ≡ b →
+    freed_by os c ≡ n ∷ ns → NamesItsKind os c → (x : ℕ) → IsTrue (is_bank (content_at os x))
     → usage (rescind (n ∷ ns) os) x ≡ usage os x - (if is_member (chain os b) x then length (n ∷ ns) else 0)
 usage_freed g os c b n ns h own frees names x bank = omega (arith, usage_freed_both g os c b n ns h own frees names x bank)
 
 -- what is freed isn't more than was used
-pub freed_fits : (g : Geometry) (os : List Object) (c : Capability) (b n : ℕ) (ns : List ℕ) → IsNow g os → owner_at os n ≡ b → freed_by os c ≡ n ∷ ns
-    → NamesItsKind os c → (x : ℕ) → IsTrue (is_bank (content_at os x)) → (if is_member (chain os b) x then length (n ∷ ns) else 0) ≤ usage os x
+pub freed_fits : (g : Geometry) (os : List Object) (c : Capability) (b n : ℕ) (ns : List ℕ) → IsNow g os → owner_at os n ≡ b →
+    freed_by os c ≡ n ∷ ns → NamesItsKind os c → (x : ℕ) → IsTrue (is_bank (content_at os x)) →
+    (if is_member (chain os b) x then length (n ∷ ns) else 0) ≤ usage os x
 freed_fits g os c b n ns h own frees names x bank = omega (arith, usage_freed_both g os c b n ns h own frees names x bank)
 
 -- the lists of what is under a bank and of what it owns
@@ -114,13 +122,17 @@ pub under_once : (os : List Object) (b : ℕ) → AllDiffer (under os b)
 unfolding under
 under_once os b = filter_once (λ n. (n == b) || is_under os b (object_at os n)) 0 (length os)
 
-pub under_found : (os : List Object) (b n : ℕ) → is_member (under os b) n ≡ true → (n < length os) × (((n == b) || is_under os b (object_at os n)) ≡ true)
+pub under_found : (os : List Object) (b n : ℕ) → is_member (under os b) n ≡ true →
+    (n < length os) × (((n == b) || is_under os b (object_at os n)) ≡ true)
 unfolding under
-under_found os b n e = let found = found_in (λ n. (n == b) || is_under os b (object_at os n)) 0 (length os) n e in (omega (arith, found.1), found.2)
+under_found os b n e = let found = found_in (λ n. (n == b) || is_under os b (object_at os n)) 0 (length os) n e in
+    (omega (arith, found.1), found.2)
 
-pub under_stands : (os : List Object) (b n : ℕ) → n < length os → ((n == b) || is_under os b (object_at os n)) ≡ true → is_member (under os b) n ≡ true
+pub under_stands : (os : List Object) (b n : ℕ) → n < length os → ((n == b) || is_under os b (object_at os n)) ≡ true →
+    is_member (under os b) n ≡ true
 unfolding under
-under_stands os b n below passes = stands_in (λ n. (n == b) || is_under os b (object_at os n)) 0 (length os) n (omega arith) (omega (arith, below)) passes
+under_stands os b n below passes = stands_in (λ n. (n == b) || is_under os b (object_at os n)) 0 (length os) n (omega arith)
+    (omega (arith, below)) passes
 
 -- what a bank owns: the numbers below the length that aren't free and have it as their owner
 pub owned_found : (os : List Object) (b n : ℕ) → is_member (owned_by os b) n ≡ true →
@@ -154,16 +166,29 @@ module _ (g : Geometry) (os : List Object) (h : IsFramed g os) (b : ℕ) (is : I
   under_used : (n : ℕ) → is_member (under os b) n ≡ true → is_free (content_at os n) ≡ false
   under_used n e = elim (or_cases (n == b) (is_under os b (object_at os n)) (under_found os b n e).1) [
     | inl same ↦ used_where is_bank refl (content_at os n) (ap (λ (k : ℕ). is_bank (content_at os k)) (eqb-true n b same) ∙ is)
-    | inr below ↦ not-true (is_free (content_at os n)) (and_parts (not (is_free (content_at os n))) (is_member (chain os (owner_at os n)) b) below).0
+    | inr below ↦ not-true (is_free (content_at os n)) (and_parts (not (is_free (content_at os n))) (is_member (chain os (owner_at os n)) b)
+        below).0
   ]
 
   -- what isn't free and has the bank in its owner's chain is under it
-  under_chain : (n : ℕ) → is_free (content_at os n) ≡ false → is_member (chain os (owner_at os n)) b ≡ true → is_member (under os b) n ≡ true
+  under_chain : (n : ℕ) → is_free (content_at os n) ≡ false → is_member (chain os (owner_at os n)) b ≡ true →
+      is_member (under os b) n ≡ true
   under_chain n used passes = grind (arith, nat_tests, under_stands, used_within, under_owner)
 
   -- a bank with it in its chain is it or under it
   under_bank : (c : ℕ) → IsTrue (is_bank (content_at os c)) → is_member (chain os c) b ≡ true → is_member (under os b) c ≡ true
-  under_bank c bank passes = grind (arith, nat_tests, under_stands, used_within, used_where, chain_zero, member_tail, under_chain, chain_unfolds, tree)
+  under_bank c bank passes = grind (
+    arith,
+    nat_tests,
+    under_stands,
+    used_within,
+    used_where,
+    chain_zero,
+    member_tail,
+    under_chain,
+    chain_unfolds,
+    tree,
+  )
 
   -- and one that is it or under it has it in its chain
   bank_under : (c : ℕ) → IsTrue (is_bank (content_at os c)) → is_member (under os b) c ≡ true → is_member (chain os c) b ≡ true
@@ -191,7 +216,8 @@ module _ (g : Geometry) (os : List Object) (h : IsFramed g os) (b : ℕ) (is : I
       (λ e. absurd (false≢true (sym (ap (λ xs. is_member xs b) (chain_zero os 0 refl) ∙ member_tail b 0 [] on) ∙ e)))
       (λ c bank far above passes.
       let other : x ≢ c = λ e. false≢true (sym stays ∙ (ap (λ (k : ℕ). is_member (under os b) k) e ∙ under_bank c bank passes)) in
-      ap (λ xs. is_member xs x) (chain_unfolds os tree c bank far) ∙ (member_tail x c (chain os (owner_at os c)) other ∙ elim (cases_eq c b) [
+      ap (λ xs. is_member xs x) (chain_unfolds os tree c bank far) ∙ (member_tail x c (chain os (owner_at os c)) other
+      ∙ elim (cases_eq c b) [
         | inl same ↦ ap (λ (k : ℕ). is_member (chain os (owner_at os k)) x) same
         | inr differ ↦ grind (arith, nat_tests, chain_unfolds, tree, member_tail)
       ]))
@@ -211,7 +237,8 @@ module _ (g : Geometry) (os : List Object) (h : IsFramed g os) (b : ℕ) (is : I
   under_other n used none = elim (cases_Bool (is_member (chain os (owner_at os n)) b)) [
     | inl passes ↦ under_chain n used passes ∙ sym passes
     | inr apart ↦
-        false_from_ne_true (is_member (under os b) n) (λ e. elim (or_cases (n == b) (is_under os b (object_at os n)) (under_found os b n e).1) [
+        false_from_ne_true (is_member (under os b) n) (λ e. elim (or_cases (n == b) (is_under os b (object_at os n))
+        (under_found os b n e).1) [
           | inl same ↦ false≢true (sym none ∙ (ap (λ (k : ℕ). is_bank (content_at os k)) (eqb-true n b same) ∙ is))
           | inr below ↦ false≢true (sym apart ∙ (sym (under_owner os b n used) ∙ below))
         ])
@@ -226,7 +253,8 @@ module _ (g : Geometry) (os : List Object) (h : IsFramed g os) (b : ℕ) (is : I
           false≢true (sym (ap (λ xs. is_member xs b) (chain_zero os 0 refl) ∙ member_tail b 0 [] on) ∙ bank_under 0 h.prime.0 e));
       annexes = λ p process.
           let known = h.annexes p process in
-          under_other (annex_at os p) (used_where is_annex refl (content_at os (annex_at os p)) known.0) (annex_no_bank (content_at os (annex_at os p)) known.0)
+          under_other (annex_at os p) (used_where is_annex refl (content_at os (annex_at os p)) known.0)
+          (annex_no_bank (content_at os (annex_at os p)) known.0)
           ∙ (ap (λ (k : ℕ). is_member (chain os k) b) known.1
           ∙ sym (under_other p (used_where is_root refl (content_at os p) process) (root_no_bank (content_at os p) process)));
       owned = λ n used e. under_chain n used (bank_under (owner_at os n) (used_owner os tree n used) e);

@@ -25,11 +25,13 @@ pub record IsClosedSet (os : List Object) (set : List ℕ) : Type 0 where
   pub owned : (n : ℕ) → is_free (content_at os n) ≡ false → is_member set (owner_at os n) ≡ true → is_member set n ≡ true
 
 -- a test that a free content fails, where it is passed
-pub used_where : (test : Content Capability → Bool) → test content.Free ≡ false → (c : Content Capability) → test c ≡ true → is_free c ≡ false
+pub used_where : (test : Content Capability → Bool) → test content.Free ≡ false → (c : Content Capability) → test c ≡ true →
+    is_free c ≡ false
 used_where test fails c is = grind (arith, nat_tests)
 
 -- what isn't free is owned by a bank
-pub used_owner : (os : List Object) → IsTree os → (n : ℕ) → is_free (content_at os n) ≡ false → IsTrue (is_bank (content_at os (owner_at os n)))
+pub used_owner : (os : List Object) → IsTree os → (n : ℕ) → is_free (content_at os n) ≡ false →
+    IsTrue (is_bank (content_at os (owner_at os n)))
 used_owner os tree n used = tree.owners n (λ gone. false≢true (sym used ∙ gone))
 
 -- what stays and what goes
@@ -48,7 +50,8 @@ module _ (os : List Object) (set : List ℕ) where
   kept_tests n e = same_tests (content_at os n) (content_at (rescind set os) n) (kept_alike n e).role
 
   -- what isn't free afterwards is no member
-  stays_where : (test : Content Capability → Bool) → test content.Free ≡ false → (n : ℕ) → test (content_at (rescind set os) n) ≡ true → is_member set n ≡ false
+  stays_where : (test : Content Capability → Bool) → test content.Free ≡ false → (n : ℕ) → test (content_at (rescind set os) n) ≡ true →
+      is_member set n ≡ false
   stays_where test fails n is = grind (arith, nat_tests, went_object)
 
   pub length_rescind : length (rescind set os) ≡ length os
@@ -64,18 +67,21 @@ module _ (os : List Object) (set : List ℕ) (tree : IsTree os) (closed : IsClos
   owner_stays n used stays = false_from_ne_true (is_member set (owner_at os n)) (λ e. false≢true (sym stays ∙ closed.owned n used e))
 
   -- the chain of a bank that stays is as it was
-  chain_within_kept : (k b : ℕ) → IsTrue (is_bank (content_at os b)) → is_member set b ≡ false → chain_within k (rescind set os) b ≡ chain_within k os b
+  chain_within_kept : (k b : ℕ) → IsTrue (is_bank (content_at os b)) → is_member set b ≡ false →
+      chain_within k (rescind set os) b ≡ chain_within k os b
   chain_within_kept zero b is stays = refl
   chain_within_kept (suc k) b is stays =
       let used = used_where is_bank refl (content_at os b) is in
-      rw (kept_alike os set b stays).owner (rw (chain_within_kept k (owner_at os b) (used_owner os tree b used) (owner_stays b used stays)) refl)
+      rw (kept_alike os set b stays).owner (rw (chain_within_kept k (owner_at os b) (used_owner os tree b used) (owner_stays b used stays))
+      refl)
 
   pub chain_kept : (b : ℕ) → IsTrue (is_bank (content_at os b)) → is_member set b ≡ false → chain (rescind set os) b ≡ chain os b
   unfolding chain
   chain_kept b is stays = chain_within_kept 16 b is stays
 
   -- what stays is under the banks that it was under, and what goes under none
-  under_kept : (x n : ℕ) → is_member set n ≡ false → is_under (rescind set os) x (object_at (rescind set os) n) ≡ is_under os x (object_at os n)
+  under_kept : (x n : ℕ) → is_member set n ≡ false → is_under (rescind set os) x (object_at (rescind set os) n)
+      ≡ is_under os x (object_at os n)
   under_kept x n stays = grind (arith, nat_tests, kept_tests, kept_alike, chain_kept, used_owner, owner_stays)
 
   under_went : (x n : ℕ) → is_member set n ≡ true → is_under (rescind set os) x (object_at (rescind set os) n) ≡ false
@@ -94,7 +100,8 @@ module _ (os : List Object) (set : List ℕ) (tree : IsTree os) (closed : IsClos
       (λ p. not (p.0 == x) && is_under os x p.1) 0 os (rescind set os) free (length_rescind os set)
       (λ i j e.
       let same : i ≡ j = omega (arith, e) in
-      rw same (sums_up (j == x) (is_under (rescind set os) x (object_at (rescind set os) j)) (is_under os x (object_at os j)) (is_member set j)
+      rw same (sums_up (j == x) (is_under (rescind set os) x (object_at (rescind set os) j)) (is_under os x (object_at os j))
+      (is_member set j)
       (λ kept. under_kept x j kept) (λ goes. under_went x j goes)
       (λ goes. ne_eqb j x (λ at. false≢true (sym stays ∙ (ap (λ (m : ℕ). is_member set m) (sym at) ∙ goes))))))
 
@@ -121,7 +128,11 @@ framed_rescind g os set h closed =
           let was = sym (t p kept).root ∙ is in
           let known = h.annexes p was in
           let with_it : is_member set (annex_at os p) ≡ false = closed.annexes p was ∙ kept in
-          rw (alike p kept).annex ((t (annex_at os p) with_it).annex ∙ known.0, (alike (annex_at os p) with_it).owner ∙ (known.1 ∙ sym (alike p kept).owner));
+          rw (alike p kept).annex (
+            (t (annex_at os p) with_it).annex ∙ known.0,
+            (alike (annex_at os p) with_it).owner
+                ∙ (known.1 ∙ sym (alike p kept).owner),
+          );
       one_root = λ p q is iq same.
           let kept = stays is_root refl p is in
           let other = stays is_root refl q iq in
@@ -129,7 +140,8 @@ framed_rescind g os set h closed =
       some_root = λ a is.
           let kept = stays is_annex refl a is in
           let found = h.some_root a (sym (t a kept).annex ∙ is) in
-          let with_it : is_member set found.0 ≡ false = sym (closed.annexes found.0 found.1) ∙ (ap (λ (m : ℕ). is_member set m) found.2 ∙ kept) in
+          let with_it : is_member set found.0 ≡ false = sym (closed.annexes found.0 found.1)
+          ∙ (ap (λ (m : ℕ). is_member set m) found.2 ∙ kept) in
           (found.0, (t found.0 with_it).root ∙ found.1, (alike found.0 with_it).annex ∙ found.2);
       unowned = λ n is. grind (arith, nat_tests, went_object);
       owners = λ n is.
@@ -178,13 +190,23 @@ module _ (os : List Object) (set : List ℕ) where
   space_rescind : (c : Capability) → IsSpace c → IsSpace (cleared c)
   space_rescind c h = one_of IsSpace (names_member set c) Void c tt h
 
-  filled_cleared : (c : Content Capability) → IsFilled os (Waits os) c → IsFilled (rescind set os) (Waits (rescind set os)) (map_content cleared c)
-  filled_cleared = filled_map os (rescind set os) (Waits os) (Waits (rescind set os)) cleared (void_void (names_member set)) held_rescind space_rescind
+  filled_cleared : (c : Content Capability) → IsFilled os (Waits os) c → IsFilled (rescind set os) (Waits (rescind set os))
+      (map_content cleared c)
+  filled_cleared = filled_map os (rescind set os) (Waits os) (Waits (rescind set os)) cleared (void_void (names_member set)) held_rescind
+      space_rescind
 
   filled_free : IsFilled (rescind set os) (Waits (rescind set os)) content.Free
-  filled_free = record { shape = tt; words = λ i. omega arith; slots = λ i. held_void _ _; register_0 = λ e. refl; space = held_void _ _; is_space = tt }
+  filled_free = record {
+    shape = tt;
+    words = λ i. omega arith;
+    slots = λ i. held_void _ _;
+    register_0 = λ e. refl;
+    space = held_void _ _;
+    is_space = tt;
+  }
 
-  filled_rescind : (n : ℕ) → IsFilled os (Waits os) (content_at os n) → IsFilled (rescind set os) (Waits (rescind set os)) (content_at (rescind set os) n)
+  filled_rescind : (n : ℕ) → IsFilled os (Waits os) (content_at os n) → IsFilled (rescind set os) (Waits (rescind set os))
+      (content_at (rescind set os) n)
   filled_rescind n h = grind (arith, nat_tests, went_object, filled_free, kept_object, filled_cleared)
 
 -- sound objects are sound where a closed set is rescinded
@@ -203,15 +225,17 @@ count_members os [] once below = count_none (λ p. false) os free (λ i. refl)
 count_members os (m ∷ ms) once below =
     let first = one_within m 0 os (omega arith) (omega (arith, below m (or_left (nat_eq m m) (is_member ms m) (eq-eqb m m refl)))) in
     let rest = count_members os ms once.1 (λ n is. below n (or_right (nat_eq n m) (is_member ms n) is)) in
-    let both = count_both (λ p. p.0 == m) (λ p. is_member ms p.0) (λ p. is_member (m ∷ ms) p.0) 0 os os free refl (λ i j e. apart j (cases_eq j m)) in
+    let both = count_both (λ p. p.0 == m) (λ p. is_member ms p.0) (λ p. is_member (m ∷ ms) p.0) 0 os os free refl
+    (λ i j e. apart j (cases_eq j m)) in
     omega (arith, first, rest, both)
   where
     apart : (j : ℕ) → (j ≡ m) ⊎ (j ≢ m) → cond (j == m) 1 0 + cond (is_member ms j) 1 0 ≡ cond (is_member (m ∷ ms) j) 1 0
     apart j is = grind (arith, nat_tests)
 
 -- where a bank is above all of a set or above none of it, so much of its usage goes
-pub lost_together : (os : List Object) (set : List ℕ) (x : ℕ) (above : Bool) → AllDiffer set → ((n : ℕ) → is_member set n ≡ true → n < length os)
-    → ((n : ℕ) → is_member set n ≡ true → is_under os x (object_at os n) ≡ above) → lost os set x ≡ (if above then length set else 0)
+pub lost_together : (os : List Object) (set : List ℕ) (x : ℕ) (above : Bool) → AllDiffer set →
+    ((n : ℕ) → is_member set n ≡ true → n < length os) → ((n : ℕ) → is_member set n ≡ true → is_under os x (object_at os n) ≡ above) →
+    lost os set x ≡ (if above then length set else 0)
 unfolding lost
 lost_together os set x true once below each =
     count_alike (λ p. is_member set p.0 && is_under os x p.1) (λ p. is_member set p.0) os os free refl (λ i. go i (is_member set i) refl) ∙

@@ -32,7 +32,8 @@ heir_other b parent n e = rw (ne_eqb n b e) refl
 pub transferred_content : (b parent : ℕ) (o : Object) → (transferred b parent o).content ≡ o.content
 transferred_content b parent o = one_of (λ x. x.content ≡ o.content) (not (is_free o.content) && (o.owner == b)) _ o refl refl
 
-transferred_owner : (b parent : ℕ) (o : Object) → b ≢ 0 → (is_free o.content ≡ true → o.owner ≡ 0) → (transferred b parent o).owner ≡ heir b parent o.owner
+transferred_owner : (b parent : ℕ) (o : Object) → b ≢ 0 → (is_free o.content ≡ true → o.owner ≡ 0) →
+    (transferred b parent o).owner ≡ heir b parent o.owner
 transferred_owner b parent o on unowned = grind (arith, nat_tests)
 
 -- the objects after a bank's are transferred
@@ -45,7 +46,8 @@ module _ (os : List Object) (t : IsTree os) (b : ℕ) (is : IsTrue (is_bank (con
   inherited_content n = ap (λ (o : Object). o.content) (inherited_object n) ∙ transferred_content b (owner_at os b) (object_at os n)
 
   pub inherited_owner : (n : ℕ) → owner_at (inherited os b) n ≡ heir b (owner_at os b) (owner_at os n)
-  inherited_owner n = ap (λ (o : Object). o.owner) (inherited_object n) ∙ transferred_owner b (owner_at os b) (object_at os n) on (t.unowned n)
+  inherited_owner n = ap (λ (o : Object). o.owner) (inherited_object n) ∙ transferred_owner b (owner_at os b) (object_at os n) on
+      (t.unowned n)
 
   pub length_inherited : length (inherited os b) ≡ length os
   unfolding inherited
@@ -66,7 +68,8 @@ module _ (os : List Object) (t : IsTree os) (b : ℕ) (is : IsTrue (is_bank (con
     | inl end ↦ rw (end, ne_eqb b 0 on) refl
     | inr far ↦
         rw (ne_eqb (heir b (owner_at os b) n) 0 far, inherited_owner (heir b (owner_at os b) n))
-        (member_tail b (heir b (owner_at os b) n) _ (λ e. heir_differs n (sym e)) ∙ no_heir_within k (owner_at os (heir b (owner_at os b) n)))
+        (member_tail b (heir b (owner_at os b) n) _ (λ e. heir_differs n (sym e))
+        ∙ no_heir_within k (owner_at os (heir b (owner_at os b) n)))
   ]
 
   -- all others are in the chains that they were in
@@ -74,17 +77,21 @@ module _ (os : List Object) (t : IsTree os) (b : ℕ) (is : IsTrue (is_bank (con
       → is_member (chain_within k (inherited os b) (heir b (owner_at os b) c)) x ≡ is_member (chain os c) x
   heir_within x differ =
       tree_induction os t
-      (λ c. (k : ℕ) → length (chain os c) ≤ k → is_member (chain_within k (inherited os b) (heir b (owner_at os b) c)) x ≡ is_member (chain os c) x)
+      (λ c. (k : ℕ) → length (chain os c) ≤ k → is_member (chain_within k (inherited os b) (heir b (owner_at os b) c)) x
+      ≡ is_member (chain os c) x)
       base step
     where
-      base : (k : ℕ) → length (chain os 0) ≤ k → is_member (chain_within k (inherited os b) (heir b (owner_at os b) 0)) x ≡ is_member (chain os 0) x
+      base : (k : ℕ) → length (chain os 0) ≤ k → is_member (chain_within k (inherited os b) (heir b (owner_at os b) 0)) x
+          ≡ is_member (chain os 0) x
       base zero short = absurd (omega (arith, short, chain_nonempty os t 0 t.prime.0))
       base (suc k) short = rw (heir_other b (owner_at os b) 0 (λ e. on (sym e)), chain_prime os) refl
 
       step : (c : ℕ) → IsTrue (is_bank (content_at os c)) → c ≢ 0
-          → ((k : ℕ) → length (chain os (owner_at os c)) ≤ k → is_member (chain_within k (inherited os b) (heir b (owner_at os b) (owner_at os c))) x ≡
+          → ((k : ℕ) → length (chain os (owner_at os c)) ≤ k → is_member (chain_within k (inherited os b)
+          (heir b (owner_at os b) (owner_at os c))) x ≡
           is_member (chain os (owner_at os c)) x)
-          → (k : ℕ) → length (chain os c) ≤ k → is_member (chain_within k (inherited os b) (heir b (owner_at os b) c)) x ≡ is_member (chain os c) x
+          → (k : ℕ) → length (chain os c) ≤ k → is_member (chain_within k (inherited os b) (heir b (owner_at os b) c)) x
+          ≡ is_member (chain os c) x
       step c bank far above zero short = absurd (omega (arith, short, chain_nonempty os t c bank))
       step c bank far above (suc k) short = elim (cases_eq c b) [
         | inl same ↦
@@ -92,14 +99,15 @@ module _ (os : List Object) (t : IsTree os) (b : ℕ) (is : IsTrue (is_bank (con
             (heir_of b (owner_at os b) c same ∙ (ap (λ (n : ℕ). owner_at os n) (sym same)
             ∙ sym (heir_other b (owner_at os b) (owner_at os c) (λ e. parent_other (ap (λ (n : ℕ). owner_at os n) (sym same) ∙ e)))))
             ∙ (above (suc k) (omega (arith, short, chain_longer os t c bank far))
-            ∙ sym (ap (λ xs. is_member xs x) (chain_unfolds os t c bank far) ∙ member_tail x c (chain os (owner_at os c)) (λ e. differ (e ∙ same))))
+            ∙ sym (ap (λ xs. is_member xs x) (chain_unfolds os t c bank far)
+            ∙ member_tail x c (chain os (owner_at os c)) (λ e. differ (e ∙ same))))
         | inr other ↦
             rw (heir_other b (owner_at os b) c other, ne_eqb c 0 far, inherited_owner c, chain_unfolds os t c bank far)
             (ap (λ (rest : Bool). nat_eq x c || rest) (above k (omega (arith, short, chain_longer os t c bank far))))
       ]
 
-  chain_heir : (x c : ℕ) → x ≢ b → IsTrue (is_bank (content_at os c)) → is_member (chain (inherited os b) (heir b (owner_at os b) c)) x ≡ is_member (chain os c)
-      x
+  chain_heir : (x c : ℕ) → x ≢ b → IsTrue (is_bank (content_at os c)) → is_member (chain (inherited os b) (heir b (owner_at os b) c)) x
+      ≡ is_member (chain os c) x
   unfolding chain
   chain_heir x c differ bank = heir_within x differ c bank 16 (chain_length os c)
 
@@ -139,16 +147,19 @@ module _ (os : List Object) (t : IsTree os) (b : ℕ) (is : IsTrue (is_bank (con
   pub usage_inherited : (x : ℕ) → x ≢ b → usage (inherited os b) x ≡ usage os x
   unfolding usage
   usage_inherited x differ =
-      count_alike (λ p. not (p.0 == x) && is_under (inherited os b) x p.1) (λ p. not (p.0 == x) && is_under os x p.1) os (inherited os b) free length_inherited
+      count_alike (λ p. not (p.0 == x) && is_under (inherited os b) x p.1) (λ p. not (p.0 == x) && is_under os x p.1) os (inherited os b)
+      free length_inherited
       (λ i. ap (λ (u : Bool). not (i == x) && u) (under_heir x i differ))
 
   usage_none : usage (inherited os b) b ≡ 0
   unfolding usage
   usage_none =
-      count_none (λ p. not (p.0 == b) && is_under (inherited os b) b p.1) (inherited os b) free (λ i. and_right (not (i == b)) _ (no_under i))
+      count_none (λ p. not (p.0 == b) && is_under (inherited os b) b p.1) (inherited os b) free
+      (λ i. and_right (not (i == b)) _ (no_under i))
 
 -- the frame after a bank's objects are transferred
-pub framed_inherited : (g : Geometry) (os : List Object) (b : ℕ) → IsFramed g os → IsTrue (is_bank (content_at os b)) → b ≢ 0 → IsFramed g (inherited os b)
+pub framed_inherited : (g : Geometry) (os : List Object) (b : ℕ) → IsFramed g os → IsTrue (is_bank (content_at os b)) → b ≢ 0 →
+    IsFramed g (inherited os b)
 framed_inherited g os b h is on =
     let t = tree_of g os h in
     let same = inherited_content os t b is on in
@@ -169,16 +180,21 @@ framed_inherited g os b h is on =
       owners = grind (arith, nat_tests);
       prime = grind (arith, nat_tests, heir_other);
       chains = λ c bank.
-          Contains-from_any (λ x y e. eqb-true x y e) 0 (chain (inherited os b) c) (inherited_chain os t b is on c (ap is_bank (sym (same c)) ∙ bank));
+          Contains-from_any (λ x y e. eqb-true x y e) 0 (chain (inherited os b) c)
+          (inherited_chain os t b is on c (ap is_bank (sym (same c)) ∙ bank));
       limits = λ c bank. grind (arith, nat_tests, usage_none, usage_inherited);
     }
 
 -- sound objects are sound where a bank's are transferred
-pub inherited_now : (g : Geometry) (os : List Object) (b : ℕ) → IsNow g os → IsTrue (is_bank (content_at os b)) → b ≢ 0 → IsNow g (inherited os b)
+pub inherited_now : (g : Geometry) (os : List Object) (b : ℕ) → IsNow g os → IsTrue (is_bank (content_at os b)) → b ≢ 0 →
+    IsNow g (inherited os b)
 inherited_now g os b h is on =
     let same = inherited_content os (tree_of g os h.frame) b is on in
     let held = λ (c : Capability) (may : IsHeld os (Waits os) c).
-    held_as_before os (inherited os b) c (λ n e. record { role = ap role_of (same n); state = ap (λ (c : Content Capability). (root_in c).state) (same n) }) may
+    held_as_before os (inherited os b) c (λ n e. record {
+      role = ap role_of (same n);
+      state = ap (λ (c : Content Capability). (root_in c).state) (same n);
+    }) may
     in
     record {
       frame = framed_inherited g os b h.frame is on;
@@ -194,14 +210,28 @@ inherited_now g os b h is on =
     }
 
 -- then the bank can be rescinded alone
-alone_given_up : (g : Geometry) (os : List Object) (b : ℕ) → IsFramed g os → IsTrue (is_bank (content_at os b)) → b ≢ 0 → IsGivenUp (inherited os b) (b ∷ [])
+alone_given_up : (g : Geometry) (os : List Object) (b : ℕ) → IsFramed g os → IsTrue (is_bank (content_at os b)) → b ≢ 0 →
+    IsGivenUp (inherited os b) (b ∷ [])
 alone_given_up g os b h is on =
-    grind (arith, nat_tests, tree_of, framed_inherited, inherited_content, no_member, differ_where, heir_differs, inherited_owner, only_member, used_where)
+    grind (
+      arith,
+      nat_tests,
+      tree_of,
+      framed_inherited,
+      inherited_content,
+      no_member,
+      differ_where,
+      heir_differs,
+      inherited_owner,
+      only_member,
+      used_where,
+    )
 
 -- sound objects are sound where a bank is returned
 pub returned_now : (g : Geometry) (os : List Object) (b : ℕ) → IsNow g os → IsTrue (is_bank (content_at os b)) → b ≢ 0 →
     IsNow g (rescind (b ∷ []) (inherited os b))
-returned_now g os b h is on = rescinded_now g (inherited os b) (b ∷ []) (inherited_now g os b h is on) (alone_given_up g os b h.frame is on).closed
+returned_now g os b h is on = rescinded_now g (inherited os b) (b ∷ []) (inherited_now g os b h is on)
+    (alone_given_up g os b h.frame is on).closed
 
 usage_returned_both : (g : Geometry) (os : List Object) (b : ℕ) → IsNow g os → IsTrue (is_bank (content_at os b)) → b ≢ 0
     → (x : ℕ) → x ≢ b
@@ -235,7 +265,8 @@ returned_fits g os b h is on x differ = omega (arith, usage_returned_both g os b
 void_keeps : (g : Geometry) (os : List Object) (written : List ℕ) → IsNow g os → IsOutcome g (made os written Void)
 void_keeps g os written h = grind (arith, nat_tests)
 
-module _ (g : Geometry) (os : List Object) (b : ℕ) (args : Arguments) (h : IsNow g os) (is : IsTrue (is_bank (content_at os b))) (fits : AreArguments os args)
+module _ (g : Geometry) (os : List Object) (b : ℕ) (args : Arguments) (h : IsNow g os) (is : IsTrue (is_bank (content_at os b)))
+    (fits : AreArguments os args)
   where
     -- a free keeps sound objects sound
     pub freed_keeps : IsOutcome g (on_bank g os b bank.Free args)
@@ -247,7 +278,8 @@ module _ (g : Geometry) (os : List Object) (b : ℕ) (args : Arguments) (h : IsN
         go (n ∷ ns) e =
             chosen (IsOutcome g) (owner_at os n == b) _ _
             (λ own. void_keeps g _ _
-            (rescinded_now g os (n ∷ ns) h (freed_set g os h.frame args.capability n ns (held_to os args.capability fits.held).1 e).given_up.closed))
+            (rescinded_now g os (n ∷ ns) h (freed_set g os h.frame args.capability n ns (held_to os args.capability fits.held).1
+            e).given_up.closed))
             (λ other. refused_keeps g os _ h)
 
     -- so does the end of a bank with all under it
@@ -261,4 +293,5 @@ module _ (g : Geometry) (os : List Object) (b : ℕ) (args : Arguments) (h : IsN
     pub returned_keeps : IsOutcome g (on_bank g os b bank.ReturnToParent args)
     unfolding on_bank
     returned_keeps =
-        chosen (IsOutcome g) (b == 0) _ _ (λ prime. refused_keeps g os _ h) (λ on. void_keeps g _ _ (returned_now g os b h is (eqb-false b 0 on)))
+        chosen (IsOutcome g) (b == 0) _ _ (λ prime. refused_keeps g os _ h)
+        (λ on. void_keeps g _ _ (returned_now g os b h is (eqb-false b 0 on)))

@@ -52,13 +52,15 @@ within_on_same os us (suc k) b same = elim (cases_eq b 0) [
   | inl end ↦ within_end us k b end ∙ sym (within_end os k b end)
   | inr on ↦
       let here : owner_at us b ≡ owner_at os b = grind (arith, nat_tests) in
-      let above : (x : ℕ) → is_member (chain_within k os (owner_at os b)) x ≡ true → owner_at us x ≡ owner_at os x = grind (arith, nat_tests) in
+      let above : (x : ℕ) → is_member (chain_within k os (owner_at os b)) x ≡ true →
+      owner_at us x ≡ owner_at os x = grind (arith, nat_tests) in
       within_on us k b on ∙ (ap (λ c. b ∷ chain_within k us c) here
       ∙ (ap (λ xs. b ∷ xs) (within_on_same os us k (owner_at os b) above) ∙ sym (within_on os k b on)))
 ]
 
 -- lists of objects with the same owners along the chain of a bank have the same chain of it
-pub chain_on : (os us : List Object) (b : ℕ) → ((x : ℕ) → is_member (chain os b) x ≡ true → owner_at us x ≡ owner_at os x) → chain us b ≡ chain os b
+pub chain_on : (os us : List Object) (b : ℕ) → ((x : ℕ) → is_member (chain os b) x ≡ true → owner_at us x ≡ owner_at os x) →
+    chain us b ≡ chain os b
 unfolding chain
 chain_on os us b same = within_on_same os us 16 b same
 
@@ -78,7 +80,8 @@ unfolding chain
 chain_zero os b end = within_end os 15 b end
 
 -- a chain that isn't as long as it may be goes on from what the bank owns
-chain_below : (os us : List Object) (n b : ℕ) → n ≢ 0 → owner_at us n ≡ b → chain us b ≡ chain os b → length (chain os b) < 16 → chain us n ≡ n ∷ chain os b
+chain_below : (os us : List Object) (n b : ℕ) → n ≢ 0 → owner_at us n ≡ b → chain us b ≡ chain os b → length (chain os b) < 16 →
+    chain us n ≡ n ∷ chain os b
 unfolding chain
 chain_below os us n b on is same short = grind (arith, nat_tests)
 
@@ -127,9 +130,11 @@ module _ (os : List Object) (t : IsTree os) where
   chain_owner_length b is on = omega (arith, chain_longer b is on, chain_length os b)
 
   -- no chain is longer than that of a bank that it's in
-  pub chain_shorter : (b x : ℕ) → IsTrue (is_bank (content_at os b)) → is_member (chain os b) x ≡ true → length (chain os x) ≤ length (chain os b)
+  pub chain_shorter : (b x : ℕ) → IsTrue (is_bank (content_at os b)) → is_member (chain os b) x ≡ true →
+      length (chain os x) ≤ length (chain os b)
   chain_shorter b x is member =
-      chain_climbs (λ c. length (chain os c) ≤ length (chain os b)) (λ c bank on here. omega (arith, here, chain_longer c bank on)) b x is (omega arith) member
+      chain_climbs (λ c. length (chain os c) ≤ length (chain os b)) (λ c bank on here. omega (arith, here, chain_longer c bank on)) b x is
+      (omega arith) member
 
   -- no bank is twice in a chain
   pub chain_once : (b : ℕ) → IsTrue (is_bank (content_at os b)) → b ≢ 0 → is_member (chain os (owner_at os b)) b ≡ false
@@ -142,7 +147,8 @@ module _ (os : List Object) (t : IsTree os) where
 -- a new object at a free number
 
 -- what stands at its number
-pub at_new : (os : List Object) (n b : ℕ) (c : Content Capability) → n < length os → object_at (with_new os n b c) n ≡ record { owner = b; content = c }
+pub at_new : (os : List Object) (n b : ℕ) (c : Content Capability) → n < length os →
+    object_at (with_new os n b c) n ≡ record { owner = b; content = c }
 unfolding with_new
 at_new os n b c inside = get_or-set_same os n (record { owner = b; content = c }) free inside
 
@@ -161,7 +167,8 @@ pub bank_not_free : (os : List Object) (x n : ℕ) → IsTrue (is_bank (content_
 bank_not_free os x n is gone same = bank_used (content_at os x) is (ap (λ (m : ℕ). is_free (content_at os m)) same ∙ gone)
 
 -- an object of a bank at a number that is free; a bank only where the chain isn't as long as it may be
-module _ (os : List Object) (n b : ℕ) (c : Content Capability) (t : IsTree os) (bank : IsTrue (is_bank (content_at os b))) (inside : n < length os)
+module _ (os : List Object) (n b : ℕ) (c : Content Capability) (t : IsTree os) (bank : IsTrue (is_bank (content_at os b)))
+    (inside : n < length os)
     (unused : IsTrue (is_free (content_at os n))) (used : is_free c ≡ false) (short : IsTrue (is_bank c) → length (chain os b) < 16) where
   bank_kept : (x : ℕ) → IsTrue (is_bank (content_at os x)) → object_at (with_new os n b c) x ≡ object_at os x
   bank_kept x is = at_other os n b c x (bank_not_free os x n is unused)

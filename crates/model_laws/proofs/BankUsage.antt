@@ -10,7 +10,8 @@ use Rattle.model_laws.proofs.Usage.{SameFrame, tests_at, chain_same, under_same,
 use Rattle.model_laws.proofs.BankTree.{IsTree, bank_not_free, chain_banks, chain_new, at_new, at_other, length_new}
 
 -- an object of a bank at a number that is free
-module _ (os : List Object) (n b : ℕ) (c : Content Capability) (t : IsTree os) (bank : IsTrue (is_bank (content_at os b))) (inside : n < length os)
+module _ (os : List Object) (n b : ℕ) (c : Content Capability) (t : IsTree os) (bank : IsTrue (is_bank (content_at os b)))
+    (inside : n < length os)
     (unused : IsTrue (is_free (content_at os n))) (used : is_free c ≡ false) (short : IsTrue (is_bank c) → length (chain os b) < 16) where
   kept_chain : (x : ℕ) → IsTrue (is_bank (content_at os x)) → chain (with_new os n b c) x ≡ chain os x
   kept_chain = chain_new os n b c t bank inside unused used short
@@ -28,7 +29,8 @@ module _ (os : List Object) (n b : ℕ) (c : Content Capability) (t : IsTree os)
   under_new x = grind (arith, nat_tests, at_new, kept_chain)
 
   -- a new object counts once more at its bank and at each that this is under
-  pub usage_new : (x : ℕ) → IsTrue (is_bank (content_at os x)) → usage (with_new os n b c) x ≡ usage os x + (if is_member (chain os b) x then 1 else 0)
+  pub usage_new : (x : ℕ) → IsTrue (is_bank (content_at os x)) → usage (with_new os n b c) x
+      ≡ usage os x + (if is_member (chain os b) x then 1 else 0)
   unfolding usage
   usage_new x is =
       let us = with_new os n b c in
@@ -36,9 +38,11 @@ module _ (os : List Object) (n b : ℕ) (c : Content Capability) (t : IsTree os)
       omega (
         arith,
         count_where n gains us free (omega (arith, length_new os n b c)),
-        count_both (λ p. not (p.0 == x) && is_under os x p.1) (λ p. (p.0 == n) && gains) (λ p. not (p.0 == x) && is_under us x p.1) 0 us os free
+        count_both (λ p. not (p.0 == x) && is_under os x p.1) (λ p. (p.0 == n) && gains) (λ p. not (p.0 == x) && is_under us x p.1) 0 us os
+            free
             (sym (length_new os n b c)) (λ i j at. let same : i ≡ j = omega (arith, at) in rw same (elim (cases_eq j n) [
-              | inl here ↦ rw (here, ne_eqb n x (λ e. bank_not_free os x n is unused (sym e)), eq-eqb n n refl, under_new x, unused) (zero-add _)
+              | inl here ↦ rw (here, ne_eqb n x (λ e. bank_not_free os x n is unused (sym e)), eq-eqb n n refl, under_new x, unused)
+                  (zero-add _)
               | inr differ ↦ rw (ne_eqb j n differ, under_kept x j differ) (add-zero _)
             ])),
       )
@@ -49,7 +53,8 @@ module _ (os : List Object) (n b : ℕ) (c : Content Capability) (t : IsTree os)
   usage_new_bank is =
       count_none (λ p. not (p.0 == n) && is_under (with_new os n b c) n p.1) (with_new os n b c) free (λ i. elim (cases_eq i n) [
         | inl e ↦ rw (eq-eqb i n e) refl
-        | inr differ ↦ and_right (not (i == n)) (is_under (with_new os n b c) n (object_at (with_new os n b c) i)) (under_kept n i differ ∙ under_none i)
+        | inr differ ↦ and_right (not (i == n)) (is_under (with_new os n b c) n (object_at (with_new os n b c) i))
+            (under_kept n i differ ∙ under_none i)
       ])
 
 -- Where the frame is the same, an order of a bank is the same.

@@ -83,7 +83,18 @@ pub annex_kept : (g : Geometry) (os : List Object) (b : ℕ) (requested : BankOr
     annex_at (on_bank g os b requested args).objects p ≡ annex_at os p
 unfolding on_bank
 annex_kept g os b requested args p is has =
-    grind (arith, nat_tests, allocated_annexes, pages_unused, nodes_unused, process_annexes, bank_annexes, freed_annexes, rescind_annexes, inherited_annexes)
+    grind (
+      arith,
+      nat_tests,
+      allocated_annexes,
+      pages_unused,
+      nodes_unused,
+      process_annexes,
+      bank_annexes,
+      freed_annexes,
+      rescind_annexes,
+      inherited_annexes,
+    )
 
 bank_is_used : (c : Content Capability) → IsTrue (is_bank c) → is_free c ≡ false
 bank_is_used c is = grind (arith, nat_tests)
@@ -98,30 +109,32 @@ none_within os = All-nil (λ n. n < length os)
 one_within : (os : List Object) (n : ℕ) → n < length os → All (λ n. n < length os) (n ∷ [])
 one_within os n inside = All-cons (λ n. n < length os) n [] inside (none_within os)
 
-allocated_within : (os : List Object) (b : ℕ) (ns : List ℕ) (c : Content Capability) (named : ℕ → Capability) → All (λ n. n < length os) ns →
-    Within os (allocated os b ns c named)
+allocated_within : (os : List Object) (b : ℕ) (ns : List ℕ) (c : Content Capability) (named : ℕ → Capability) →
+    All (λ n. n < length os) ns → Within os (allocated os b ns c named)
 allocated_within os b ns c named inside = grind (arith, nat_tests)
 
 process_within : (os : List Object) (b : ℕ) (ns : List ℕ) → All (λ n. n < length os) ns → Within os (process_allocated os b ns)
 process_within os b [] inside = none_within os
 process_within os b (p ∷ []) inside = none_within os
-process_within os b (p ∷ a ∷ ns) inside = All-cons (λ n. n < length os) p (a ∷ []) (inside 0 0 (omega arith)) (one_within os a (inside 1 0 (omega arith)))
+process_within os b (p ∷ a ∷ ns) inside = All-cons (λ n. n < length os) p (a ∷ []) (inside 0 0 (omega arith))
+    (one_within os a (inside 1 0 (omega arith)))
 
 bank_within : (os : List Object) (b : ℕ) (ns : List ℕ) (limit : ℕ) → All (λ n. n < length os) ns → Within os (bank_allocated os b ns limit)
 bank_within os b ns limit inside = grind (arith, nat_tests)
 
-range_within : (os : List Object) (from count : ℕ) → from + count ≤ length os → All (λ n. n < length os) (are_free os (range_with_len from count))
+range_within : (os : List Object) (from count : ℕ) → from + count ≤ length os →
+    All (λ n. n < length os) (are_free os (range_with_len from count))
 range_within os from count fits =
     All-filter (λ n. is_free (content_at os n)) (λ n. n < length os) (range_with_len from count)
     (λ k d inside. let e = get_or-range_with_len from count k d (omega (arith, inside, length-range_with_len from count)) in omega
     (arith, e, inside, length-range_with_len from count))
 
-freed_inside : (g : Geometry) (os : List Object) (b : ℕ) (c : Capability) (ns : List ℕ) → IsNow g os → NamesItsKind os c → freed_by os c ≡ ns →
-    Within os (freed os b ns)
+freed_inside : (g : Geometry) (os : List Object) (b : ℕ) (c : Capability) (ns : List ℕ) → IsNow g os → NamesItsKind os c →
+    freed_by os c ≡ ns → Within os (freed os b ns)
 freed_inside g os b c ns h kind is = grind (arith, nat_tests)
 
-pub written_within : (g : Geometry) (os : List Object) (b : ℕ) (requested : BankOrder) (args : Arguments) → IsNow g os → IsTrue (is_bank (content_at os b)) →
-    NamesItsKind os args.capability →
+pub written_within : (g : Geometry) (os : List Object) (b : ℕ) (requested : BankOrder) (args : Arguments) → IsNow g os →
+    IsTrue (is_bank (content_at os b)) → NamesItsKind os args.capability →
     All (λ n. n < length os) (on_bank g os b requested args).written
 unfolding on_bank free_nodes free_pages
 written_within g os b bank.NewPage args h is kind = one_of (Within os) (has_quota os b 1) _ _

@@ -14,7 +14,8 @@ module _ {X : Type 0} (P : X → Type 0) where
   chosen b x y p q = grind (arith, nat_tests)
 
   -- of what is given for nothing, and for something
-  pub found_or : {A : Type 0} (found : Option A) (x : X) (f : A → X) → P x → ((a : A) → P (f a)) → P (elim found [ None ↦ x | Some a ↦ f a ])
+  pub found_or : {A : Type 0} (found : Option A) (x : X) (f : A → X) → P x → ((a : A) → P (f a)) →
+      P (elim found [ None ↦ x | Some a ↦ f a ])
   found_or {A} found x f p q = grind (arith, nat_tests)
 
 module _ (P : List Object → Type 0) (os : List Object) (i : Invocation) where
@@ -26,7 +27,8 @@ module _ (P : List Object → Type 0) (os : List Object) (i : Invocation) where
   after_order_by same state = grind (arith, nat_tests)
 
   -- a reply is delivered or dropped
-  pub replied_by : (o : OrderOutcome) → P os → (IsTrue (is_running_process os i.process) → P (deliver os i.process (reply_of o))) → P (replied os i o)
+  pub replied_by : (o : OrderOutcome) → P os → (IsTrue (is_running_process os i.process) → P (deliver os i.process (reply_of o))) →
+      P (replied os i o)
   replied_by o same delivered = grind (arith, nat_tests)
 
   -- it holds after an effect that is the one given

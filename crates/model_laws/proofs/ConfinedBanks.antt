@@ -60,8 +60,8 @@ module _ (g : Geometry) (inside : ℕ → Bool) (os : List Object) (h : IsNow g 
   -- new objects
 
   -- each object is as it was, or a member whose content has authority over members alone
-  changed_stays : (us : List Object) → ((n : ℕ) → (object_at us n ≡ object_at os n) ⊎ (IsTrue (inside n) × IsFresh inside (content_at us n)))
-      → StaysWithin inside os us
+  changed_stays : (us : List Object) → ((n : ℕ) → (object_at us n ≡ object_at os n)
+      ⊎ (IsTrue (inside n) × IsFresh inside (content_at us n))) → StaysWithin inside os us
   changed_stays us each = record {
     encloses = record {
       closed = record {
@@ -78,7 +78,8 @@ module _ (g : Geometry) (inside : ℕ → Bool) (os : List Object) (h : IsNow g 
           | inr new ↦ new.0
         ];
         slots = λ n i is. elim (each n) [
-          | inl same ↦ subst (λ (o : Object). StaysInside inside (slice_index_or (slots_in o.content) i Void)) (sym same) (k.closed.slots n i is)
+          | inl same ↦ subst (λ (o : Object). StaysInside inside (slice_index_or (slots_in o.content) i Void)) (sym same)
+              (k.closed.slots n i is)
           | inr new ↦ new.1.slots i
         ];
         spaces = λ p is. elim (each p) [
@@ -99,8 +100,8 @@ module _ (g : Geometry) (inside : ℕ → Bool) (os : List Object) (h : IsNow g 
   IsUnused n = (n < length os) × IsTrue (is_free (content_at os n))
 
   -- each free number of a range of objects is one
-  unused_at : (from count : ℕ) → from + count ≤ length os → (ns : List ℕ) → are_free os (range_with_len from count) ≡ ns → (n : ℕ) → is_member ns n ≡ true →
-      IsUnused n
+  unused_at : (from count : ℕ) → from + count ≤ length os → (ns : List ℕ) → are_free os (range_with_len from count) ≡ ns → (n : ℕ) →
+      is_member ns n ≡ true → IsUnused n
   unused_at from count fits ns e n member = grind (arith, nat_tests, found_in)
 
   -- one new object
@@ -110,8 +111,9 @@ module _ (g : Geometry) (inside : ℕ → Bool) (os : List Object) (h : IsNow g 
     | inr differ ↦ inl (at_other os n b c x differ)
   ])
 
-  allocated_stays : (from count : ℕ) → from + count ≤ length os → (b : ℕ) (c : Content Capability) (named : ℕ → Capability) → IsFresh inside c
-      → ((n : ℕ) → IsTrue (inside n) → StaysInside inside (named n)) → (ns : List ℕ) → are_free os (range_with_len from count) ≡ ns
+  allocated_stays : (from count : ℕ) → from + count ≤ length os → (b : ℕ) (c : Content Capability) (named : ℕ → Capability) →
+      IsFresh inside c → ((n : ℕ) → IsTrue (inside n) → StaysInside inside (named n)) → (ns : List ℕ) →
+      are_free os (range_with_len from count) ≡ ns
       → OutcomeStays inside os (allocated os b ns c named)
   allocated_stays from count fits b c named fresh stays [] e = refused_stays code.NoFrame
   allocated_stays from count fits b c named fresh stays (n ∷ ns) e =
@@ -119,7 +121,8 @@ module _ (g : Geometry) (inside : ℕ → Bool) (os : List Object) (h : IsNow g 
       (new_stays n b c unused fresh, stays n (k.free n unused.1))
 
   -- a new process: a root and its annex
-  process_stays : (p a b : ℕ) → p ≢ a → IsUnused p → IsUnused a → StaysWithin inside os (with_new (with_new os p b (new_root a)) a b new_annex)
+  process_stays : (p a b : ℕ) → p ≢ a → IsUnused p → IsUnused a → StaysWithin inside os
+      (with_new (with_new os p b (new_root a)) a b new_annex)
   process_stays p a b apart root annex =
       let rooted = with_new os p b (new_root a) in
       let whole = with_new rooted a b new_annex in
@@ -142,11 +145,13 @@ module _ (g : Geometry) (inside : ℕ → Bool) (os : List Object) (h : IsNow g 
       (λ _. refused_stays code.NotFromThisBank)
 
   -- what a capability frees that stays inside is inside
-  freed_inside : (c : Capability) → NamesItsKind os c → StaysInside inside c → (n : ℕ) → is_member (freed_by os c) n ≡ true → IsTrue (inside n)
+  freed_inside : (c : Capability) → NamesItsKind os c → StaysInside inside c → (n : ℕ) → is_member (freed_by os c) n ≡ true →
+      IsTrue (inside n)
   freed_inside c names within n member = grind (arith, nat_tests)
 
   -- a bank whose chain passes through one inside is inside
-  above_inside : (b : ℕ) → IsTrue (inside b) → (c : ℕ) → IsTrue (is_bank (content_at os c)) → is_member (chain os c) b ≡ true → IsTrue (inside c)
+  above_inside : (b : ℕ) → IsTrue (inside b) → (c : ℕ) → IsTrue (is_bank (content_at os c)) → is_member (chain os c) b ≡ true →
+      IsTrue (inside c)
   above_inside b is =
       tree_induction os tree (λ c. is_member (chain os c) b ≡ true → IsTrue (inside c))
       (λ e. ap inside (sym (only_member 0 b (ap (λ xs. is_member xs b) (sym (chain_zero os 0 refl)) ∙ e))) ∙ is)
@@ -187,29 +192,34 @@ module _ (g : Geometry) (inside : ℕ → Bool) (os : List Object) (h : IsNow g 
     page_made_stays : OutcomeStays inside os (on_bank g os b bank.NewPage args)
     unfolding on_bank free_pages
     page_made_stays = chosen (OutcomeStays inside os) (has_quota os b 1) _ _
-        (λ _. allocated_stays g.nodes g.pages (omega (arith, h.frame.size)) b new_page _ (fresh_page inside) (λ n is. inr is) (free_pages g os) refl)
+        (λ _. allocated_stays g.nodes g.pages (omega (arith, h.frame.size)) b new_page _ (fresh_page inside) (λ n is. inr is)
+        (free_pages g os) refl)
         (λ _. refused_stays code.Limit)
 
     node_made_stays : OutcomeStays inside os (on_bank g os b bank.NewNode args)
     unfolding on_bank free_nodes
     node_made_stays = chosen (OutcomeStays inside os) (has_quota os b 1) _ _
-        (λ _. allocated_stays 0 g.nodes (omega (arith, h.frame.size)) b new_node _ (fresh_node inside) (λ n is. inr is) (free_nodes g os) refl)
+        (λ _. allocated_stays 0 g.nodes (omega (arith, h.frame.size)) b new_node _ (fresh_node inside) (λ n is. inr is) (free_nodes g os)
+        refl)
         (λ _. refused_stays code.Limit)
 
     bank_made_stays : OutcomeStays inside os (on_bank g os b bank.NewBank args)
     unfolding on_bank free_nodes
-    bank_made_stays = chosen (OutcomeStays inside os) (has_quota os b 1) _ _ (λ _. go (free_nodes g os) refl) (λ _. refused_stays code.Limit)
+    bank_made_stays = chosen (OutcomeStays inside os) (has_quota os b 1) _ _ (λ _. go (free_nodes g os) refl)
+        (λ _. refused_stays code.Limit)
       where
         go : (ns : List ℕ) → are_free os (range_with_len 0 g.nodes) ≡ ns → OutcomeStays inside os (bank_allocated os b ns args.first)
         go [] e = refused_stays code.NoFrame
         go (n ∷ ns) e = chosen (OutcomeStays inside os) (nat_lt (length (chain os b)) 16) _ _
-            (λ _. allocated_stays 0 g.nodes (omega (arith, h.frame.size)) b (content.Bank args.first) Bank (fresh_bank inside args.first) (λ n is. inr is)
+            (λ _. allocated_stays 0 g.nodes (omega (arith, h.frame.size)) b (content.Bank args.first) Bank (fresh_bank inside args.first)
+            (λ n is. inr is)
             (n ∷ ns) e)
             (λ _. refused_stays code.TooDeep)
 
     process_made_stays : OutcomeStays inside os (on_bank g os b bank.NewProcess args)
     unfolding on_bank free_nodes
-    process_made_stays = chosen (OutcomeStays inside os) (has_quota os b 2) _ _ (λ _. go (free_nodes g os) refl) (λ _. refused_stays code.Limit)
+    process_made_stays = chosen (OutcomeStays inside os) (has_quota os b 2) _ _ (λ _. go (free_nodes g os) refl)
+        (λ _. refused_stays code.Limit)
       where
         go : (ns : List ℕ) → are_free os (range_with_len 0 g.nodes) ≡ ns → OutcomeStays inside os (process_allocated os b ns)
         go [] e = refused_stays code.NoFrame
@@ -240,7 +250,8 @@ module _ (g : Geometry) (inside : ℕ → Bool) (os : List Object) (h : IsNow g 
 
 -- if the argument of an order of a bank of the set stays in the set, so does the outcome
 pub bank_stays : (g : Geometry) (inside : ℕ → Bool) (os : List Object) (b : ℕ) (requested : BankOrder) (args : Arguments) → IsNow g os
-    → IsTrue (is_bank (content_at os b)) → IsTrue (inside b) → NamesItsKind os args.capability → StaysInside inside args.capability → Encloses inside os
+    → IsTrue (is_bank (content_at os b)) → IsTrue (inside b) → NamesItsKind os args.capability → StaysInside inside args.capability →
+    Encloses inside os
     → StaysWithin inside os (on_bank g os b requested args).objects × StaysInside inside (on_bank g os b requested args).capability
 unfolding on_bank
 bank_stays g inside os b bank.NewPage args h is member names within k = page_made_stays g inside os h k b args is member

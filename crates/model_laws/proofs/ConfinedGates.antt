@@ -18,8 +18,9 @@ use Rattle.model_laws.proofs.ConfinedOrders.{order_stays, strong}
 
 -- delivery
 
-deliver_stays : (inside : ℕ → Bool) (os : List Object) (p : ℕ) (m : Message) → Encloses inside os → IsTrue (inside p) → IsTrue (is_process os p)
-    → ((j : ℕ) → StaysInside inside (slice_index_or m.capabilities j Void)) → StaysWithin inside os (deliver os p m)
+deliver_stays : (inside : ℕ → Bool) (os : List Object) (p : ℕ) (m : Message) → Encloses inside os → IsTrue (inside p) →
+    IsTrue (is_process os p) → ((j : ℕ) → StaysInside inside (slice_index_or m.capabilities j Void)) →
+    StaysWithin inside os (deliver os p m)
 unfolding deliver
 deliver_stays inside os p m h is root sent =
     let old = root_at os p in
@@ -58,7 +59,10 @@ gate_sent_stays : (inside : ℕ → Bool) (os : List Object) (i : Invocation) (j
     → StaysInside inside (slice_index_or (sent_to_gate os i) j Void)
 gate_sent_stays inside os i j by = go i.operation
   where
-    go : (o : Operation) → StaysInside inside (slice_index_or (elim o [ Call ↦ slice_set (sent_by os i) 3 (Resume i.process) | _ ↦ sent_by os i ]) j Void)
+    go : (o : Operation) → StaysInside inside (slice_index_or (elim o [
+      | Call ↦ slice_set (sent_by os i) 3 (Resume i.process)
+      | _ ↦ sent_by os i
+    ]) j Void)
     go Call = at_set (λ m c. StaysInside inside c) (sent_by os i) 3 j (Resume i.process) Void (inr by.member) (sent_stays inside os i j by)
     go o = sent_stays inside os i j by
 
@@ -88,15 +92,16 @@ order_ready g inside os i h by =
 
 -- gates
 
-through_stays : (g : Geometry) (inside : ℕ → Bool) (os : List Object) (i : Invocation) (q key : ℕ) → IsNow g os → IsInvoker inside os i.process
-    → IsTrue (inside q) → IsTrue (is_process os q) → StaysWithin inside os (through_gate os i q key).objects
+through_stays : (g : Geometry) (inside : ℕ → Bool) (os : List Object) (i : Invocation) (q key : ℕ) → IsNow g os →
+    IsInvoker inside os i.process → IsTrue (inside q) → IsTrue (is_process os q) → StaysWithin inside os (through_gate os i q key).objects
 unfolding through_gate
 through_stays g inside os i q key h by is root =
     let us = after_gate os i in
     let m : Message = record { words = i.words; key = key; capabilities = sent_to_gate os i } in
     let ready = gate_ready g inside os i h by in
     stays_trans inside os us (deliver us q m) ready.stays
-    (deliver_stays inside us q m ready.stays.encloses is ((tests_at os us ready.after.frame q).root ∙ root) (λ j. gate_sent_stays inside os i j by))
+    (deliver_stays inside us q m ready.stays.encloses is ((tests_at os us ready.after.frame q).root ∙ root)
+    (λ j. gate_sent_stays inside os i j by))
 
 resume_stays : (g : Geometry) (inside : ℕ → Bool) (os : List Object) (i : Invocation) (q : ℕ) → IsNow g os → IsInvoker inside os i.process
     → IsTrue (inside q) → IsTrue (is_process os q) → StaysWithin inside os (consume q (through_gate os i q 0).objects)
@@ -132,7 +137,8 @@ ordered_stays g inside os i h by =
     let ready = order_ready g inside os i h by in
     order_stays g inside us c (slice_index i.words 0)
     (record { first = slice_index i.words 1; second = slice_index i.words 2; capability = sent }) ready.after.now ready.stays.encloses
-    (held_ready g inside os us c ready ((h.filled (annex_at os i.process)).slots i.register)) (register_stays inside os i.process i.register by)
+    (held_ready g inside os us c ready ((h.filled (annex_at os i.process)).slots i.register))
+    (register_stays inside os i.process i.register by)
     (held_to us sent (held_ready g inside os us sent ready (held_sent g os i 0 h))).1 (sent_stays inside os i 0 by)
 
 kernel_stays : (g : Geometry) (inside : ℕ → Bool) (os : List Object) (i : Invocation) → IsNow g os → IsInvoker inside os i.process
@@ -149,8 +155,8 @@ kernel_stays g inside os i h by =
 
 -- invocations
 
-invoked_stays : (g : Geometry) (inside : ℕ → Bool) (os : List Object) (i : Invocation) (e : Effect) → IsNow g os → IsInvoker inside os i.process
-    → invoke g os i ≡ Some e → StaysWithin inside os e.objects
+invoked_stays : (g : Geometry) (inside : ℕ → Bool) (os : List Object) (i : Invocation) (e : Effect) → IsNow g os →
+    IsInvoker inside os i.process → invoke g os i ≡ Some e → StaysWithin inside os e.objects
 invoked_stays g inside os i e h by =
     invoked_by (StaysWithin inside os) os i (λ c. IsHeld os (Waits os) c × StaysInside inside c) g e
     ((h.filled (annex_at os i.process)).slots i.register, register_stays inside os i.process i.register by)

@@ -31,8 +31,8 @@ refused_stays inside os h = still inside os Void h (void_stays inside)
 writes : (inside : ℕ → Bool) (o : ℕ) (a : Access) → (a.0 ≡ 3) ⊎ IsTrue (inside o) → not (a.0 == 0) ≡ false → IsTrue (inside o)
 writes inside o a is e = grind (arith, nat_tests)
 
-fetched_stays : (inside : ℕ → Bool) (o : ℕ) (a : Access) (c : Capability) → (a.0 ≡ 3) ⊎ IsTrue (inside o) → (IsTrue (inside o) → StaysInside inside c)
-    → StaysInside inside (fetched a c)
+fetched_stays : (inside : ℕ → Bool) (o : ℕ) (a : Access) (c : Capability) → (a.0 ≡ 3) ⊎ IsTrue (inside o) →
+    (IsTrue (inside o) → StaysInside inside c) → StaysInside inside (fetched a c)
 fetched_stays inside o a c named held = grind (arith, nat_tests)
 
 -- orders
@@ -71,7 +71,8 @@ set_stays inside os p s h is root =
     stays_trans inside os us (consume p us) first (stays_consume inside us p first.encloses is)
 
 process_stays : (inside : ℕ → Bool) (os : List Object) (p : ℕ) (requested : ProcessOrder) (args : Arguments) → Encloses inside os
-    → IsTrue (inside p) → IsTrue (is_process os p) → StaysInside inside args.capability → OutcomeStays inside os (on_process os p requested args)
+    → IsTrue (inside p) → IsTrue (is_process os p) → StaysInside inside args.capability →
+    OutcomeStays inside os (on_process os p requested args)
 unfolding on_process
 process_stays inside os p process.PutRegister args h is root sent =
     chosen (OutcomeStays inside os) ((args.first == 0) || not (nat_lt args.first 32)) _ _ (λ _. refused_stays inside os h)
@@ -79,14 +80,16 @@ process_stays inside os p process.PutRegister args h is root sent =
 process_stays inside os p process.PutWord args h is root sent =
     chosen (OutcomeStays inside os) (nat_lt args.first 4) _ _
     (λ _. (
-      stays_root inside os p (with_root_word (root_at os p) args.first args.second) h is (h.closed.annexes p is root) (h.closed.spaces p is),
+      stays_root inside os p (with_root_word (root_at os p) args.first args.second) h is (h.closed.annexes p is root)
+          (h.closed.spaces p is),
       void_stays inside,
     ))
     (λ _. refused_stays inside os h)
 process_stays inside os p process.GetState args h is root sent = refused_stays inside os h
 process_stays inside os p process.SetState args h is root sent =
     chosen (OutcomeStays inside os) (args.first == 0) _ _ (λ _. (set_stays inside os p Available h is root, void_stays inside)) (λ _.
-    chosen (OutcomeStays inside os) (args.first == 1) _ _ (λ _. (set_stays inside os p Running h is root, void_stays inside)) (λ _. refused_stays inside os h))
+    chosen (OutcomeStays inside os) (args.first == 1) _ _ (λ _. (set_stays inside os p Running h is root, void_stays inside))
+    (λ _. refused_stays inside os h))
 process_stays inside os p process.GetSpace args h is root sent = still inside os (root_at os p).space h (h.closed.spaces p is)
 process_stays inside os p process.SetSpace args h is root sent =
     chosen (OutcomeStays inside os) (is_space args.capability) _ _
@@ -99,8 +102,9 @@ pub strong : (inside : ℕ → Bool) (n : ℕ) → ⊥ ⊎ IsTrue (inside n) →
 strong inside n is = grind (arith, nat_tests)
 
 -- an order on what stays inside stays in the set
-pub order_stays : (g : Geometry) (inside : ℕ → Bool) (os : List Object) (c : Capability) (w : ℕ) (args : Arguments) → IsNow g os → Encloses inside os
-    → IsHeld os (Waits os) c → StaysInside inside c → NamesItsKind os args.capability → StaysInside inside args.capability
+pub order_stays : (g : Geometry) (inside : ℕ → Bool) (os : List Object) (c : Capability) (w : ℕ) (args : Arguments) → IsNow g os →
+    Encloses inside os → IsHeld os (Waits os) c → StaysInside inside c → NamesItsKind os args.capability →
+    StaysInside inside args.capability
     → OutcomeStays inside os (order g os c w args)
 unfolding order
 order_stays g inside os (Number n) w args now h held stays kind sent = grind (arith, nat_tests, chosen, refused_stays)

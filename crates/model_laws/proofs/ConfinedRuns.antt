@@ -30,13 +30,14 @@ names_inside inside c = elim (named c) [ None ↦ false | Some n ↦ inside n ]
 names_from : (inside : ℕ → Bool) (c : Capability) → names_inside inside c ≡ true → NamesInside inside c
 names_from inside c e = grind (arith, nat_tests)
 
-map_alike : (f k : Capability → Capability) (cs : List Capability) → ((i : ℕ) → f (slice_index_or cs i Void) ≡ k (slice_index_or cs i Void)) →
-    map f cs ≡ map k cs
+map_alike : (f k : Capability → Capability) (cs : List Capability) → ((i : ℕ) → f (slice_index_or cs i Void) ≡ k (slice_index_or cs i Void))
+    → map f cs ≡ map k cs
 map_alike f k [] same = refl
 map_alike f k (c ∷ cs) same = rw (same 0, map_alike f k cs (λ i. same (suc i))) refl
 
 content_alike : (f k : Capability → Capability) (c : Content Capability)
-    → ((i : ℕ) → f (slice_index_or (slots_in c) i Void) ≡ k (slice_index_or (slots_in c) i Void)) → f (root_in c).space ≡ k (root_in c).space
+    → ((i : ℕ) → f (slice_index_or (slots_in c) i Void) ≡ k (slice_index_or (slots_in c) i Void)) →
+    f (root_in c).space ≡ k (root_in c).space
     → map_content f c ≡ map_content k c
 content_alike f k (content.Node cs) slots space = ap content.Node (map_alike f k cs slots)
 content_alike f k (content.Root r) slots space = grind (arith, nat_tests)
@@ -44,8 +45,8 @@ content_alike f k (content.Annex cs) slots space = ap content.Annex (map_alike f
 content_alike f k c slots space = refl
 
 -- in a sound world no capability that goes names what was free
-kept_inside : (g : Geometry) (os : List Object) (age : ℕ) (inside : ℕ → Bool) (n : ℕ) (new : Object) → IsSound g (record { objects = os; age = age })
-    → IsKept (with_free os inside) (object_at os n) new → IsKept inside (object_at os n) new
+kept_inside : (g : Geometry) (os : List Object) (age : ℕ) (inside : ℕ → Bool) (n : ℕ) (new : Object) →
+    IsSound g (record { objects = os; age = age }) → IsKept (with_free os inside) (object_at os n) new → IsKept inside (object_at os n) new
 kept_inside g os age inside n new sound k = (
   goes,
   λ c e. names_from inside c (and_parts (k.0 c) (names_inside inside c) e).1,
@@ -92,7 +93,8 @@ along_inside inside os h (Space o k a) (slot ∷ slots) found stays e full =
 along_inside inside os h c slots found stays e full = cc
 
 -- a test that is passed on the way to what is found
-if_found : (b : Bool) (r : Result (ℕ × Access) MemoryFault) (why : MemoryFault) (found : ℕ × Access) → (if b then r else Err why) ≡ Ok found → r ≡ Ok found
+if_found : (b : Bool) (r : Result (ℕ × Access) MemoryFault) (why : MemoryFault) (found : ℕ × Access) →
+    (if b then r else Err why) ≡ Ok found → r ≡ Ok found
 if_found b r why found e = grind (arith, nat_tests)
 
 -- a walk from what stays inside to a writable page ends at a member
@@ -131,7 +133,8 @@ MachineWithin g inside os (Down saved) = Unit {0}
 abbrev invoked : Running → Option Effect → Outcome
 invoked s found = elim found [
   | None ↦ outcome answer.Done s
-  | Some effect ↦ outcome answer.Done (writing s effect.objects (s.now.age + 1) effect.written (renewing s.renewed s.now.objects effect.objects))
+  | Some effect ↦ outcome answer.Done (writing s effect.objects (s.now.age + 1) effect.written
+      (renewing s.renewed s.now.objects effect.objects))
 ]
 
 abbrev loaded : Running → ℕ → Result (ℕ × Access) MemoryFault → Outcome
@@ -152,7 +155,8 @@ word_sound : (g : Geometry) (os : List Object) (age n i w : ℕ) → IsSound g (
 word_sound g os age n i w sound fits =
     let us = with_word os n i w in
     let e = edited_word g (Waits os) os n i w (nearly_from g (record { objects = os; age = age }) sound) fits in
-    nearly_to g us age (nearly_weaken g (Waits os) (Waits us) us (λ q waits. subst (λ s. IsTrue (is_waiting s)) (sym (e.states q)) waits) e.sound) sound.age
+    nearly_to g us age (nearly_weaken g (Waits os) (Waits us) us (λ q waits. subst (λ s. IsTrue (is_waiting s)) (sym (e.states q)) waits)
+    e.sound) sound.age
 
 load_keeps : (g : Geometry) (inside : ℕ → Bool) (os : List Object) (s : Running) (address : ℕ) (found : Result (ℕ × Access) MemoryFault)
     → IsWithin g inside os s → IsWithin g inside os (loaded s address found).after
@@ -189,7 +193,8 @@ down_keeps g inside os saved c a after by is = grind (arith, nat_tests)
 
 module _ (by_invocation : InvocationIsConfined) where
   invoke_keeps : (g : Geometry) (inside : ℕ → Bool) (os : List Object) (s : Running) (i : Invocation) (found : Option Effect)
-      → invoke g s.now.objects i ≡ found → Fits (command.Invoke i) → IsTrue (inside i.process) → IsTrue (is_running_process s.now.objects i.process)
+      → invoke g s.now.objects i ≡ found → Fits (command.Invoke i) → IsTrue (inside i.process) →
+      IsTrue (is_running_process s.now.objects i.process)
       → s.now.age < 2 ^ 62 → IsWithin g inside os s → IsWithin g inside os (invoked s found).after
   invoke_keeps g inside os s i None is fits in_p runs young h = h
   invoke_keeps g inside os s i (Some e) is fits in_p runs young h = record {
@@ -199,8 +204,8 @@ module _ (by_invocation : InvocationIsConfined) where
   }
 
   -- a command that isn't refused
-  carried_keeps : (g : Geometry) (inside : ℕ → Bool) (os : List Object) (s : Running) (c : Command) → IsBy inside c → Fits c → refusal_of g s c ≡ None
-      → IsWithin g inside os s → IsWithin g inside os (carried_out g s c).after
+  carried_keeps : (g : Geometry) (inside : ℕ → Bool) (os : List Object) (s : Running) (c : Command) → IsBy inside c → Fits c →
+      refusal_of g s c ≡ None → IsWithin g inside os s → IsWithin g inside os (carried_out g s c).after
   unfolding carried_out refusal_of
   carried_keeps g inside os s (command.Invoke i) in_p fits e h =
       let first = unless_passes _ _ _ e in
@@ -212,16 +217,16 @@ module _ (by_invocation : InvocationIsConfined) where
       store_keeps g inside os s p address value (writable (reached s.now.objects p address)) refl in_p fits.2 h
   carried_keeps g inside os s c in_p fits e h = absurd in_p
 
-  answer_keeps : (g : Geometry) (inside : ℕ → Bool) (os : List Object) (s : Running) (c : Command) (a : Answer) (after : Machine) → IsBy inside c → Fits c
-      → IsWithin g inside os s → Answers g s c a after → MachineWithin g inside os after
+  answer_keeps : (g : Geometry) (inside : ℕ → Bool) (os : List Object) (s : Running) (c : Command) (a : Answer) (after : Machine) →
+      IsBy inside c → Fits c → IsWithin g inside os s → Answers g s c a after → MachineWithin g inside os after
   answer_keeps g inside os s c a after by fits h answers = cases (refusal_of g s c) refl answers
     where
       cases : (refused : Option Refusal) → refusal_of g s c ≡ refused → IsAnswer g s c a after refused → MachineWithin g inside os after
       cases (Some why) is replying = subst (λ m. MachineWithin g inside os m) (sym replying.1) h
       cases None is replying = subst (λ m. MachineWithin g inside os m) (sym replying.1) (carried_keeps g inside os s c by fits is h)
 
-  step_keeps : (g : Geometry) (inside : ℕ → Bool) (os : List Object) (m : Machine) (c : Command) (a : Answer) (after : Machine) → IsBy inside c → Fits c
-      → MachineWithin g inside os m → Step g m c a after → MachineWithin g inside os after
+  step_keeps : (g : Geometry) (inside : ℕ → Bool) (os : List Object) (m : Machine) (c : Command) (a : Answer) (after : Machine) →
+      IsBy inside c → Fits c → MachineWithin g inside os m → Step g m c a after → MachineWithin g inside os after
   step_keeps g inside os (Up s) c a after by fits h (inl answers) = answer_keeps g inside os s c a after by fits h answers
   step_keeps g inside os (Up s) c a after by fits h (inr (inl wants)) = grind (arith, nat_tests)
   step_keeps g inside os (Up s) c a after by fits h (inr (inr fails)) = subst (λ m. MachineWithin g inside os m) (sym fails.2) tt

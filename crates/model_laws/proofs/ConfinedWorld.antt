@@ -42,9 +42,12 @@ unfolding c0
 confined_closed = record {
   annexes = members (λ p. IsTrue (is_process c0.objects p) → IsTrue (confined (annex_at c0.objects p))) (λ is. refl) (λ is. cc) (λ is. cc);
   owned = λ b n inside. members
-      (λ b. (n : ℕ) → IsTrue (is_bank (content_at c0.objects b)) → is_free (content_at c0.objects n) ≡ false → owner_at c0.objects n ≡ b → IsTrue (confined n))
-      (λ n bank held owner. cc) (λ n bank held owner. cc) (λ n bank held owner. let never : 0 ≡ 6 = sym (of_prime n) ∙ owner in cc) b inside n;
-  slots = λ n i inside. members (λ n. (i : ℕ) → StaysInside confined (slot_at c0.objects n i)) (λ i. inl tt) annex_inside (λ i. inl tt) n inside i;
+      (λ b. (n : ℕ) → IsTrue (is_bank (content_at c0.objects b)) → is_free (content_at c0.objects n) ≡ false → owner_at c0.objects n ≡ b →
+      IsTrue (confined n))
+      (λ n bank held owner. cc) (λ n bank held owner. cc) (λ n bank held owner. let never : 0 ≡ 6 = sym (of_prime n) ∙ owner in cc) b inside
+      n;
+  slots = λ n i inside. members (λ n. (i : ℕ) → StaysInside confined (slot_at c0.objects n i)) (λ i. inl tt) annex_inside (λ i. inl tt) n
+      inside i;
   spaces = members (λ p. StaysInside confined (root_at c0.objects p).space) (inl tt) (inl tt) (inl tt);
 }
 

@@ -19,13 +19,14 @@ count_both p q r k (x ∷ xs) (y ∷ ys) d e each =
 count_both p q r k xs ys d e each = absurd (omega arith)
 
 -- a test that fails at each number
-pub count_none : {X : Type 0} (p : ℕ × X → Bool) (xs : List X) (d : X) → ((i : ℕ) → p (i, get_or xs i d) ≡ false) → count_by p (enumerate_from 0 xs) ≡ 0
+pub count_none : {X : Type 0} (p : ℕ × X → Bool) (xs : List X) (d : X) → ((i : ℕ) → p (i, get_or xs i d) ≡ false) →
+    count_by p (enumerate_from 0 xs) ≡ 0
 count_none p xs d fails =
     omega (arith, count_both p p p 0 xs xs d refl (λ i j e. let same : i ≡ j = omega (arith, e) in rw (same, fails j) refl))
 
 -- two tests that agree at each number of two lists
-pub count_alike : {X : Type 0} (p q : ℕ × X → Bool) (xs ys : List X) (d : X) → length ys ≡ length xs → ((i : ℕ) → p (i, get_or ys i d) ≡ q (i, get_or xs i d))
-    → count_by p (enumerate_from 0 ys) ≡ count_by q (enumerate_from 0 xs)
+pub count_alike : {X : Type 0} (p q : ℕ × X → Bool) (xs ys : List X) (d : X) → length ys ≡ length xs →
+    ((i : ℕ) → p (i, get_or ys i d) ≡ q (i, get_or xs i d)) → count_by p (enumerate_from 0 ys) ≡ count_by q (enumerate_from 0 xs)
 count_alike p q xs ys d size agree =
     omega (
       arith,

@@ -21,7 +21,8 @@ use Rattle.model_laws.proofs.SoundParts.{nearly_from}
 use Rattle.model_laws.proofs.Usage.{SameFrame, tests_at}
 
 -- where what was there stays there, nothing is rescinded
-pub none_given_up : (os us : List Object) (n : ℕ) → (is_free (content_at os n) ≡ false → is_free (content_at us n) ≡ false) → is_given_up os us n ≡ false
+pub none_given_up : (os us : List Object) (n : ℕ) → (is_free (content_at os n) ≡ false → is_free (content_at us n) ≡ false) →
+    is_given_up os us n ≡ false
 none_given_up os us n stays = grind (arith, nat_tests)
 
 -- what is rescinded is free, and all else as it was
@@ -49,17 +50,19 @@ none_in_frame os us frame n = none_given_up os us n (λ used. (tests_at os us fr
 
 -- what an order gives up of the objects, where it would rescind a list
 abbrev GivesUp : List Object → ℕ → List ℕ → OrderOutcome → Type 0
-GivesUp os n list o = (o.code ≡ code.Done → is_given_up os o.objects n ≡ is_member list n) × ((o.code ≡ code.Done → ⊥) → is_given_up os o.objects n ≡ false)
+GivesUp os n list o = (o.code ≡ code.Done → is_given_up os o.objects n ≡ is_member list n)
+    × ((o.code ≡ code.Done → ⊥) → is_given_up os o.objects n ≡ false)
 
 module _ (os : List Object) (n : ℕ) where
   by_none : (list : List ℕ) (why : ResultCode) → (why ≡ code.Done → ⊥) → GivesUp os n list (refused os why)
   by_none list why other = (λ done. absurd (other done), λ undone. none_given_up os os n (λ used. used))
 
-  by_new : (us : List Object) (written : List ℕ) (c : Capability) → (is_free (content_at os n) ≡ false → is_free (content_at us n) ≡ false) →
-      GivesUp os n [] (made us written c)
+  by_new : (us : List Object) (written : List ℕ) (c : Capability) → (is_free (content_at os n) ≡ false → is_free (content_at us n) ≡ false)
+      → GivesUp os n [] (made us written c)
   by_new us written c stays = (λ done. none_given_up os us n stays, λ undone. absurd (undone refl))
 
-  freed_gives : (b : ℕ) (list : List ℕ) → ((m : ℕ) → is_member list m ≡ true → is_free (content_at os m) ≡ false) → GivesUp os n list (freed os b list)
+  freed_gives : (b : ℕ) (list : List ℕ) → ((m : ℕ) → is_member list m ≡ true → is_free (content_at os m) ≡ false) →
+      GivesUp os n list (freed os b list)
   freed_gives b list used = grind (arith, nat_tests, by_none, one_of, rescinded_given_up)
 
   -- the end of another bank than the prime bank
@@ -82,7 +85,10 @@ order_gives_up g os b bank.Free args n h is names =
     freed_gives os n b (freed_by os args.capability) (freed_used g os args.capability h names (freed_by os args.capability) refl)
 order_gives_up g os b bank.Destroy args n h is names =
     ended_gives os n b os (under os b) (under os b) (λ on m. refl) (λ on. (under_given_up g os h.frame b is on).used)
-order_gives_up g os b bank.Remaining args n h is names = (λ done. none_given_up os os n (λ used. used), λ undone. none_given_up os os n (λ used. used))
+order_gives_up g os b bank.Remaining args n h is names = (
+  λ done. none_given_up os os n (λ used. used),
+  λ undone. none_given_up os os n (λ used. used),
+)
 order_gives_up g os b which args n h is names =
     grind (arith, nat_tests, one_of, by_none, by_new, new_used, ended_gives, inherited_content, tree_of, only_member, used_where)
 

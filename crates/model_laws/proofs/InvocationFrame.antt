@@ -41,7 +41,8 @@ deliver_frame os p m is =
     let old = root_at os p in
     let new : Root Capability = record { state = Running; words = m.words; key = m.key; annex = old.annex; space = old.space } in
     let us = with_root os p new in
-    frame_trans os us (with_slots_from us old.annex 28 m.capabilities) (root_frame os p new is refl) (slots_frame us old.annex 28 m.capabilities)
+    frame_trans os us (with_slots_from us old.annex 28 m.capabilities) (root_frame os p new is refl)
+    (slots_frame us old.annex 28 m.capabilities)
 
 -- orders
 
@@ -49,7 +50,8 @@ deliver_frame os p m is =
 abbrev LeavesFrame : List Object → OrderOutcome → Type 0
 LeavesFrame os o = SameFrame os o.objects
 
-page_frame : (os : List Object) (o : ℕ) (a : Access) (requested : PageOrder) (args : Arguments) → LeavesFrame os (on_page os o a requested args)
+page_frame : (os : List Object) (o : ℕ) (a : Access) (requested : PageOrder) (args : Arguments) →
+    LeavesFrame os (on_page os o a requested args)
 unfolding on_page
 page_frame os o a page.Read args = one_of (LeavesFrame os) (nat_lt args.first 512) _ _ (frame_refl os) (frame_refl os)
 page_frame os o a page.Write args =
@@ -59,25 +61,30 @@ page_frame os o a page.Reduce args = one_of (LeavesFrame os) (reduces args.first
 
 stored_frame : (os : List Object) (o : ℕ) (a : Access) (slot : ℕ) (c : Capability) → LeavesFrame os (stored os o a slot c)
 stored_frame os o a slot c =
-    one_of (LeavesFrame os) (not (a.0 == 0)) _ _ (frame_refl os) (one_of (LeavesFrame os) (nat_lt slot 32) _ _ (slot_frame os o slot c) (frame_refl os))
+    one_of (LeavesFrame os) (not (a.0 == 0)) _ _ (frame_refl os) (one_of (LeavesFrame os) (nat_lt slot 32) _ _ (slot_frame os o slot c)
+    (frame_refl os))
 
-node_frame : (os : List Object) (o : ℕ) (a : Access) (requested : NodeOrder) (args : Arguments) → LeavesFrame os (on_node os o a requested args)
+node_frame : (os : List Object) (o : ℕ) (a : Access) (requested : NodeOrder) (args : Arguments) →
+    LeavesFrame os (on_node os o a requested args)
 unfolding on_node
 node_frame os o a node.Fetch args = one_of (LeavesFrame os) (nat_lt args.first 32) _ _ (frame_refl os) (frame_refl os)
 node_frame os o a node.Store args = stored_frame os o a args.first args.capability
 node_frame os o a node.Reduce args = one_of (LeavesFrame os) (reduces args.first) _ _ (frame_refl os) (frame_refl os)
-node_frame os o a node.MakeSpace args = one_of (LeavesFrame os) ((args.first == 0) || not (nat_lt args.first 5)) _ _ (frame_refl os) (frame_refl os)
+node_frame os o a node.MakeSpace args = one_of (LeavesFrame os) ((args.first == 0) || not (nat_lt args.first 5)) _ _ (frame_refl os)
+    (frame_refl os)
 node_frame os o a node.PutNumber args = stored_frame os o a args.first (Number args.second)
 
 pub set_frame : (os : List Object) (p : ℕ) (s : State) → IsTrue (is_process os p) → SameFrame os (consume p (with_state os p s))
-set_frame os p s is = frame_trans os (with_state os p s) (consume p (with_state os p s)) (state_frame os p s is) (frame_consume p (with_state os p s))
+set_frame os p s is = frame_trans os (with_state os p s) (consume p (with_state os p s)) (state_frame os p s is)
+    (frame_consume p (with_state os p s))
 
 process_frame : (os : List Object) (p : ℕ) (requested : ProcessOrder) (args : Arguments) → IsTrue (is_process os p) →
     LeavesFrame os (on_process os p requested args)
 unfolding on_process
 process_frame os p process.GetRegister args is = one_of (LeavesFrame os) (nat_lt args.first 32) _ _ (frame_refl os) (frame_refl os)
 process_frame os p process.PutRegister args is =
-    one_of (LeavesFrame os) ((args.first == 0) || not (nat_lt args.first 32)) _ _ (frame_refl os) (slot_frame os (annex_at os p) args.first args.capability)
+    one_of (LeavesFrame os) ((args.first == 0) || not (nat_lt args.first 32)) _ _ (frame_refl os)
+    (slot_frame os (annex_at os p) args.first args.capability)
 process_frame os p process.GetWord args is = one_of (LeavesFrame os) (nat_lt args.first 4) _ _ (frame_refl os) (frame_refl os)
 process_frame os p process.PutWord args is = one_of (LeavesFrame os) (nat_lt args.first 4) _ _ (root_frame os p _ is refl) (frame_refl os)
 process_frame os p process.MakeStart args is = one_of (LeavesFrame os) (nat_lt args.first 65536) _ _ (frame_refl os) (frame_refl os)
@@ -86,33 +93,39 @@ process_frame os p process.SetState args is =
     one_of (LeavesFrame os) (args.first == 0) _ _ (set_frame os p Available is)
     (one_of (LeavesFrame os) (args.first == 1) _ _ (set_frame os p Running is) (frame_refl os))
 process_frame os p process.GetSpace args is = frame_refl os
-process_frame os p process.SetSpace args is = one_of (LeavesFrame os) (is_space args.capability) _ _ (root_frame os p _ is refl) (frame_refl os)
+process_frame os p process.SetSpace args is = one_of (LeavesFrame os) (is_space args.capability) _ _ (root_frame os p _ is refl)
+    (frame_refl os)
 
-bank_refused : (g : Geometry) (os : List Object) (b w : ℕ) (args : Arguments) → bank_order w ≡ None → order g os (Bank b) w args ≡ refused os code.NoOrder
+bank_refused : (g : Geometry) (os : List Object) (b w : ℕ) (args : Arguments) → bank_order w ≡ None →
+    order g os (Bank b) w args ≡ refused os code.NoOrder
 unfolding order
 bank_refused g os b w args is = grind (arith, nat_tests)
 
 -- what isn't a bank's order: the frame stays
-pub order_frame : (g : Geometry) (W : ℕ → Type 0) (os : List Object) (c : Capability) (w : ℕ) (args : Arguments) → IsHeld os W c → IsNoBankOrder c w
-    → SameFrame os (order g os c w args).objects
+pub order_frame : (g : Geometry) (W : ℕ → Type 0) (os : List Object) (c : Capability) (w : ℕ) (args : Arguments) → IsHeld os W c →
+    IsNoBankOrder c w → SameFrame os (order g os c w args).objects
 unfolding order
 order_frame g W os (Number n) w args held other = one_of (LeavesFrame os) (w == 1) _ _ (frame_refl os) (frame_refl os)
 order_frame g W os (Page o a) w args held other =
-    found_or (LeavesFrame os) (page_order w) _ (λ requested. on_page os o a requested args) (frame_refl os) (λ requested. page_frame os o a requested args)
+    found_or (LeavesFrame os) (page_order w) _ (λ requested. on_page os o a requested args) (frame_refl os)
+    (λ requested. page_frame os o a requested args)
 order_frame g W os (Node o a) w args held other =
-    found_or (LeavesFrame os) (node_order w) _ (λ requested. on_node os o a requested args) (frame_refl os) (λ requested. node_frame os o a requested args)
+    found_or (LeavesFrame os) (node_order w) _ (λ requested. on_node os o a requested args) (frame_refl os)
+    (λ requested. node_frame os o a requested args)
 order_frame g W os (Space o k a) w args held other = grind (arith, nat_tests, one_of, frame_refl)
 order_frame g W os (Process p) w args held other =
     found_or (LeavesFrame os) (process_order w) _ (λ requested. on_process os p requested args) (frame_refl os)
     (λ requested. process_frame os p requested args held.names)
-order_frame g W os (Bank b) w args held other = subst (λ (o : OrderOutcome). SameFrame os o.objects) (sym (bank_refused g os b w args other)) (frame_refl os)
+order_frame g W os (Bank b) w args held other = subst (λ (o : OrderOutcome). SameFrame os o.objects)
+    (sym (bank_refused g os b w args other)) (frame_refl os)
 order_frame g W os Discrim w args held other = one_of (LeavesFrame os) (w == 1) _ _ (frame_refl os) (frame_refl os)
 order_frame g W os c w args held other = frame_refl os
 
 -- a reply is delivered or dropped: the frame stays
 pub replied_frame : (i : Invocation) (o : OrderOutcome) → SameFrame o.objects (replied o.objects i o)
 replied_frame i o = replied_by (SameFrame o.objects) o.objects i o (frame_refl o.objects) (λ runs.
-    deliver_frame o.objects i.process (reply_of o) (and_parts (is_process o.objects i.process) (is_running (state_at o.objects i.process)) runs).0)
+    deliver_frame o.objects i.process (reply_of o) (and_parts (is_process o.objects i.process) (is_running (state_at o.objects i.process))
+    runs).0)
 
 -- invocations
 
@@ -154,7 +167,8 @@ invocation_frame g os i e h fits runs other =
     let held = (h.filled (annex_at os i.process)).slots i.register in
     invoked_by (SameFrame os) os i (IsHeld os (Waits os)) g e held (λ q key by can. gate_frame os i q key is by.names) (λ q by.
     let us = (through_gate os i q 0).objects in
-    frame_trans os us (consume q us) (gate_frame os i q 0 is by.names.0) (frame_consume q us)) (kernel_frame g (Waits os) os i is held other)
+    frame_trans os us (consume q us) (gate_frame os i q 0 is by.names.0) (frame_consume q us))
+    (kernel_frame g (Waits os) os i is held other)
 
 -- a running process becomes available: sound objects stay sound
 pub state_now : (g : Geometry) (os : List Object) (p : ℕ) → IsNow g os → IsTrue (is_process os p) → IsTrue (is_running (state_at os p))

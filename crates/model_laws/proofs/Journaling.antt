@@ -25,8 +25,9 @@ filled_page : (os : List Object) (W : ℕ → Type 0) (words : List ℕ) → len
 filled_page os W words count fit = grind (arith, nat_tests)
 
 -- another page in place of one
-pub edited_page : (g : Geometry) (W : ℕ → Type 0) (os : List Object) (n : ℕ) (words : List ℕ) → IsNearlySound g W os → is_page (content_at os n) ≡ true
-    → length words ≡ 512 → ((i : ℕ) → slice_index words i < 2 ^ 64) → IsEdited g W os (with_content os n (content.Page words))
+pub edited_page : (g : Geometry) (W : ℕ → Type 0) (os : List Object) (n : ℕ) (words : List ℕ) → IsNearlySound g W os →
+    is_page (content_at os n) ≡ true → length words ≡ 512 → ((i : ℕ) → slice_index words i < 2 ^ 64) →
+    IsEdited g W os (with_content os n (content.Page words))
 edited_page g W os n words h is count fit =
     let c = content.Page words in
     let a = alike_page (owner_at os n) words (content_at os n) is in
@@ -66,4 +67,5 @@ journal_keeps_sound g s n now saved young none =
     let pages = both_pages s n none in
     subst (λ (d : Content Capability). IsSound g (record { objects = with_content s.saved.world.objects n d; age = s.saved.world.age + 1 }))
     (sym (page_is c pages.0))
-    (world_with_page g s.saved.world n (s.saved.world.age + 1) (words_in c) saved pages.1 (page_shape c pages.0 (now.shapes n)) (now.words n) (omega arith))
+    (world_with_page g s.saved.world n (s.saved.world.age + 1) (words_in c) saved pages.1 (page_shape c pages.0 (now.shapes n))
+    (now.words n) (omega arith))

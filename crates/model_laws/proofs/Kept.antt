@@ -46,7 +46,12 @@ content_twice first second c = grind (arith, nat_tests, map_twice, twice)
 
 -- an object is kept unchanged
 pub kept_refl : (inside : ℕ → Bool) (o : Object) → IsKept inside o o
-kept_refl inside o = ((λ c. false), (λ c e. cc), ap (λ (c : Content Capability). record { owner = o.owner; content = c }) (content_same o.content))
+kept_refl inside o = (
+  (λ c. false),
+  (λ c e. cc),
+  ap (λ (c : Content Capability). record { owner = o.owner; content = c })
+      (content_same o.content),
+)
 
 -- kept twice is kept
 pub kept_trans : (inside : ℕ → Bool) (o p q : Object) → IsKept inside o p → IsKept inside p q → IsKept inside o q
@@ -57,7 +62,8 @@ pub stays_refl : (inside : ℕ → Bool) (os : List Object) → Encloses inside 
 stays_refl inside os h = record { encloses = h; kept = λ n out. kept_refl inside (object_at os n) }
 
 -- two changes within a set are one
-pub stays_trans : (inside : ℕ → Bool) (os us vs : List Object) → StaysWithin inside os us → StaysWithin inside us vs → StaysWithin inside os vs
+pub stays_trans : (inside : ℕ → Bool) (os us vs : List Object) → StaysWithin inside os us → StaysWithin inside us vs →
+    StaysWithin inside os vs
 stays_trans inside os us vs a b = record {
   encloses = b.encloses;
   kept = λ n out. kept_trans inside (object_at os n) (object_at us n) (object_at vs n) (a.kept n out) (b.kept n out);
@@ -104,11 +110,13 @@ stays_content inside os n c h in_n may = record {
 may_stay : (inside : ℕ → Bool) (os : List Object) (n : ℕ) → Encloses inside os → IsTrue (inside n) → MayStand inside os n (content_at os n)
 may_stay inside os n h in_n = grind (arith, nat_tests)
 
-word_may : (inside : ℕ → Bool) (os : List Object) (n i w : ℕ) (c : Content Capability) → MayStand inside os n c → MayStand inside os n (with_word_in c i w)
+word_may : (inside : ℕ → Bool) (os : List Object) (n i w : ℕ) (c : Content Capability) → MayStand inside os n c →
+    MayStand inside os n (with_word_in c i w)
 word_may inside os n i w c h = grind (arith, nat_tests)
 
 -- a word of a member
-pub stays_word : (inside : ℕ → Bool) (os : List Object) (n i w : ℕ) → Encloses inside os → IsTrue (inside n) → StaysWithin inside os (with_word os n i w)
+pub stays_word : (inside : ℕ → Bool) (os : List Object) (n i w : ℕ) → Encloses inside os → IsTrue (inside n) →
+    StaysWithin inside os (with_word os n i w)
 unfolding with_word
 stays_word inside os n i w h in_n = search (arith, nat_tests, stays_content, word_may, may_stay)
 
@@ -129,8 +137,8 @@ slot_may inside os n i k (content.Annex slots) stays h = record {
 slot_may inside os n i k c stays h = h
 
 -- a slot of a member
-pub stays_slot : (inside : ℕ → Bool) (os : List Object) (n i : ℕ) (c : Capability) → Encloses inside os → IsTrue (inside n) → StaysInside inside c
-    → StaysWithin inside os (with_slot os n i c)
+pub stays_slot : (inside : ℕ → Bool) (os : List Object) (n i : ℕ) (c : Capability) → Encloses inside os → IsTrue (inside n) →
+    StaysInside inside c → StaysWithin inside os (with_slot os n i c)
 unfolding with_slot
 stays_slot inside os n i c h in_n stays = search (arith, nat_tests, stays_content, slot_may, may_stay)
 
@@ -141,7 +149,8 @@ stays_slots inside os n i [] h in_n stays = stays_refl inside os h
 stays_slots inside os n i (c ∷ cs) h in_n stays =
     let us = with_slot os n i c in
     let one = stays_slot inside os n i c h in_n (stays 0) in
-    stays_trans inside os us (with_slots_from us n (i + 1) cs) one (stays_slots inside us n (i + 1) cs one.encloses in_n (λ j. stays (suc j)))
+    stays_trans inside os us (with_slots_from us n (i + 1) cs) one (stays_slots inside us n (i + 1) cs one.encloses in_n
+    (λ j. stays (suc j)))
 
 -- a root of a member
 pub stays_root : (inside : ℕ → Bool) (os : List Object) (p : ℕ) (r : Root Capability) → Encloses inside os → IsTrue (inside p)
@@ -166,8 +175,9 @@ stays_state inside os p s h in_p is =
 stays_void : (inside : ℕ → Bool) (goes : Capability → Bool) (c : Capability) → StaysInside inside c → StaysInside inside (void_where goes c)
 stays_void inside goes c stays = one_of (StaysInside inside) (goes c) Void c (inl tt) stays
 
-annex_without : (inside : ℕ → Bool) (goes : Capability → Bool) (o : Object) → (IsTrue (is_root o.content) → IsTrue (inside (root_in o.content).annex))
-    → IsTrue (is_root (without goes o).content) → IsTrue (inside (root_in (without goes o).content).annex)
+annex_without : (inside : ℕ → Bool) (goes : Capability → Bool) (o : Object) →
+    (IsTrue (is_root o.content) → IsTrue (inside (root_in o.content).annex)) → IsTrue (is_root (without goes o).content) →
+    IsTrue (inside (root_in (without goes o).content).annex)
 annex_without inside goes o h is = grind (arith, nat_tests)
 
 -- members are freed, and capabilities that name members put void
@@ -189,7 +199,8 @@ stays_without inside os us goes set h members names at = record {
           (stays_void inside goes (slice_index_or (slots_in (content_at os n)) i Void) (h.closed.slots n i in_n)));
       spaces = λ p in_p.
           at_us (λ o. StaysInside inside (root_in o.content).space) p (λ m. inl tt)
-          (rw ((without_mapped goes (object_at os p)).space (void_void goes)) (stays_void inside goes (root_at os p).space (h.closed.spaces p in_p)));
+          (rw ((without_mapped goes (object_at os p)).space (void_void goes))
+          (stays_void inside goes (root_at os p).space (h.closed.spaces p in_p)));
     };
     free = λ n.
         at_us (λ o. is_free o.content ≡ true → IsTrue (inside n)) n (λ m e. members n m)
@@ -205,7 +216,8 @@ stays_without inside os us goes set h members names at = record {
     was_bank b is = grind (arith, nat_tests, at_us, without_mapped)
 
 -- a consumed resume capability of a member
-pub stays_consume : (inside : ℕ → Bool) (os : List Object) (p : ℕ) → Encloses inside os → IsTrue (inside p) → StaysWithin inside os (consume p os)
+pub stays_consume : (inside : ℕ → Bool) (os : List Object) (p : ℕ) → Encloses inside os → IsTrue (inside p) →
+    StaysWithin inside os (consume p os)
 stays_consume inside os p h in_p = stays_without inside os (consume p os) (resumes p) [] h (λ n m. cc) names (object_consume p os)
   where
     names : (c : Capability) → resumes p c ≡ true → NamesInside inside c

@@ -21,11 +21,13 @@ only_member o n e = elim (member_cases o [] n e) [ inl same ↦ same | inr later
 
 -- what holds of each member holds at each place
 pub all_members : (P : ℕ → Type 0) (xs : List ℕ) → ((n : ℕ) → is_member xs n ≡ true → P n) → All P xs
-all_members P xs each k d within = each (get_or xs k d) (list_any_at (nat_eq (get_or xs k d)) xs k d within (eq-eqb (get_or xs k d) (get_or xs k d) refl))
+all_members P xs each k d within = each (get_or xs k d) (list_any_at (nat_eq (get_or xs k d)) xs k d within
+    (eq-eqb (get_or xs k d) (get_or xs k d) refl))
 
 -- what passes a test among the numbers from a on
 
-pub found_in : (f : ℕ → Bool) (a count n : ℕ) → is_member (filter f (range_with_len a count)) n ≡ true → (a ≤ n) × (n < a + count) × (f n ≡ true)
+pub found_in : (f : ℕ → Bool) (a count n : ℕ) → is_member (filter f (range_with_len a count)) n ≡ true →
+    (a ≤ n) × (n < a + count) × (f n ≡ true)
 found_in f a zero n e = absurd (false≢true e)
 found_in f a (suc count) n e =
     go (f a) refl (λ more. let found = found_in f (a + 1) count n more in (omega (arith, found.0), omega (arith, found.1), found.2)) e

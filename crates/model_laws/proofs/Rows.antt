@@ -13,8 +13,10 @@ use Prim.Native.String.{String}
 
 -- `unfolding machine` lets `refl` compute what the machine answers
 unfoldable pub machine : Unit {0}
-unfolding digits all_slots zero_words with_content with_word with_slot with_root with_state chain usage rescind consume walk on_bank has_quota free_nodes
-    free_pages with_new under owned_by inherited on_page on_node on_process order deliver through_gate on_kernel_object invoke untouched renewing refusal_of
+unfolding digits all_slots zero_words with_content with_word with_slot with_root with_state chain usage rescind consume walk on_bank
+    has_quota free_nodes
+    free_pages with_new under owned_by inherited on_page on_node on_process order deliver through_gate on_kernel_object invoke untouched
+    renewing refusal_of
     carried_out command_words command_of spelling capability_text word_lines capability_lines object_text printed bad_line f0 i0 s0 b0
 machine = tt
 
@@ -44,7 +46,8 @@ one_below n k e = all_below n (k ∷ []) e 0 k (omega arith)
 pub fits_holds : (c : Command) → fits c ≡ true → Fits c
 fits_holds (command.Invoke i) e =
     let names = and_parts (below (2 ^ 64) (i.process ∷ [])) (below 32 (i.register ∷ [])) (and_parts _ _ e).0 in
-    let lists = and_parts (nat_eq (length i.words) 4 && below (2 ^ 64) i.words) (nat_eq (length i.sent) 4 && below 32 i.sent) (and_parts _ _ e).1 in
+    let lists = and_parts (nat_eq (length i.words) 4 && below (2 ^ 64) i.words) (nat_eq (length i.sent) 4 && below 32 i.sent)
+    (and_parts _ _ e).1 in
     let words = and_parts (nat_eq (length i.words) 4) (below (2 ^ 64) i.words) lists.0 in
     let sent = and_parts (nat_eq (length i.sent) 4) (below 32 i.sent) lists.1 in (
       one_below (2 ^ 64) i.process names.0,

@@ -33,7 +33,8 @@ record IsGrown (g : Geometry) (os us : List Object) : Type 0 where
   annexes : (p : ℕ) → IsTrue (is_free (content_at os p)) → IsTrue (is_process us p) →
       IsTrue (is_free (content_at os (annex_at us p)))
       × IsTrue (is_annex (content_at us (annex_at us p))) × (owner_at us (annex_at us p) ≡ owner_at us p)
-  one_root : (p q : ℕ) → IsTrue (is_free (content_at os p)) → IsTrue (is_free (content_at os q)) → IsTrue (is_process us p) → IsTrue (is_process us q) → p ≡ q
+  one_root : (p q : ℕ) → IsTrue (is_free (content_at os p)) → IsTrue (is_free (content_at os q)) → IsTrue (is_process us p) →
+      IsTrue (is_process us q) → p ≡ q
   some_root : (a : ℕ) → IsTrue (is_free (content_at os a)) → IsTrue (is_annex (content_at us a)) →
       (p : ℕ) × IsTrue (is_process us p) × (annex_at us p ≡ a)
 
@@ -50,8 +51,8 @@ module _ (g : Geometry) (os us : List Object) (h : IsNow g os) (k : IsGrown g os
   annex_used p is = used_where is_annex refl (content_at os (annex_at os p)) (h.frame.annexes p is).0
 
   -- an old and a new process have different annexes
-  annexes_apart : (p q : ℕ) → IsTrue (is_free (content_at os p)) → is_free (content_at os q) ≡ false → IsTrue (is_process us p) → IsTrue (is_process us q)
-      → annex_at us p ≢ annex_at us q
+  annexes_apart : (p q : ℕ) → IsTrue (is_free (content_at os p)) → is_free (content_at os q) ≡ false → IsTrue (is_process us p) →
+      IsTrue (is_process us q) → annex_at us p ≢ annex_at us q
   annexes_apart p q new old is iq same = grind (arith, nat_tests)
 
   grown_one_root : (p q : ℕ) → IsTrue (is_process us p) → IsTrue (is_process us q) → annex_at us p ≡ annex_at us q → p ≡ q
@@ -65,15 +66,20 @@ module _ (g : Geometry) (os us : List Object) (h : IsNow g os) (k : IsGrown g os
       | inr also ↦
           h.frame.one_root p q (sym (ap (λ (o : Object). is_root o.content) (k.kept p old)) ∙ is)
           (sym (ap (λ (o : Object). is_root o.content) (k.kept q also)) ∙ iq)
-          (sym (ap (λ (o : Object). (root_in o.content).annex) (k.kept p old)) ∙ (same ∙ ap (λ (o : Object). (root_in o.content).annex) (k.kept q also)))
+          (sym (ap (λ (o : Object). (root_in o.content).annex) (k.kept p old))
+          ∙ (same ∙ ap (λ (o : Object). (root_in o.content).annex) (k.kept q also)))
     ]
   ]
 
   -- what names an old object may be held still
-  held_where : (c : Capability) (o : ℕ) → named c ≡ Some o → is_free (content_at os o) ≡ false → IsHeld os (Waits os) c → IsHeld us (Waits us) c
+  held_where : (c : Capability) (o : ℕ) → named c ≡ Some o → is_free (content_at os o) ≡ false → IsHeld os (Waits os) c →
+      IsHeld us (Waits us) c
   held_where c o names old =
       held_as_before os us c (λ n e. subst (IsAsBefore os us) (same o n (sym names ∙ e))
-      (record { role = ap (λ (x : Object). role_of x.content) (k.kept o old); state = ap (λ (x : Object). (root_in x.content).state) (k.kept o old) }))
+      (record {
+        role = ap (λ (x : Object). role_of x.content) (k.kept o old);
+        state = ap (λ (x : Object). (root_in x.content).state) (k.kept o old);
+      }))
     where
       same : (m n : ℕ) → Some m ≡ Some n → m ≡ n
       same m n e = cc
@@ -108,7 +114,8 @@ module _ (g : Geometry) (os us : List Object) (h : IsNow g os) (k : IsGrown g os
       size = k.size ∙ h.frame.size;
       kinds = at_each (λ n o. IsOfKind g n o.content) k.kinds (λ n old. h.frame.kinds n);
       annexes = at_each
-          (λ p o. IsTrue (is_root o.content) → IsTrue (is_annex (content_at us (root_in o.content).annex)) × (owner_at us (root_in o.content).annex ≡ o.owner))
+          (λ p o. IsTrue (is_root o.content) → IsTrue (is_annex (content_at us (root_in o.content).annex))
+          × (owner_at us (root_in o.content).annex ≡ o.owner))
           (λ p new is. ((k.annexes p new is).1, (k.annexes p new is).2))
           (λ p old is.
           let known = h.frame.annexes p is in
@@ -189,7 +196,8 @@ module _ (os : List Object) (from count : ℕ) where
       (subst (All (λ n. (from ≤ n) × (n < from + count))) e
       (All-filter (λ n. is_free (content_at os n)) (λ n. (from ≤ n) × (n < from + count)) (range_with_len from count) in_range)) in
       let gone = All-head (λ n. is_free (content_at os n) ≡ true) n ns
-      (subst (All (λ n. is_free (content_at os n) ≡ true)) e (filter_passes (λ n. is_free (content_at os n)) (range_with_len from count))) in
+      (subst (All (λ n. is_free (content_at os n) ≡ true)) e (filter_passes (λ n. is_free (content_at os n)) (range_with_len from count)))
+      in
       (inside.0, inside.1, gone)
 
   free_second : (n m : ℕ) (ns : List ℕ) → are_free os (range_with_len from count) ≡ n ∷ m ∷ ns → IsFreeWithin os from count m × (n < m)
@@ -198,8 +206,10 @@ module _ (os : List Object) (from count : ℕ) where
       (subst (All (λ n. (from ≤ n) × (n < from + count))) e
       (All-filter (λ n. is_free (content_at os n)) (λ n. (from ≤ n) × (n < from + count)) (range_with_len from count) in_range)) in
       let gone = All-get_or (λ n. is_free (content_at os n) ≡ true) (n ∷ m ∷ ns) 1 0 (omega arith)
-      (subst (All (λ n. is_free (content_at os n) ≡ true)) e (filter_passes (λ n. is_free (content_at os n)) (range_with_len from count))) in
-      let rises = subst (AllPairs (λ m n. m < n)) e (AllPairs-filter (λ m n. m < n) (λ n. is_free (content_at os n)) (range_with_len from count) range_rises) in
+      (subst (All (λ n. is_free (content_at os n) ≡ true)) e (filter_passes (λ n. is_free (content_at os n)) (range_with_len from count)))
+      in
+      let rises = subst (AllPairs (λ m n. m < n)) e (AllPairs-filter (λ m n. m < n) (λ n. is_free (content_at os n))
+      (range_with_len from count) range_rises) in
       ((inside.0, inside.1, gone), rises 0 1 0 (omega arith) (omega arith))
 
 -- one new object, which is no process and no annex
@@ -217,25 +227,29 @@ module _ (g : Geometry) (os : List Object) (n b : ℕ) (c : Content Capability) 
       (λ is. omega (arith, usage_new_bank os n b c (tree_of g os h.frame) bank inside unused used short is))
       (λ x differ is. go x is (is_member (chain os b) x) refl)
     where
-      go : (x : ℕ) → IsTrue (is_bank (content_at os x)) → (m : Bool) → is_member (chain os b) x ≡ m → usage (with_new os n b c) x ≤ limit_in (content_at os x)
+      go : (x : ℕ) → IsTrue (is_bank (content_at os x)) → (m : Bool) → is_member (chain os b) x ≡ m →
+          usage (with_new os n b c) x ≤ limit_in (content_at os x)
       go x is m e = grind (arith, nat_tests, usage_new, tree_of, spare_body_at)
 
-  one_now : has_quota os b 1 ≡ true → IsOfKind g n c → IsFilled (with_new os n b c) (Waits (with_new os n b c)) c → is_root c ≡ false → is_annex c ≡ false
-      → IsNow g (with_new os n b c)
+  one_now : has_quota os b 1 ≡ true → IsOfKind g n c → IsFilled (with_new os n b c) (Waits (with_new os n b c)) c → is_root c ≡ false →
+      is_annex c ≡ false → IsNow g (with_new os n b c)
   one_now room kind filled no_root no_annex = grown_now g os (with_new os n b c) h (record {
     size = length_new os n b c;
-    kept = λ x old. at_other os n b c x (λ e. let both : true ≡ false = sym unused ∙ (ap (λ (m : ℕ). is_free (content_at os m)) (sym e) ∙ old) in cc);
+    kept = λ x old. at_other os n b c x (λ e. let both : true ≡ false = sym unused
+        ∙ (ap (λ (m : ℕ). is_free (content_at os m)) (sym e) ∙ old) in cc);
     tree = tree_new os n b c (tree_of g os h.frame) bank inside unused used short;
     limits = one_limits room;
     kinds = λ x gone. one_at (λ y o. IsOfKind g y o.content) kind (λ y differ. h.frame.kinds y) x;
-    filled = λ x gone. one_at (λ y o. IsTrue (is_free (content_at os y)) → IsFilled (with_new os n b c) (Waits (with_new os n b c)) o.content) (λ f. filled)
+    filled = λ x gone. one_at (λ y o. IsTrue (is_free (content_at os y)) → IsFilled (with_new os n b c) (Waits (with_new os n b c))
+        o.content) (λ f. filled)
         (λ y differ f. filled_free y f) x gone;
     annexes = λ p gone is. absurd (no_process p gone is);
     one_root = λ p q gone also is iq. absurd (no_process p gone is);
     some_root = λ a gone is. absurd (no_annexes a gone is);
   })
     where
-      filled_free : (y : ℕ) → IsTrue (is_free (content_at os y)) → IsFilled (with_new os n b c) (Waits (with_new os n b c)) (content_at os y)
+      filled_free : (y : ℕ) → IsTrue (is_free (content_at os y)) → IsFilled (with_new os n b c) (Waits (with_new os n b c))
+          (content_at os y)
       filled_free y f = free_filled (with_new os n b c) (Waits (with_new os n b c)) (content_at os y) f
 
       no_process : (p : ℕ) → IsTrue (is_free (content_at os p)) → IsTrue (is_process (with_new os n b c) p) → ⊥
@@ -249,7 +263,8 @@ module _ (g : Geometry) (os : List Object) (n b : ℕ) (c : Content Capability) 
           (λ x differ gone is. let both : true ≡ false = sym gone ∙ used_where is_annex refl (content_at os x) is in cc)
 
 -- a new process: a root and its annex
-module _ (g : Geometry) (os : List Object) (p a b : ℕ) (h : IsNow g os) (bank : IsTrue (is_bank (content_at os b))) (differ : p ≢ a) (p_inside : p < length os)
+module _ (g : Geometry) (os : List Object) (p a b : ℕ) (h : IsNow g os) (bank : IsTrue (is_bank (content_at os b))) (differ : p ≢ a)
+    (p_inside : p < length os)
     (a_inside : a < length os)
     (p_unused : IsTrue (is_free (content_at os p))) (a_unused : IsTrue (is_free (content_at os a))) where
   abbrev rooted : List Object
@@ -288,8 +303,21 @@ module _ (g : Geometry) (os : List Object) (p a b : ℕ) (h : IsNow g os) (bank 
   two_limits room = two_at (λ x o. IsTrue (is_bank o.content) → usage whole x ≤ limit_in o.content) (λ is. cc) (λ is. cc)
       (λ x is. go x is (is_member (chain os b) x) refl)
     where
-      go : (x : ℕ) → IsTrue (is_bank (content_at os x)) → (m : Bool) → is_member (chain os b) x ≡ m → usage whole x ≤ limit_in (content_at os x)
-      go x is m e = grind (arith, nat_tests, usage_new, tree_of, new_bank_kept, rooted_tree, rooted_bank, annex_inside, annex_unused, chain_new, spare_body_at)
+      go : (x : ℕ) → IsTrue (is_bank (content_at os x)) → (m : Bool) → is_member (chain os b) x ≡ m →
+          usage whole x ≤ limit_in (content_at os x)
+      go x is m e = grind (
+        arith,
+        nat_tests,
+        usage_new,
+        tree_of,
+        new_bank_kept,
+        rooted_tree,
+        rooted_bank,
+        annex_inside,
+        annex_unused,
+        chain_new,
+        spare_body_at,
+      )
 
   -- the one new process
   only_process : (q : ℕ) → IsTrue (is_free (content_at os q)) → IsTrue (is_process whole q) → q ≡ p
@@ -308,7 +336,8 @@ module _ (g : Geometry) (os : List Object) (p a b : ℕ) (h : IsNow g os) (bank 
 
   two_roots : (q : ℕ) → IsTrue (is_free (content_at os q)) → IsTrue (is_annex (content_at whole q)) →
       (r : ℕ) × IsTrue (is_process whole r) × (annex_at whole r ≡ q)
-  two_roots = two_at (λ q o. IsTrue (is_free (content_at os q)) → IsTrue (is_annex o.content) → (r : ℕ) × IsTrue (is_process whole r) × (annex_at whole r ≡ q))
+  two_roots = two_at (λ q o. IsTrue (is_free (content_at os q)) → IsTrue (is_annex o.content) →
+      (r : ℕ) × IsTrue (is_process whole r) × (annex_at whole r ≡ q))
       (λ gone is. cc)
       (λ gone is. (p, ap (λ (o : Object). is_root o.content) root_there, ap (λ (o : Object). (root_in o.content).annex) root_there))
       (λ q gone is. let both : true ≡ false = sym gone ∙ used_where is_annex refl (content_at os q) is in cc)
@@ -321,7 +350,8 @@ module _ (g : Geometry) (os : List Object) (p a b : ℕ) (h : IsNow g os) (bank 
     limits = two_limits room;
     kinds = λ x gone. two_at (λ y o. IsOfKind g y o.content) p_node a_node h.frame.kinds x;
     filled = two_at (λ y o. IsTrue (is_free (content_at os y)) → IsFilled whole (Waits whole) o.content)
-        (λ f. filled_root whole (Waits whole) a) (λ f. filled_annex whole (Waits whole)) (λ y f. free_filled whole (Waits whole) (content_at os y) f);
+        (λ f. filled_root whole (Waits whole) a) (λ f. filled_annex whole (Waits whole))
+        (λ y f. free_filled whole (Waits whole) (content_at os y) f);
     annexes = two_annexes;
     one_root = λ q r gone also is ir. only_process q gone is ∙ sym (only_process r also ir);
     some_root = two_roots;
@@ -332,11 +362,14 @@ module _ (g : Geometry) (os : List Object) (p a b : ℕ) (h : IsNow g os) (bank 
 
 -- each order of a bank
 
-module _ (g : Geometry) (os : List Object) (b : ℕ) (args : Arguments) (h : IsNow g os) (is : IsTrue (is_bank (content_at os b))) (fits : AreArguments os args)
+module _ (g : Geometry) (os : List Object) (b : ℕ) (args : Arguments) (h : IsNow g os) (is : IsTrue (is_bank (content_at os b)))
+    (fits : AreArguments os args)
   where
     -- one that writes objects and gives a capability
-    made_keeps : (us : List Object) (written : List ℕ) (c : Capability) → IsNow g us → IsHeld us (Waits us) c → IsOutcome g (made us written c)
-    made_keeps us written c now held = let k = given_keeps g us c now held in record { now = k.now; count = k.count; words = k.words; held = k.held }
+    made_keeps : (us : List Object) (written : List ℕ) (c : Capability) → IsNow g us → IsHeld us (Waits us) c →
+        IsOutcome g (made us written c)
+    made_keeps us written c now held = let k = given_keeps g us c now held in
+        record { now = k.now; count = k.count; words = k.words; held = k.held }
 
     node_within : (n : ℕ) → n < 0 + g.nodes → n < length os
     node_within n lt = omega (arith, h.frame.size)
@@ -363,7 +396,8 @@ module _ (g : Geometry) (os : List Object) (b : ℕ) (args : Arguments) (h : IsN
     node_allocated_keeps =
         chosen (IsOutcome g) (has_quota os b 1) _ _ (λ room. go room (free_nodes g os) refl) (λ _. refused_keeps g os code.Limit h)
       where
-        go : has_quota os b 1 ≡ true → (ns : List ℕ) → are_free os (range_with_len 0 g.nodes) ≡ ns → IsOutcome g (allocated os b ns new_node (λ n. Node n full))
+        go : has_quota os b 1 ≡ true → (ns : List ℕ) → are_free os (range_with_len 0 g.nodes) ≡ ns →
+            IsOutcome g (allocated os b ns new_node (λ n. Node n full))
         go room [] e = refused_keeps g os code.NoFrame h
         go room (n ∷ ns) e =
             let found = free_first os 0 g.nodes n ns e in
@@ -378,14 +412,16 @@ module _ (g : Geometry) (os : List Object) (b : ℕ) (args : Arguments) (h : IsN
     bank_allocated_keeps =
         chosen (IsOutcome g) (has_quota os b 1) _ _ (λ room. go room (free_nodes g os) refl) (λ _. refused_keeps g os code.Limit h)
       where
-        go : has_quota os b 1 ≡ true → (ns : List ℕ) → are_free os (range_with_len 0 g.nodes) ≡ ns → IsOutcome g (bank_allocated os b ns args.first)
+        go : has_quota os b 1 ≡ true → (ns : List ℕ) → are_free os (range_with_len 0 g.nodes) ≡ ns →
+            IsOutcome g (bank_allocated os b ns args.first)
         go room [] e = refused_keeps g os code.NoFrame h
         go room (n ∷ ns) e =
             let found = free_first os 0 g.nodes n ns e in
             let inside = node_within n found.1 in
             chosen (IsOutcome g) (nat_lt (length (chain os b)) 16) _ _
             (λ short. made_keeps (with_new os n b (content.Bank args.first)) (n ∷ []) (Bank n)
-            (one_now g os n b (content.Bank args.first) h is inside found.2 refl (λ _. ltb-true (length (chain os b)) 16 short) room (omega (arith, found.1))
+            (one_now g os n b (content.Bank args.first) h is inside found.2 refl (λ _. ltb-true (length (chain os b)) 16 short) room
+            (omega (arith, found.1))
             (filled_bank _ _ args.first fits.first) refl refl)
             (record { well_formed = tt; names = ap (λ (o : Object). is_bank o.content) (at_new os n b (content.Bank args.first) inside) }))
             (λ _. refused_keeps g os code.TooDeep h)
@@ -406,7 +442,8 @@ module _ (g : Geometry) (os : List Object) (b : ℕ) (args : Arguments) (h : IsN
             let root_inside = node_within p root.1 in
             let annex_inside = node_within a annex.0.1 in
             made_keeps (with_new (with_new os p b (new_root a)) a b new_annex) (p ∷ a ∷ []) (Process p)
-            (two_now g os p a b h is differ root_inside annex_inside root.2 annex.0.2 room (omega (arith, root.1)) (omega (arith, annex.0.1)))
+            (two_now g os p a b h is differ root_inside annex_inside root.2 annex.0.2 room (omega (arith, root.1))
+            (omega (arith, annex.0.1)))
             (record {
               well_formed = tt;
               names = ap (λ (o : Object). is_root o.content) (root_there g os p a b h is differ root_inside annex_inside root.2 annex.0.2);
@@ -423,8 +460,8 @@ module _ (g : Geometry) (os : List Object) (b : ℕ) (args : Arguments) (h : IsN
     remaining_keeps = grind (arith, nat_tests, three_words, least_below, held_void)
 
 -- every order of a bank keeps sound objects sound
-pub on_bank_keeps : (g : Geometry) (os : List Object) (b : ℕ) (requested : BankOrder) (args : Arguments) → IsNow g os → IsTrue (is_bank (content_at os b))
-    → AreArguments os args → IsOutcome g (on_bank g os b requested args)
+pub on_bank_keeps : (g : Geometry) (os : List Object) (b : ℕ) (requested : BankOrder) (args : Arguments) → IsNow g os →
+    IsTrue (is_bank (content_at os b)) → AreArguments os args → IsOutcome g (on_bank g os b requested args)
 on_bank_keeps g os b bank.NewPage args h is fits = page_allocated_keeps g os b args h is fits
 on_bank_keeps g os b bank.NewNode args h is fits = node_allocated_keeps g os b args h is fits
 on_bank_keeps g os b bank.NewProcess args h is fits = process_allocated_keeps g os b args h is fits

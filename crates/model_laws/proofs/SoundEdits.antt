@@ -10,17 +10,19 @@ use Rattle.model_laws.proofs.Mapped.{alike_without, at_map, mapped}
 use Rattle.model_laws.proofs.SoundParts.{IsHeld, IsFilled, IsNearlySound, state_at, nearly_on, held_void}
 
 -- what holds of the new item at its place and of an old item at another holds after a set
-pub at_set : {X : Type 0} (P : ℕ → X → Type 0) (xs : List X) (n m : ℕ) (x d : X) → P n x → P m (get_or xs m d) → P m (get_or (set xs n x) m d)
+pub at_set : {X : Type 0} (P : ℕ → X → Type 0) (xs : List X) (n m : ℕ) (x d : X) → P n x → P m (get_or xs m d) →
+    P m (get_or (set xs n x) m d)
 at_set {X} P xs n m x d new old = grind (arith, nat_tests, get_or-set_other, get_or-set_same, set_past)
 
 -- another content that is alike
 
-pub frame_content : (os : List Object) (n : ℕ) (c : Content Capability) → AreAlike (object_at os n) (record { owner = owner_at os n; content = c })
-    → SameFrame os (with_content os n c)
+pub frame_content : (os : List Object) (n : ℕ) (c : Content Capability) → AreAlike (object_at os n)
+    (record { owner = owner_at os n; content = c }) → SameFrame os (with_content os n c)
 unfolding with_content
 frame_content os n c a = record {
   size = length-set os n (record { owner = owner_at os n; content = c });
-  alike = λ m. at_set (λ k o. AreAlike (object_at os k) o) os n m (record { owner = owner_at os n; content = c }) free a (alike_refl (object_at os m));
+  alike = λ m. at_set (λ k o. AreAlike (object_at os k) o) os n m (record { owner = owner_at os n; content = c }) free a
+      (alike_refl (object_at os m));
 }
 
 pub at_content : (P : ℕ → Content Capability → Type 0) (os : List Object) (n m : ℕ) (c : Content Capability) → P n c → P m (content_at os m)
@@ -31,7 +33,8 @@ at_content P os n m c new old = at_set (λ k o. P k o.content) os n m (record { 
 pub nearly_content : (g : Geometry) (W : ℕ → Type 0) (os : List Object) (n : ℕ) (c : Content Capability) → IsNearlySound g W os
     → AreAlike (object_at os n) (record { owner = owner_at os n; content = c }) → IsFilled os W c → IsNearlySound g W (with_content os n c)
 nearly_content g W os n c h a filled =
-    nearly_on g W os (with_content os n c) (frame_content os n c a) h.frame (λ m. at_content (λ k d. IsFilled os W d) os n m c filled (h.filled m))
+    nearly_on g W os (with_content os n c) (frame_content os n c a) h.frame
+    (λ m. at_content (λ k d. IsFilled os W d) os n m c filled (h.filled m))
 
 -- objects after edits that are as sound, and whose processes are in the same states
 pub record IsEdited (g : Geometry) (W : ℕ → Type 0) (os us : List Object) : Type 0 where
@@ -80,19 +83,22 @@ edited_slot g W os n i k h held differ =
     record {
       frame = frame_content os n c a;
       sound = nearly_content g W os n c h a (filled_slot os W i k (content_at os n) (h.filled n) held differ);
-      states = λ q. at_content (λ m d. (root_in d).state ≡ state_at os m) os n q c (ap (λ (r : Root Capability). r.state) (root_slot i k (content_at os n)))
+      states = λ q. at_content (λ m d. (root_in d).state ≡ state_at os m) os n q c
+          (ap (λ (r : Root Capability). r.state) (root_slot i k (content_at os n)))
           refl;
     }
 
 -- a word
 
-pub alike_word : (b i w : ℕ) (c : Content Capability) → AreAlike (record { owner = b; content = c }) (record { owner = b; content = with_word_in c i w })
+pub alike_word : (b i w : ℕ) (c : Content Capability) → AreAlike (record { owner = b; content = c })
+    (record { owner = b; content = with_word_in c i w })
 alike_word b i w c = grind (arith, nat_tests)
 
 root_word : (i w : ℕ) (c : Content Capability) → root_in (with_word_in c i w) ≡ root_in c
 root_word i w c = grind (arith, nat_tests)
 
-filled_word : (os : List Object) (W : ℕ → Type 0) (i w : ℕ) (c : Content Capability) → IsFilled os W c → w < 2 ^ 64 → IsFilled os W (with_word_in c i w)
+filled_word : (os : List Object) (W : ℕ → Type 0) (i w : ℕ) (c : Content Capability) → IsFilled os W c → w < 2 ^ 64 →
+    IsFilled os W (with_word_in c i w)
 filled_word os W i w (content.Page words) h fits = record {
   shape = length-set words i w ∙ h.shape;
   words = λ j. at_set (λ m v. v < 2 ^ 64) words i j w 0 fits (h.words j);
@@ -103,7 +109,8 @@ filled_word os W i w (content.Page words) h fits = record {
 }
 filled_word os W i w c h fits = h
 
-pub edited_word : (g : Geometry) (W : ℕ → Type 0) (os : List Object) (n i w : ℕ) → IsNearlySound g W os → w < 2 ^ 64 → IsEdited g W os (with_word os n i w)
+pub edited_word : (g : Geometry) (W : ℕ → Type 0) (os : List Object) (n i w : ℕ) → IsNearlySound g W os → w < 2 ^ 64 →
+    IsEdited g W os (with_word os n i w)
 unfolding with_word
 edited_word g W os n i w h fits =
     let c = with_word_in (content_at os n) i w in
@@ -111,7 +118,8 @@ edited_word g W os n i w h fits =
     record {
       frame = frame_content os n c a;
       sound = nearly_content g W os n c h a (filled_word os W i w (content_at os n) (h.filled n) fits);
-      states = λ q. at_content (λ m d. (root_in d).state ≡ state_at os m) os n q c (ap (λ (r : Root Capability). r.state) (root_word i w (content_at os n)))
+      states = λ q. at_content (λ m d. (root_in d).state ≡ state_at os m) os n q c
+          (ap (λ (r : Root Capability). r.state) (root_word i w (content_at os n)))
           refl;
     }
 
@@ -134,7 +142,8 @@ pub record IsRootOf (os : List Object) (W : ℕ → Type 0) (p : ℕ) (r : Root 
 filled_root : (os : List Object) (W : ℕ → Type 0) (p : ℕ) (r : Root Capability) → IsRootOf os W p r → IsFilled os W (content.Root r)
 filled_root os W p r h = grind (arith, nat_tests)
 
-pub root_frame : (os : List Object) (p : ℕ) (r : Root Capability) → IsTrue (is_process os p) → r.annex ≡ annex_at os p → SameFrame os (with_root os p r)
+pub root_frame : (os : List Object) (p : ℕ) (r : Root Capability) → IsTrue (is_process os p) → r.annex ≡ annex_at os p →
+    SameFrame os (with_root os p r)
 unfolding with_root
 root_frame os p r is same = frame_content os p (content.Root r) (alike_root (owner_at os p) r (content_at os p) is same)
 
@@ -143,11 +152,12 @@ pub state_frame : (os : List Object) (p : ℕ) (s : State) → IsTrue (is_proces
 unfolding with_state
 state_frame os p s is = root_frame os p _ is refl
 
-pub nearly_root : (g : Geometry) (W : ℕ → Type 0) (os : List Object) (p : ℕ) (r : Root Capability) → IsNearlySound g W os → IsRootOf os W p r →
-    IsNearlySound g W (with_root os p r)
+pub nearly_root : (g : Geometry) (W : ℕ → Type 0) (os : List Object) (p : ℕ) (r : Root Capability) → IsNearlySound g W os →
+    IsRootOf os W p r → IsNearlySound g W (with_root os p r)
 unfolding with_root
 nearly_root g W os p r h fits =
-    nearly_content g W os p (content.Root r) h (alike_root (owner_at os p) r (content_at os p) fits.is_process fits.annex) (filled_root os W p r fits)
+    nearly_content g W os p (content.Root r) h (alike_root (owner_at os p) r (content_at os p) fits.is_process fits.annex)
+    (filled_root os W p r fits)
 
 pub root_same : (os : List Object) (p : ℕ) (r : Root Capability) → IsTrue (is_process os p) → root_at (with_root os p r) p ≡ r
 unfolding with_root with_content
@@ -158,8 +168,8 @@ unfolding with_root with_content
 root_other os p q r differ = grind (arith, nat_tests, get_or-set_other)
 
 -- a root of the same state
-pub edited_root : (g : Geometry) (W : ℕ → Type 0) (os : List Object) (p : ℕ) (r : Root Capability) → IsNearlySound g W os → IsRootOf os W p r
-    → r.state ≡ state_at os p → IsEdited g W os (with_root os p r)
+pub edited_root : (g : Geometry) (W : ℕ → Type 0) (os : List Object) (p : ℕ) (r : Root Capability) → IsNearlySound g W os →
+    IsRootOf os W p r → r.state ≡ state_at os p → IsEdited g W os (with_root os p r)
 edited_root g W os p r h fits e = record {
   frame = root_frame os p r fits.is_process fits.annex;
   sound = nearly_root g W os p r h fits;
@@ -206,9 +216,11 @@ filled_consume : (os : List Object) (W : ℕ → Type 0) (p : ℕ) (c : Content 
     IsFilled os (But W p) (map_content (void_where (resumes p)) c)
 filled_consume os W p = filled_map os os W (But W p) (void_where (resumes p)) refl (held_consume os W p) (space_consume p)
 
-pub nearly_consume : (g : Geometry) (W : ℕ → Type 0) (p : ℕ) (os : List Object) → IsNearlySound g W os → IsNearlySound g (But W p) (consume p os)
+pub nearly_consume : (g : Geometry) (W : ℕ → Type 0) (p : ℕ) (os : List Object) → IsNearlySound g W os →
+    IsNearlySound g (But W p) (consume p os)
 nearly_consume g W p os h = nearly_on g (But W p) os (consume p os) (frame_consume p os) h.frame
     (λ n. subst (λ o. IsFilled os (But W p) o.content) (sym (object_consume p os n)) (filled_consume os W p (content_at os n) (h.filled n)))
 
 pub state_consume : (p : ℕ) (os : List Object) (q : ℕ) → state_at (consume p os) q ≡ state_at os q
-state_consume p os q = ap (λ (o : Object). (root_in o.content).state) (object_consume p os q) ∙ (mapped (void_where (resumes p)) (content_at os q)).state
+state_consume p os q = ap (λ (o : Object). (root_in o.content).state) (object_consume p os q)
+    ∙ (mapped (void_where (resumes p)) (content_at os q)).state

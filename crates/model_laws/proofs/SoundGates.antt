@@ -34,7 +34,8 @@ state_same : (os : List Object) (p : ℕ) (s : State) → IsTrue (is_process os 
 unfolding with_state
 state_same os p s is = ap (λ (r : Root Capability). r.state) (root_same os p _ is)
 
-pub after_state : (g : Geometry) (os : List Object) (p : ℕ) (s : State) → IsNow g os → IsTrue (is_running_process os p) → IsAfter g os (with_state os p s)
+pub after_state : (g : Geometry) (os : List Object) (p : ℕ) (s : State) → IsNow g os → IsTrue (is_running_process os p) →
+    IsAfter g os (with_state os p s)
 after_state g os p s h runs =
     let parts = and_parts (is_process os p) (is_running (state_at os p)) runs in
     let kept = λ (x : ℕ) (w : Waits os x). ap is_waiting (state_other os p x s (other_than_running os p x parts.1 w)) ∙ w in
@@ -47,10 +48,12 @@ after_state g os p s h runs =
 after_none : (g : Geometry) (os : List Object) → IsNow g os → IsAfter g os os
 after_none g os h = record { frame = frame_refl os; now = h; waits = λ x w. w }
 
-after_gate_keeps : (g : Geometry) (os : List Object) (i : Invocation) → IsNow g os → IsTrue (is_running_process os i.process) → IsAfter g os (after_gate os i)
+after_gate_keeps : (g : Geometry) (os : List Object) (i : Invocation) → IsNow g os → IsTrue (is_running_process os i.process) →
+    IsAfter g os (after_gate os i)
 after_gate_keeps g os i h runs = after_gate_by (IsAfter g os) os i (after_none g os h) (λ s. after_state g os i.process s h runs)
 
-after_order_keeps : (g : Geometry) (os : List Object) (i : Invocation) → IsNow g os → IsTrue (is_running_process os i.process) → IsAfter g os (after_order os i)
+after_order_keeps : (g : Geometry) (os : List Object) (i : Invocation) → IsNow g os → IsTrue (is_running_process os i.process) →
+    IsAfter g os (after_order os i)
 after_order_keeps g os i h runs = after_order_by (IsAfter g os) os i (after_none g os h) (λ s. after_state g os i.process s h runs)
 
 held_after : (g : Geometry) (os us : List Object) (c : Capability) → IsAfter g os us → IsHeld os (Waits os) c → IsHeld us (Waits us) c
@@ -123,7 +126,8 @@ held_map os W f (r ∷ rs) zero h = h r
 held_map os W f (r ∷ rs) (suc j) h = held_map os W f rs j h
 
 -- what is sent may be held
-pub held_sent : (g : Geometry) (os : List Object) (i : Invocation) (j : ℕ) → IsNow g os → IsHeld os (Waits os) (get_or (sent_by os i) j Void)
+pub held_sent : (g : Geometry) (os : List Object) (i : Invocation) (j : ℕ) → IsNow g os →
+    IsHeld os (Waits os) (get_or (sent_by os i) j Void)
 held_sent g os i j h = held_map os (Waits os) (register_at os i.process) i.sent j (λ r. (h.filled (annex_at os i.process)).slots r)
 
 -- the invoker after the operation through a gate, and what the gate receives, by the operation
@@ -149,22 +153,26 @@ held_by g os p j cs Return is a h = held_after g os (with_state os p Available) 
 held_by g os p j cs Send is a h = h
 
 -- what an invocation through a gate sends is a message
-gate_message : (g : Geometry) (os : List Object) (i : Invocation) (key : ℕ) → IsNow g os → Fits (command.Invoke i) → IsTrue (is_running_process os i.process)
-    → key < 2 ^ 16 → IsMessage (after_gate os i) (Waits (after_gate os i)) (record { words = i.words; key = key; capabilities = sent_to_gate os i })
+gate_message : (g : Geometry) (os : List Object) (i : Invocation) (key : ℕ) → IsNow g os → Fits (command.Invoke i) →
+    IsTrue (is_running_process os i.process) → key < 2 ^ 16 → IsMessage (after_gate os i) (Waits (after_gate os i))
+    (record { words = i.words; key = key; capabilities = sent_to_gate os i })
 gate_message g os i key h fits runs small = record {
   count = fits.2;
   words = all_words i.words fits.3;
   key = small;
-  held = λ j. held_by g os i.process j (sent_by os i) i.operation (and_parts (is_process os i.process) (is_running (state_at os i.process)) runs).0
+  held = λ j. held_by g os i.process j (sent_by os i) i.operation (and_parts (is_process os i.process) (is_running (state_at os i.process))
+      runs).0
       (after_gate_keeps g os i h runs) (held_sent g os i j h);
 }
 
-gate_keeps : (g : Geometry) (os : List Object) (i : Invocation) (q key : ℕ) → IsNow g os → Fits (command.Invoke i) → IsTrue (is_running_process os i.process)
-    → IsTrue (is_process os q) → key < 2 ^ 16 → IsStarted g (Waits (after_gate os i)) (after_gate os i) q (through_gate os i q key).objects
+gate_keeps : (g : Geometry) (os : List Object) (i : Invocation) (q key : ℕ) → IsNow g os → Fits (command.Invoke i) →
+    IsTrue (is_running_process os i.process) → IsTrue (is_process os q) → key < 2 ^ 16 →
+    IsStarted g (Waits (after_gate os i)) (after_gate os i) q (through_gate os i q key).objects
 unfolding through_gate
 gate_keeps g os i q key h fits runs is small =
     let a = after_gate_keeps g os i h runs in
-    deliver_keeps g (Waits (after_gate os i)) (after_gate os i) q (record { words = i.words; key = key; capabilities = sent_to_gate os i }) a.now
+    deliver_keeps g (Waits (after_gate os i)) (after_gate os i) q (record { words = i.words; key = key; capabilities = sent_to_gate os i })
+    a.now
     ((tests_at os (after_gate os i) a.frame q).root ∙ is) (gate_message g os i key h fits runs small)
 
 -- a process that can be started doesn't wait
@@ -172,14 +180,15 @@ startable_idle : (os : List Object) (p q : ℕ) (o : Operation) → IsTrue (is_r
     → (is_available (state_at os q) || (is_return o && (p == q))) ≡ true → Waits (gate_state os p o) q → ⊥
 startable_idle os p q o runs can waits = grind (arith, nat_tests, state_other, state_same)
 
-start_keeps : (g : Geometry) (os : List Object) (i : Invocation) (q key : ℕ) → IsNow g os → Fits (command.Invoke i) → IsTrue (is_running_process os i.process)
-    → IsTrue (is_process os q) → key < 2 ^ 16 → can_start os i q ≡ true → IsNow g (through_gate os i q key).objects
+start_keeps : (g : Geometry) (os : List Object) (i : Invocation) (q key : ℕ) → IsNow g os → Fits (command.Invoke i) →
+    IsTrue (is_running_process os i.process) → IsTrue (is_process os q) → key < 2 ^ 16 → can_start os i q ≡ true →
+    IsNow g (through_gate os i q key).objects
 start_keeps g os i q key h fits runs is small can =
     started_now g (after_gate os i) q (through_gate os i q key).objects (gate_keeps g os i q key h fits runs is small)
     (startable_idle os i.process q i.operation runs can)
 
-resume_keeps : (g : Geometry) (os : List Object) (i : Invocation) (q : ℕ) → IsNow g os → Fits (command.Invoke i) → IsTrue (is_running_process os i.process)
-    → IsTrue (is_process os q) → IsNow g (consume q (through_gate os i q 0).objects)
+resume_keeps : (g : Geometry) (os : List Object) (i : Invocation) (q : ℕ) → IsNow g os → Fits (command.Invoke i) →
+    IsTrue (is_running_process os i.process) → IsTrue (is_process os q) → IsNow g (consume q (through_gate os i q 0).objects)
 resume_keeps g os i q h fits runs is =
     resumed_now g (after_gate os i) q (through_gate os i q 0).objects (gate_keeps g os i q 0 h fits runs is (omega arith))
 
@@ -195,8 +204,8 @@ replied_keeps g i o h = replied_by (IsNow g) o.objects i o h.now (λ runs.
     (deliver_keeps g (Waits o.objects) o.objects i.process (reply_of o) h.now parts.0 (reply_message g o h))
     (running_is_not_waiting (state_at o.objects i.process) parts.1))
 
-pub ordered_keeps : (g : Geometry) (os : List Object) (i : Invocation) → IsNow g os → Fits (command.Invoke i) → IsTrue (is_running_process os i.process)
-    → IsOutcome g (ordered g os i)
+pub ordered_keeps : (g : Geometry) (os : List Object) (i : Invocation) → IsNow g os → Fits (command.Invoke i) →
+    IsTrue (is_running_process os i.process) → IsOutcome g (ordered g os i)
 ordered_keeps g os i h fits runs =
     let a = after_order_keeps g os i h runs in
     order_keeps g (after_order os i) (register_at os i.process i.register) (slice_index i.words 0)
@@ -208,18 +217,19 @@ ordered_keeps g os i h fits runs =
       held = held_after g os (after_order os i) (get_or (sent_by os i) 0 Void) a (held_sent g os i 0 h);
     })
 
-kernel_keeps : (g : Geometry) (os : List Object) (i : Invocation) → IsNow g os → Fits (command.Invoke i) → IsTrue (is_running_process os i.process)
-    → IsNow g (on_kernel_object g os i).objects
+kernel_keeps : (g : Geometry) (os : List Object) (i : Invocation) → IsNow g os → Fits (command.Invoke i) →
+    IsTrue (is_running_process os i.process) → IsNow g (on_kernel_object g os i).objects
 unfolding on_kernel_object
 kernel_keeps g os i h fits runs = replied_keeps g i (ordered g os i) (ordered_keeps g os i h fits runs)
 
 -- invocations
 
-invoked_now : (g : Geometry) (os : List Object) (i : Invocation) (e : Effect) → IsNow g os → Fits (command.Invoke i) → IsTrue (is_running_process os i.process)
-    → invoke g os i ≡ Some e → IsNow g e.objects
+invoked_now : (g : Geometry) (os : List Object) (i : Invocation) (e : Effect) → IsNow g os → Fits (command.Invoke i) →
+    IsTrue (is_running_process os i.process) → invoke g os i ≡ Some e → IsNow g e.objects
 invoked_now g os i e h fits runs =
     invoked_by (IsNow g) os i (IsHeld os (Waits os)) g e ((h.filled (annex_at os i.process)).slots i.register)
-    (λ q key held can. start_keeps g os i q key h fits runs held.names held.well_formed can) (λ q held. resume_keeps g os i q h fits runs held.names.0)
+    (λ q key held can. start_keeps g os i q key h fits runs held.names held.well_formed can)
+    (λ q held. resume_keeps g os i q h fits runs held.names.0)
     (kernel_keeps g os i h fits runs)
 
 pub invocation_keeps : InvocationKeepsSound

@@ -33,16 +33,36 @@ pub three_words : (a b c : ℕ) → a < 2 ^ 64 → b < 2 ^ 64 → c < 2 ^ 64 →
 three_words a b c p q r i = grind (arith, nat_tests)
 
 pub refused_keeps : (g : Geometry) (os : List Object) (why : ResultCode) → IsNow g os → IsOutcome g (refused os why)
-refused_keeps g os why h = record { now = h; count = refl; words = three_words 0 0 0 (omega arith) (omega arith) (omega arith); held = held_void os (Waits os) }
+refused_keeps g os why h = record {
+  now = h;
+  count = refl;
+  words = three_words 0 0 0 (omega arith) (omega arith) (omega arith);
+  held = held_void os (Waits os);
+}
 
 pub replying_keeps : (g : Geometry) (os : List Object) (a b : ℕ) → IsNow g os → a < 2 ^ 64 → b < 2 ^ 64 → IsOutcome g (replying os a b)
-replying_keeps g os a b h p q = record { now = h; count = refl; words = three_words a b 0 p q (omega arith); held = held_void os (Waits os) }
+replying_keeps g os a b h p q = record {
+  now = h;
+  count = refl;
+  words = three_words a b 0 p q (omega arith);
+  held = held_void os (Waits os);
+}
 
 pub given_keeps : (g : Geometry) (os : List Object) (c : Capability) → IsNow g os → IsHeld os (Waits os) c → IsOutcome g (given os c)
-given_keeps g os c h held = record { now = h; count = refl; words = three_words 0 0 0 (omega arith) (omega arith) (omega arith); held = held }
+given_keeps g os c h held = record {
+  now = h;
+  count = refl;
+  words = three_words 0 0 0 (omega arith) (omega arith) (omega arith);
+  held = held;
+}
 
 wrote_keeps : (g : Geometry) (os : List Object) (n : ℕ) → IsNow g os → IsOutcome g (wrote os n)
-wrote_keeps g os n h = record { now = h; count = refl; words = three_words 0 0 0 (omega arith) (omega arith) (omega arith); held = held_void os (Waits os) }
+wrote_keeps g os n h = record {
+  now = h;
+  count = refl;
+  words = three_words 0 0 0 (omega arith) (omega arith) (omega arith);
+  held = held_void os (Waits os);
+}
 
 pub edited_now : (g : Geometry) (os us : List Object) → IsEdited g (Waits os) os us → IsNow g us
 edited_now g os us e = nearly_weaken g (Waits os) (Waits us) us (λ p w. ap is_waiting (e.states p) ∙ w) e.sound
@@ -77,7 +97,8 @@ stored_keeps : (g : Geometry) (os : List Object) (o : ℕ) (a : Access) (slot : 
 stored_keeps g os o a slot c h is held =
     chosen (IsOutcome g) (not (a.0 == 0)) _ _ (λ _. refused_keeps g os _ h) (λ _.
     chosen (IsOutcome g) (nat_lt slot 32) _ _
-    (λ _. wrote_keeps g _ o (edited_now g os _ (edited_slot g (Waits os) os o slot c h held (λ annex. absurd (node_is_no_annex (content_at os o) is annex)))))
+    (λ _. wrote_keeps g _ o (edited_now g os _ (edited_slot g (Waits os) os o slot c h held
+    (λ annex. absurd (node_is_no_annex (content_at os o) is annex)))))
     (λ _. refused_keeps g os _ h))
 
 pub on_node_keeps : (g : Geometry) (os : List Object) (o : ℕ) (a : Access) (requested : NodeOrder) (args : Arguments) → IsNow g os
@@ -98,25 +119,43 @@ root_shape : (c : Content Capability) → IsTrue (is_root c) → HasShape c
 root_shape c is h = grind (arith, nat_tests)
 
 -- the root of a process fits it
-pub root_now : (g : Geometry) (W : ℕ → Type 0) (os : List Object) (p : ℕ) → IsNearlySound g W os → IsTrue (is_process os p) → IsRootOf os W p (root_at os p)
+pub root_now : (g : Geometry) (W : ℕ → Type 0) (os : List Object) (p : ℕ) → IsNearlySound g W os → IsTrue (is_process os p) →
+    IsRootOf os W p (root_at os p)
 root_now g W os p h is =
     let shape = root_shape (content_at os p) is (h.filled p).shape in
-    record { is_process = is; annex = refl; count = shape.0; words = shape.1; key = shape.2; space = (h.filled p).space; is_space = (h.filled p).is_space }
+    record {
+      is_process = is;
+      annex = refl;
+      count = shape.0;
+      words = shape.1;
+      key = shape.2;
+      space = (h.filled p).space;
+      is_space = (h.filled p).is_space;
+    }
 
 -- with another state, where none but waiting processes may be resumed
-pub nearly_state : (g : Geometry) (W : ℕ → Type 0) (os : List Object) (p : ℕ) (s : State) → IsNearlySound g W os → IsTrue (is_process os p) →
-    IsNearlySound g W (with_state os p s)
+pub nearly_state : (g : Geometry) (W : ℕ → Type 0) (os : List Object) (p : ℕ) (s : State) → IsNearlySound g W os →
+    IsTrue (is_process os p) → IsNearlySound g W (with_state os p s)
 unfolding with_state
 nearly_state g W os p s h is =
     let r = root_now g W os p h is in
-    nearly_root g W os p _ h (record { is_process = is; annex = refl; count = r.count; words = r.words; key = r.key; space = r.space; is_space = r.is_space })
+    nearly_root g W os p _ h (record {
+      is_process = is;
+      annex = refl;
+      count = r.count;
+      words = r.words;
+      key = r.key;
+      space = r.space;
+      is_space = r.is_space;
+    })
 
 pub state_other : (os : List Object) (p q : ℕ) (s : State) → q ≢ p → state_at (with_state os p s) q ≡ state_at os q
 unfolding with_state
 state_other os p q s differ = ap (λ (r : Root Capability). r.state) (root_other os p q _ differ)
 
 -- a process that is resumed no more may do anything
-consumed_now : (g : Geometry) (os : List Object) (p : ℕ) (s : State) → IsNow g os → IsTrue (is_process os p) → IsNow g (consume p (with_state os p s))
+consumed_now : (g : Geometry) (os : List Object) (p : ℕ) (s : State) → IsNow g os → IsTrue (is_process os p) →
+    IsNow g (consume p (with_state os p s))
 consumed_now g os p s h is =
     nearly_weaken g (But (Waits os) p) (Waits (consume p (with_state os p s))) (consume p (with_state os p s))
     (λ q w. ap is_waiting (state_consume p (with_state os p s) q ∙ state_other os p q s w.1) ∙ w.0)
@@ -129,7 +168,8 @@ pub on_process_keeps : (g : Geometry) (os : List Object) (p : ℕ) (requested : 
     → IsTrue (is_process os p) → AreArguments os args → IsOutcome g (on_process os p requested args)
 unfolding on_process
 on_process_keeps g os p process.GetRegister args h is fits =
-    chosen (IsOutcome g) (nat_lt args.first 32) _ _ (λ _. given_keeps g os (register_at os p args.first) h ((h.filled (annex_at os p)).slots args.first))
+    chosen (IsOutcome g) (nat_lt args.first 32) _ _ (λ _. given_keeps g os (register_at os p args.first) h
+    ((h.filled (annex_at os p)).slots args.first))
     (λ _. refused_keeps g os _ h)
 on_process_keeps g os p process.PutRegister args h is fits =
     chosen (IsOutcome g) ((args.first == 0) || not (nat_lt args.first 32)) _ _ (λ _. refused_keeps g os _ h)

@@ -36,7 +36,8 @@ pub record IsFilled (os : List Object) (W : ℕ → Type 0) (c : Content Capabil
 pub record IsFramed (g : Geometry) (os : List Object) : Type 0 where
   pub size : length os ≡ object_count g
   pub kinds : (n : ℕ) → IsOfKind g n (content_at os n)
-  pub annexes : (p : ℕ) → IsTrue (is_process os p) → IsTrue (is_annex (content_at os (annex_at os p))) × (owner_at os (annex_at os p) ≡ owner_at os p)
+  pub annexes : (p : ℕ) → IsTrue (is_process os p) → IsTrue (is_annex (content_at os (annex_at os p)))
+      × (owner_at os (annex_at os p) ≡ owner_at os p)
   pub one_root : (p q : ℕ) → IsTrue (is_process os p) → IsTrue (is_process os q) → annex_at os p ≡ annex_at os q → p ≡ q
   pub some_root : (a : ℕ) → IsTrue (is_annex (content_at os a)) → (p : ℕ) × IsTrue (is_process os p) × (annex_at os p ≡ a)
   pub unowned : (n : ℕ) → IsTrue (is_free (content_at os n)) → owner_at os n ≡ 0
@@ -62,13 +63,15 @@ pub held_alike : (os us : List Object) (W V : ℕ → Type 0) (c : Capability) �
     → ((p : ℕ) → named c ≡ Some p → W p → V p) → IsHeld os W c → IsHeld us V c
 held_alike os us W V c s f h = grind (arith, nat_tests)
 
-pub held_on : (os us : List Object) (W V : ℕ → Type 0) (c : Capability) → SameFrame os us → ((p : ℕ) → W p → V p) → IsHeld os W c → IsHeld us V c
+pub held_on : (os us : List Object) (W V : ℕ → Type 0) (c : Capability) → SameFrame os us → ((p : ℕ) → W p → V p) → IsHeld os W c →
+    IsHeld us V c
 held_on os us W V c s f = held_alike os us W V c (λ n is. (s.alike n).role) (λ p is. f p)
 
 pub held_void : (os : List Object) (W : ℕ → Type 0) → IsHeld os W Void
 held_void os W = record { well_formed = tt; names = tt }
 
-pub filled_on : (os us : List Object) (W V : ℕ → Type 0) (c : Content Capability) → SameFrame os us → ((p : ℕ) → W p → V p) → IsFilled os W c → IsFilled us V c
+pub filled_on : (os us : List Object) (W V : ℕ → Type 0) (c : Content Capability) → SameFrame os us → ((p : ℕ) → W p → V p) →
+    IsFilled os W c → IsFilled us V c
 filled_on os us W V c s f h = grind (arith, nat_tests)
 
 pub framed_on : (g : Geometry) (os us : List Object) → SameFrame os us → IsFramed g os → IsFramed g us
@@ -98,7 +101,8 @@ nearly_on g W os us s h filled = record {
   filled = λ n. filled_on os us W W (content_at us n) s (λ p w. w) (filled n);
 }
 
-pub nearly_weaken : (g : Geometry) (W V : ℕ → Type 0) (os : List Object) → ((p : ℕ) → W p → V p) → IsNearlySound g W os → IsNearlySound g V os
+pub nearly_weaken : (g : Geometry) (W V : ℕ → Type 0) (os : List Object) → ((p : ℕ) → W p → V p) → IsNearlySound g W os →
+    IsNearlySound g V os
 nearly_weaken g W V os f h = record {
   frame = h.frame;
   filled = λ n. filled_on os os W V (content_at os n) (frame_refl os) f (h.filled n);
@@ -118,7 +122,8 @@ nearly_from g w h = record {
   };
 }
 
-pub nearly_to : (g : Geometry) (os : List Object) (age : ℕ) → IsNearlySound g (Waits os) os → age ≤ 2 ^ 62 → IsSound g (record { objects = os; age = age })
+pub nearly_to : (g : Geometry) (os : List Object) (age : ℕ) → IsNearlySound g (Waits os) os → age ≤ 2 ^ 62 →
+    IsSound g (record { objects = os; age = age })
 nearly_to g os age h fits = record {
   size = h.frame.size;
   kinds = h.frame.kinds;

@@ -65,7 +65,8 @@ record IsInPlace (g : Geometry) (os : List Object) (H : Capability → Type 0) (
   slots : (i : ℕ) → H (slice_index_or (slots_in o.content) i Void)
   register_0 : IsTrue (is_annex o.content) → slice_index_or (slots_in o.content) 0 Void ≡ Void
   space : (root_in o.content).space ≡ Void
-  annex : IsTrue (is_root o.content) → IsTrue (is_annex (content_at os (root_in o.content).annex)) × (owner_at os (root_in o.content).annex ≡ o.owner)
+  annex : IsTrue (is_root o.content) → IsTrue (is_annex (content_at os (root_in o.content).annex))
+      × (owner_at os (root_in o.content).annex ≡ o.owner)
   next : IsTrue (is_root o.content) → (root_in o.content).annex ≡ n + 1
   some_root : IsTrue (is_annex o.content) → (p : ℕ) × IsTrue (is_process os p) × (annex_at os p ≡ n)
   unowned : IsTrue (is_free o.content) → o.owner ≡ 0
@@ -107,10 +108,12 @@ module _ (g : Geometry) (os : List Object) (H : Capability → Type 0) (bank : I
   free_in_place n = plain_in_place n content.Free refl refl refl refl tt tt (λ i. omega arith) (λ i. void)
 
   node_in_place : (n : ℕ) → n < g.nodes → IsInPlace g os H n (of_prime_bank (content.Node (all_slots Void)))
-  node_in_place n fits = plain_in_place n (content.Node (all_slots Void)) refl refl refl refl fits all_slots_length (λ i. omega arith) (holds_void H void)
+  node_in_place n fits = plain_in_place n (content.Node (all_slots Void)) refl refl refl refl fits all_slots_length (λ i. omega arith)
+      (holds_void H void)
 
   page_in_place : (n : ℕ) → g.nodes ≤ n → n < object_count g → IsInPlace g os H n (of_prime_bank (content.Page zero_words))
-  page_in_place n from fits = plain_in_place n (content.Page zero_words) refl refl refl refl (from, fits) zero_words_length zero_words_fit (λ i. void)
+  page_in_place n from fits = plain_in_place n (content.Page zero_words) refl refl refl refl (from, fits) zero_words_length zero_words_fit
+      (λ i. void)
 
   bank_in_place : 0 < g.nodes → usage os 0 ≤ 1000 → IsInPlace g os H 0 prime_bank
   unfolding chain

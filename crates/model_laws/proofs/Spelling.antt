@@ -58,7 +58,8 @@ decimals_are_words ns all = All-map IsWord decimal ns (All-weaker (λ n. n < 2 ^
 -- a text that is written out
 spaceless_by_test : (text : List ℕ) → list_any (λ b. b == 32) text ≡ false → IsSpaceless text
 spaceless_by_test [] e = All-nil (λ b. (b == 32) ≡ false)
-spaceless_by_test (b ∷ text) e = All-cons (λ b. (b == 32) ≡ false) b text (parts (b == 32) e).0 (spaceless_by_test text (parts (b == 32) e).1)
+spaceless_by_test (b ∷ text) e = All-cons (λ b. (b == 32) ≡ false) b text (parts (b == 32) e).0
+    (spaceless_by_test text (parts (b == 32) e).1)
   where
     parts : (first : Bool) → (first || list_any (λ b. b == 32) text) ≡ false → (first ≡ false) × (list_any (λ b. b == 32) text ≡ false)
     parts first e = grind (arith, nat_tests)

@@ -28,7 +28,8 @@ is_marked [] n h = absurd (omega arith)
 is_marked (x ∷ xs) zero h = refl
 is_marked (x ∷ xs) (suc n) h = is_marked xs n (omega arith)
 
-pub touched_from : (xs : List Bool) (ns : List ℕ) (n : ℕ) → slice_get (touching xs ns) n ≡ Some true → (slice_get xs n ≡ Some true) ⊎ Contains ns n
+pub touched_from : (xs : List Bool) (ns : List ℕ) (n : ℕ) → slice_get (touching xs ns) n ≡ Some true →
+    (slice_get xs n ≡ Some true) ⊎ Contains ns n
 touched_from xs [] n e = inl e
 touched_from xs (m ∷ ns) n e = elim (touched_from (slice_set xs m true) ns n e) [
   | inl now ↦ elim (marked xs m n now) [ inl before ↦ inl before | inr same ↦ inr (0, zero-lt-suc _, same) ]
@@ -40,7 +41,8 @@ stays_touched xs [] n e = e
 stays_touched xs (m ∷ ns) n e = stays_touched (slice_set xs m true) ns n (stays_marked xs m n e)
 
 -- the k-th of the numbers written is touched
-is_touched : (xs : List Bool) (ns : List ℕ) (n k : ℕ) → n < length xs → k < length ns → slice_index_or ns k n ≡ n → slice_get (touching xs ns) n ≡ Some true
+is_touched : (xs : List Bool) (ns : List ℕ) (n k : ℕ) → n < length xs → k < length ns → slice_index_or ns k n ≡ n →
+    slice_get (touching xs ns) n ≡ Some true
 is_touched xs [] n k h l e = absurd (omega arith)
 is_touched xs (m ∷ ns) n zero h l e = grind (arith, nat_tests, stays_touched, is_marked)
 is_touched xs (m ∷ ns) n (suc k) h l e = is_touched (slice_set xs m true) ns n k (rw length-set h) (omega arith) e
@@ -66,8 +68,9 @@ abbrev store_checks : Geometry → Running → Result ℕ MemoryFault → Option
 store_checks g s (Ok page) = unless (not (overfills g s.touched (page ∷ []))) refusal.LogFull None
 store_checks g s (Err why) = None
 
-store_refusal_is : (g : Geometry) (s : Running) (p address value : ℕ) (found : Result ℕ MemoryFault) → IsTrue (is_running_process s.now.objects p)
-    → writable (reached s.now.objects p address) ≡ found → refusal_of g s (command.Store p address value) ≡ store_checks g s found
+store_refusal_is : (g : Geometry) (s : Running) (p address value : ℕ) (found : Result ℕ MemoryFault) →
+    IsTrue (is_running_process s.now.objects p) → writable (reached s.now.objects p address) ≡ found →
+    refusal_of g s (command.Store p address value) ≡ store_checks g s found
 unfolding refusal_of
 store_refusal_is g s p address value found runs is = acts _ _ _ runs ∙ ap (store_checks g s) is
 

@@ -18,7 +18,10 @@ objects_hold = rows_hold objects (All-from_recursion IsRight objects (refl, (ref
 
 pub processes_hold : All IsRow processes
 unfolding machine processes
-processes_hold = rows_hold processes (All-from_recursion IsRight processes (refl, (refl, (refl, (refl, (refl, (refl, (refl, (refl, (refl, tt))))))))))
+processes_hold = rows_hold processes (All-from_recursion IsRight processes (
+  refl,
+  (refl, (refl, (refl, (refl, (refl, (refl, (refl, (refl, tt)))))))),
+))
 
 pub references_hold : All IsRow references
 unfolding machine references
@@ -85,7 +88,8 @@ replying_by_words text c fits e = ap (λ t. command_of (split t)) e ∙ reads_sp
 spells_another : (text : List ℕ) → bytes_eq text (spelling (command_of (split text))) ≡ false → (c : Command) → Fits c → text ≢ spelling c
 spells_another text differs c fits e =
     let spelled : text ≡ spelling (command_of (split text)) = e ∙ ap spelling (sym (replying_by_words text c fits e)) in
-    let same : bytes_eq text (spelling (command_of (split text))) ≡ true = (bytes_eq-Decides text (spelling (command_of (split text)))).1 spelled in
+    let same : bytes_eq text (spelling (command_of (split text))) ≡ true = (bytes_eq-Decides text (spelling (command_of (split text)))).1
+    spelled in
     cc
 
 -- nor does one where that command has no spelling

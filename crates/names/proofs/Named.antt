@@ -7,8 +7,9 @@ use Rattle.names.specs.declared.name.Name.{Name}
 use Rattle.script.proofs.NumberedLines.{lines_all, lines_before, lines_more}
 
 module _ (kinds : List (Bor (List ℕ))) (names : List Name) (text : List ℕ) where
-  pub named_more : (out pushed new before after : List ℕ) (i d : ℕ) → i < length text → out ≡ lines_before (byte_and_name kinds names text) text i →
-      pushed ≡ out ++ get_or text i d ∷ [] → before ≡ take (i + 1) text → after ≡ drop (i + 1) text → new ≡ pushed ++ behind kinds names before after →
+  pub named_more : (out pushed new before after : List ℕ) (i d : ℕ) → i < length text →
+      out ≡ lines_before (byte_and_name kinds names text) text i → pushed ≡ out ++ get_or text i d ∷ [] → before ≡ take (i + 1) text →
+      after ≡ drop (i + 1) text → new ≡ pushed ++ behind kinds names before after →
       new ≡ lines_before (byte_and_name kinds names text) text (i + 1)
   named_more out pushed new before after i d lt so_far push front back more =
       let label = behind kinds names (take (i + 1) text) (drop (i + 1) text) in
@@ -20,6 +21,7 @@ module _ (kinds : List (Bor (List ℕ))) (names : List Name) (text : List ℕ) w
       ∙ ap (λ (l : List ℕ). l ++ get_or text i d ∷ label) so_far
       ∙ sym (lines_more (byte_and_name kinds names text) text i d lt)
 
-  pub named_all : (out : List ℕ) (i : ℕ) → length text ≤ i → out ≡ lines_before (byte_and_name kinds names text) text i → out ≡ named_text kinds names text
+  pub named_all : (out : List ℕ) (i : ℕ) → length text ≤ i → out ≡ lines_before (byte_and_name kinds names text) text i →
+      out ≡ named_text kinds names text
   unfolding named_text
   named_all out i le so_far = so_far ∙ lines_all (byte_and_name kinds names text) text i le

@@ -30,8 +30,10 @@ module _ (p : ℕ → Bool) (text : List ℕ) where
 
 pub one_in_line : (text : List ℕ) (n d : ℕ) → 0 < n → (get_or text (n - 1) d == 10) ≡ false → FollowFrom is_in_line text n →
     FollowFrom is_in_line text (n - 1)
-one_in_line text n d some other follow = let passes : not (get_or text (n - 1) d == 10) ≡ true = ap not other in one_more is_in_line text n d some passes follow
+one_in_line text n d some other follow = let passes : not (get_or text (n - 1) d == 10) ≡ true = ap not other in
+    one_more is_in_line text n d some passes follow
 
 pub no_more_in_line : (text : List ℕ) (n d : ℕ) → 0 < n → (get_or text (n - 1) d == 10) ≡ true → FollowFrom is_in_line text n →
     n ≡ length text - suffix_len is_in_line text
-no_more_in_line text n d some newline follow = let fails : not (get_or text (n - 1) d == 10) ≡ false = ap not newline in no_more is_in_line text n d some fails follow
+no_more_in_line text n d some newline follow = let fails : not (get_or text (n - 1) d == 10) ≡ false = ap not newline in
+    no_more is_in_line text n d some fails follow

@@ -30,8 +30,8 @@ natural d z is above small = (small, (search (arith, integer_is)))
 pub no_integer : (d : Data) → None ≡ as_integer d → (n : ℕ) → n < 2 ^ 63 → d ≢ integer (pos n)
 no_integer d none n small number = search (arith, none-some, number)
 
-pub added : (key : List ℕ) (d : Data) (old new : List Name) (n : Name) → new ≡ old ++ n ∷ [] → string_bytes n.text ≡ key → is_name key ≡ true →
-    n.number < 2 ^ 63 → d ≡ integer (pos n.number) → has n.number old ≡ false → Adds key d old new
+pub added : (key : List ℕ) (d : Data) (old new : List Name) (n : Name) → new ≡ old ++ n ∷ [] → string_bytes n.text ≡ key →
+    is_name key ≡ true → n.number < 2 ^ 63 → d ≡ integer (pos n.number) → has n.number old ≡ false → Adds key d old new
 added key d old new n is text one small number none = (n, is, record { text = text; is_one = one; small = small; number = number }, none)
 
 -- Reading a table, member by member.
@@ -99,16 +99,16 @@ record HasFirst (key : List ℕ) (d : Data) (rest : Members) (ns all : List Name
   named : IsNamed key d first
   rest_named : AreNamed rest more
 
-first_named : (key : List ℕ) (d : Data) (rest whole : Members) (ns : List Name) → IsReadTo (member key d rest) whole ns → (all : List Name) →
-    AreNamed whole all → HasFirst key d rest ns all
+first_named : (key : List ℕ) (d : Data) (rest whole : Members) (ns : List Name) → IsReadTo (member key d rest) whole ns →
+    (all : List Name) → AreNamed whole all → HasFirst key d rest ns all
 first_named key d rest whole ns so_far all are = let back = so_far.backward all are in go back.0 back.1 back.2
   where
     go : (more : List Name) → numbers all ≡ numbers ns ++ numbers more → AreNamed (member key d rest) more → HasFirst key d rest ns all
     go [] same is = absurd is
     go (m ∷ more) same is = record { first = m; more = more; numbers_are = same; named = is.0; rest_named = is.1 }
 
-pub more_read : (key : List ℕ) (d : Data) (rest whole : Members) (old new : List Name) → IsReadTo (member key d rest) whole old → Adds key d old new →
-    IsReadTo rest whole new
+pub more_read : (key : List ℕ) (d : Data) (rest whole : Members) (old new : List Name) → IsReadTo (member key d rest) whole old →
+    Adds key d old new → IsReadTo rest whole new
 more_read key d rest whole old new so_far (n, is, named, none) = subst (IsReadTo rest whole) (sym is) (record {
   forward = λ more are. subst (AreNamed whole) (sym (append_assoc old (n ∷ []) more)) (so_far.forward (n ∷ more) (named, are));
   backward = back;
@@ -119,11 +119,13 @@ more_read key d rest whole old new so_far (n, is, named, none) = subst (IsReadTo
     behind more = ap (λ (l : List ℕ). l ++ numbers more) (map-append (λ (a : Name). a.number) old (n ∷ []))
         ∙ append_assoc (numbers old) (n.number ∷ []) (numbers more)
 
-    back : (all : List Name) → AreNamed whole all → (more : List Name) × (numbers all ≡ numbers (old ++ n ∷ []) ++ numbers more) × AreNamed rest more
+    back : (all : List Name) → AreNamed whole all → (more : List Name) × (numbers all ≡ numbers (old ++ n ∷ []) ++ numbers more)
+        × AreNamed rest more
     back all are =
         let it = first_named key d rest whole old so_far all are in (
           it.more,
-          it.numbers_are ∙ ap (λ (k : ℕ). numbers old ++ k ∷ numbers it.more) (same_number key d it.first n it.named named) ∙ sym (behind it.more),
+          it.numbers_are ∙ ap (λ (k : ℕ). numbers old ++ k ∷ numbers it.more) (same_number key d it.first n it.named named)
+              ∙ sym (behind it.more),
           it.rest_named,
         )
 
@@ -131,8 +133,8 @@ pub all_read : (whole : Members) (ns : List Name) → IsReadTo no_members whole 
 all_read whole ns so_far = (subst (AreNamed whole) (append-nil ns) (so_far.forward [] tt), so_far.once)
 
 -- a member that can't be added has no name
-pub not_read : (key : List ℕ) (d : Data) (rest whole : Members) (old : List Name) (why : NamesFault) → IsReadTo (member key d rest) whole old →
-    CannotAdd key d old why → IsRefused whole why
+pub not_read : (key : List ℕ) (d : Data) (rest whole : Members) (old : List Name) (why : NamesFault) →
+    IsReadTo (member key d rest) whole old → CannotAdd key d old why → IsRefused whole why
 not_read key d rest whole old fault.NoMemory so_far cannot = tt
 not_read key d rest whole old (fault.NotName word) so_far cannot = λ ns are.
     (let it = first_named key d rest whole old so_far ns are.0 in true≢false (sym it.named.is_one ∙ cannot))
@@ -153,8 +155,9 @@ read_more before rest key value whole old new is so_far adds =
     more_read (string_bytes key) (view value) (members_view rest) whole old new
     (subst (λ (l : List (String Global × Value)). IsReadTo (members_view l) whole old) is so_far) adds
 
-pub read_fails : (before rest : List (String Global × Value)) (key : String Global) (value : Value) (whole : Members) (old : List Name) (why : NamesFault) →
-    before ≡ (key, value) ∷ rest → IsReadTo (members_view before) whole old → CannotAdd (string_bytes key) (view value) old why → IsRefused whole why
+pub read_fails : (before rest : List (String Global × Value)) (key : String Global) (value : Value) (whole : Members) (old : List Name)
+    (why : NamesFault) → before ≡ (key, value) ∷ rest → IsReadTo (members_view before) whole old →
+    CannotAdd (string_bytes key) (view value) old why → IsRefused whole why
 read_fails before rest key value whole old why is so_far cannot =
     not_read (string_bytes key) (view value) (members_view rest) whole old why
     (subst (λ (l : List (String Global × Value)). IsReadTo (members_view l) whole old) is so_far) cannot

@@ -10,7 +10,7 @@ use Rattle.names.specs.declared.name.Name.{Name}
 abbrev pub is_name_byte : ℕ → Bool
 is_name_byte b = is_ascii_alphanumeric b || (b == 95) || (b == 45)
 
--- letters, digits, `_` and `-`, of which the first is a letter
+-- letters, digits, `_` and `-`, with a letter first
 abbrev pub is_name : List ℕ → Bool
 is_name [] = false
 is_name (b ∷ bs) = is_ascii_alphabetic b && list_all is_name_byte bs

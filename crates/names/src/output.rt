@@ -8,7 +8,7 @@ use crate::lines::NamedLines;
 use collections::Tally;
 use script::{Output, RunFault};
 
-/// A writer that puts the name of each object after its number, line by line. Without names it passes all on as it is.
+/// A writer that puts the name of each object after its number, line by line. Without names it passes all on unchanged.
 #[derive(Drop)]
 pub struct NamedOutput<W> {
     inner: W,

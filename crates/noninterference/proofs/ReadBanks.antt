@@ -82,7 +82,8 @@ module _ (trusted inside : ℕ → Bool) (os : List Object) (t : IsTree os) (k :
   bank_used c bank = grind (arith, nat_tests)
 
   -- a bank whose chain passes through one inside is inside
-  above_inside : (b : ℕ) → IsTrue (inside b) → (c : ℕ) → IsTrue (is_bank (content_at os c)) → is_member (chain os c) b ≡ true → IsTrue (inside c)
+  above_inside : (b : ℕ) → IsTrue (inside b) → (c : ℕ) → IsTrue (is_bank (content_at os c)) → is_member (chain os c) b ≡ true →
+      IsTrue (inside c)
   above_inside b is =
       tree_induction os t (λ c. is_member (chain os c) b ≡ true → IsTrue (inside c))
       (λ e. ap inside (sym (only_member 0 b (ap (λ xs. is_member xs b) (sym (chain_zero os 0 refl)) ∙ e))) ∙ is)
@@ -92,7 +93,8 @@ module _ (trusted inside : ℕ → Bool) (os : List Object) (t : IsTree os) (k :
         | inr later ↦ owner_inside c (bank_used c bank) (above later)
       ])
 
-  below_parts : (b n : ℕ) → is_under os b (object_at os n) ≡ true → (is_free (content_at os n) ≡ false) × (is_member (chain os (owner_at os n)) b ≡ true)
+  below_parts : (b n : ℕ) → is_under os b (object_at os n) ≡ true → (is_free (content_at os n) ≡ false)
+      × (is_member (chain os (owner_at os n)) b ≡ true)
   below_parts b n below = grind (arith, nat_tests, and_parts)
 
   owner_bank : (n : ℕ) → is_free (content_at os n) ≡ false → IsTrue (is_bank (content_at os (owner_at os n)))
@@ -126,7 +128,8 @@ module _ (trusted inside : ℕ → Bool) (os us : List Object) (t : IsTree os) (
           elim (member_cases c (chain os (owner_at os c)) b (ap (λ xs. is_member xs b) (sym (chain_unfolds os t c bank far)) ∙ e)) [
             | inl same ↦ subst (λ k. is_member (chain us k) b ≡ true) same (chain_itself us v b kind_there)
             | inr later ↦
-                let above_there : is_member (chain us (owner_at us c)) b ≡ true = ap (λ (o : Object). is_member (chain us o.owner) b) here ∙ above later in
+                let above_there : is_member (chain us (owner_at us c)) b ≡ true = ap (λ (o : Object). is_member (chain us o.owner) b) here
+                ∙ above later in
                 ap (λ xs. is_member xs b) (chain_unfolds us v c bank_there far)
                 ∙ or_right (nat_eq b c) (is_member (chain us (owner_at us c)) b) above_there
           ]
@@ -162,7 +165,8 @@ module _ (trusted inside : ℕ → Bool) (os us : List Object) (t : IsTree os) (
   kind_back : IsTrue (is_bank (content_at us b))
   kind_back = kind_there trusted inside os us t v h b is kind
 
-  filters_same : (f k : ℕ → Bool) → ((n : ℕ) → f n ≡ k n) → filter f (range_with_len 0 (length us)) ≡ filter k (range_with_len 0 (length os))
+  filters_same : (f k : ℕ → Bool) → ((n : ℕ) → f n ≡ k n) → filter f (range_with_len 0 (length us))
+      ≡ filter k (range_with_len 0 (length os))
   filters_same f k same = (λ j. filter (λ n. same n j) (range_with_len 0 (length us))) ∙ ap (λ l. filter k (range_with_len 0 l)) h.size
 
   under_same : under us b ≡ under os b
@@ -173,26 +177,31 @@ module _ (trusted inside : ℕ → Bool) (os us : List Object) (t : IsTree os) (
 
   owned_same : owned_by us b ≡ owned_by os b
   unfolding owned_by
-  owned_same = filters_same (λ n. not (is_free (content_at us n)) && (owner_at us n == b)) (λ n. not (is_free (content_at os n)) && (owner_at os n == b)) (λ n.
+  owned_same = filters_same (λ n. not (is_free (content_at us n)) && (owner_at us n == b))
+      (λ n. not (is_free (content_at os n)) && (owner_at os n == b)) (λ n.
       same_tests (not (is_free (content_at os n)) && (owner_at os n == b)) (not (is_free (content_at us n)) && (owner_at us n == b))
       (owned_carried trusted inside os us t v h b is kind n) (owned_carried trusted inside us os v t back b is kind_back n))
 
 -- what a bank owned is transferred to its owner
-module _ (trusted inside : ℕ → Bool) (os : List Object) (t : IsTree os) (k : IsReadClosedBut trusted os inside) (b : ℕ) (is : IsTrue (inside b))
+module _ (trusted inside : ℕ → Bool) (os : List Object) (t : IsTree os) (k : IsReadClosedBut trusted os inside) (b : ℕ)
+    (is : IsTrue (inside b))
     (kind : IsTrue (is_bank (content_at os b))) (on : b ≢ 0) where
   content_kept : (n : ℕ) → content_at (inherited os b) n ≡ content_at os n
   content_kept n = inherited_content os t b kind on n
 
-  heir_cases : (parent : ℕ) (o : Object) (c : ℕ) → (transferred b parent o).owner ≡ c → is_free o.content ≡ false → (o.owner ≡ b) ⊎ (o.owner ≡ c)
+  heir_cases : (parent : ℕ) (o : Object) (c : ℕ) → (transferred b parent o).owner ≡ c → is_free o.content ≡ false →
+      (o.owner ≡ b) ⊎ (o.owner ≡ c)
   heir_cases parent o c own used = grind (arith, nat_tests)
 
   closed_inherited : IsReadClosedBut trusted (inherited os b) inside
   closed_inherited = record {
     annexes = λ p in_p root.
-        subst (λ c. IsTrue (inside (root_in c).annex)) (sym (content_kept p)) (k.annexes p in_p (ap (λ c. is_root c) (sym (content_kept p)) ∙ root));
+        subst (λ c. IsTrue (inside (root_in c).annex)) (sym (content_kept p))
+        (k.annexes p in_p (ap (λ c. is_root c) (sym (content_kept p)) ∙ root));
     owned = λ c n in_c bank used own.
         let used_before = ap (λ c. is_free c) (sym (content_kept n)) ∙ used in
-        elim (heir_cases (owner_at os b) (object_at os n) c (ap (λ (o : Object). o.owner) (sym (inherited_object os t b kind on n)) ∙ own) used_before) [
+        elim (heir_cases (owner_at os b) (object_at os n) c (ap (λ (o : Object). o.owner) (sym (inherited_object os t b kind on n)) ∙ own)
+        used_before) [
           | inl by_bank ↦ k.owned b n is kind used_before by_bank
           | inr by_other ↦ k.owned c n in_c (ap (λ c. is_bank c) (sym (content_kept c)) ∙ bank) used_before by_other
         ];
@@ -217,7 +226,8 @@ module _ (trusted inside : ℕ → Bool) (os us : List Object) (t : IsTree os) (
           right = closed_inherited trusted inside us v h.right b is there on;
         }
 
-  destroyed_link : (g : Geometry) (args : Arguments) → OutcomesLink trusted inside (on_bank g os b bank.Destroy args) (on_bank g us b bank.Destroy args)
+  destroyed_link : (g : Geometry) (args : Arguments) → OutcomesLink trusted inside (on_bank g os b bank.Destroy args)
+      (on_bank g us b bank.Destroy args)
   unfolding on_bank
   destroyed_link g args = both_chosen (OutcomesLink trusted inside) (b == 0) (b == 0) _ _ _ _ refl
       (λ e. refused_link trusted inside os us h code.PrimeBank) (λ e.
@@ -240,7 +250,8 @@ module _ (trusted inside : ℕ → Bool) (os us : List Object) (t : IsTree os) (
   freed_link [] members = refused_link trusted inside os us h code.BadCapability
   freed_link (n ∷ ns) members = both_chosen (OutcomesLink trusted inside) (owner_at os n == b) (owner_at us n == b) _ _ _ _
       (ap (λ (o : Object). o.owner == b) (h.same n (members n ns refl)))
-      (λ e. gone_link trusted inside (rescind (n ∷ ns) os) (rescind (n ∷ ns) us) (link_rescind trusted inside os us (n ∷ ns) h) (n ∷ ns) (n ∷ ns) refl)
+      (λ e. gone_link trusted inside (rescind (n ∷ ns) os) (rescind (n ∷ ns) us) (link_rescind trusted inside os us (n ∷ ns) h) (n ∷ ns)
+      (n ∷ ns) refl)
       (λ e. refused_link trusted inside os us h code.NotFromThisBank)
 
   -- a capability of the set frees the same, the first a member
@@ -255,10 +266,12 @@ module _ (trusted inside : ℕ → Bool) (os us : List Object) (t : IsTree os) (
 
   -- an order of a bank that doesn't look outside
   pub bank_link : (g : Geometry) (requested : BankOrder) (args : Arguments) → depends_on_supply requested ≡ false
-      → NamesBut trusted inside args.capability → OutcomesLink trusted inside (on_bank g os b requested args) (on_bank g us b requested args)
+      → NamesBut trusted inside args.capability → OutcomesLink trusted inside (on_bank g os b requested args)
+      (on_bank g us b requested args)
   unfolding on_bank
   bank_link g bank.Free args looks stays =
-      subst (λ ns. OutcomesLink trusted inside (freed os b (freed_by os args.capability)) (freed us b ns)) (sym (freed_same args.capability stays))
+      subst (λ ns. OutcomesLink trusted inside (freed os b (freed_by os args.capability)) (freed us b ns))
+      (sym (freed_same args.capability stays))
       (freed_link (freed_by os args.capability) (freed_first args.capability stays))
   bank_link g bank.Destroy args looks stays = destroyed_link g args
   bank_link g bank.ReturnToParent args looks stays = returned_link g args

@@ -66,7 +66,8 @@ module _ (trusted inside : ℕ → Bool) where
       → HaveSame inside (with_content os n c) (with_content us n c)
   unfolding with_content
   same_content os us n c h in_n m in_m =
-      subst (λ b. object_at (set us n (record { owner = b; content = c })) m ≡ object_at (set os n (record { owner = owner_at os n; content = c })) m)
+      subst (λ b. object_at (set us n (record { owner = b; content = c })) m
+      ≡ object_at (set os n (record { owner = owner_at os n; content = c })) m)
       (sym (ap (λ (o : Object). o.owner) (h.same n in_n)))
       (at_both os us n m (record { owner = owner_at os n; content = c }) h.size (h.same m in_m))
 
@@ -89,7 +90,8 @@ module _ (trusted inside : ℕ → Bool) where
     link_made : (f : Content Capability → Content Capability) → MayStand trusted inside (content_at os n) (f (content_at os n))
         → Link trusted inside (with_content os n (f (content_at os n))) (with_content us n (f (content_at us n)))
     link_made f may =
-        subst (λ (o : Object). Link trusted inside (with_content os n (f (content_at os n))) (with_content us n (f o.content))) (sym (h.same n in_n))
+        subst (λ (o : Object). Link trusted inside (with_content os n (f (content_at os n))) (with_content us n (f o.content)))
+        (sym (h.same n in_n))
         (link_content os us n (f (content_at os n)) h in_n may)
 
     may_stay : MayStand trusted inside (content_at os n) (content_at os n)
@@ -133,9 +135,11 @@ module _ (trusted inside : ℕ → Bool) where
 
     -- another root made of the one that is there
     pub link_of_root : (f : Root Capability → Root Capability) → IsTrue (inside (f (root_at os n)).annex)
-        → NamesBut trusted inside (f (root_at os n)).space → Link trusted inside (with_root os n (f (root_at os n))) (with_root us n (f (root_at us n)))
+        → NamesBut trusted inside (f (root_at os n)).space → Link trusted inside (with_root os n (f (root_at os n)))
+        (with_root us n (f (root_at us n)))
     link_of_root f in_annex space =
-        subst (λ (o : Object). Link trusted inside (with_root os n (f (root_at os n))) (with_root us n (f (root_in o.content)))) (sym (h.same n in_n))
+        subst (λ (o : Object). Link trusted inside (with_root os n (f (root_at os n))) (with_root us n (f (root_in o.content))))
+        (sym (h.same n in_n))
         (link_root (f (root_at os n)) in_annex space)
 
     pub link_state : (s : State) → IsTrue (is_process os n) → Link trusted inside (with_state os n s) (with_state us n s)
@@ -143,7 +147,8 @@ module _ (trusted inside : ℕ → Bool) where
     link_state s is = link_of_root (λ r. record r { state = s }) (h.left.annexes n in_n is) (h.left.spaces n in_n)
 
   pub link_slots : (os us : List Object) (n i : ℕ) (cs : List Capability) → Link trusted inside os us → IsTrue (inside n)
-      → ((j : ℕ) → NamesBut trusted inside (slice_index_or cs j Void)) → Link trusted inside (with_slots_from os n i cs) (with_slots_from us n i cs)
+      → ((j : ℕ) → NamesBut trusted inside (slice_index_or cs j Void)) → Link trusted inside (with_slots_from os n i cs)
+      (with_slots_from us n i cs)
   link_slots os us n i [] h in_n stays = h
   link_slots os us n i (c ∷ cs) h in_n stays =
       link_slots (with_slot os n i c) (with_slot us n i c) n (i + 1) cs (link_slot os us n h in_n i c (stays 0)) in_n (λ j. stays (suc j))
@@ -187,8 +192,8 @@ module _ (trusted inside : ℕ → Bool) where
           (rw ((without_mapped goes (object_at os p)).space (void_void goes)) (void_stays goes (root_at os p).space (h.spaces p in_p)));
     }
 
-  link_without : (goes : Capability → Bool) (gone : List ℕ) (os us vs ws : List Object) → Link trusted inside os us → IsWithout goes gone os vs
-      → IsWithout goes gone us ws → length vs ≡ length os → length ws ≡ length us → Link trusted inside vs ws
+  link_without : (goes : Capability → Bool) (gone : List ℕ) (os us vs ws : List Object) → Link trusted inside os us →
+      IsWithout goes gone os vs → IsWithout goes gone us ws → length vs ≡ length os → length ws ≡ length us → Link trusted inside vs ws
   link_without goes gone os us vs ws h first second size_first size_second = record {
     size = size_second ∙ h.size ∙ sym size_first;
     same = λ n in_n.
@@ -209,6 +214,8 @@ module _ (trusted inside : ℕ → Bool) where
   unfolding rescind
   size_rescind gone os = length-map (enumerate_from 0 os) _ ∙ length-enumerate_from 0 os
 
-  pub link_rescind : (os us : List Object) (gone : List ℕ) → Link trusted inside os us → Link trusted inside (rescind gone os) (rescind gone us)
-  link_rescind os us gone h = link_without (names_member gone) gone os us (rescind gone os) (rescind gone us) h (at_rescind gone os) (at_rescind gone us)
+  pub link_rescind : (os us : List Object) (gone : List ℕ) → Link trusted inside os us →
+      Link trusted inside (rescind gone os) (rescind gone us)
+  link_rescind os us gone h = link_without (names_member gone) gone os us (rescind gone os) (rescind gone us) h (at_rescind gone os)
+      (at_rescind gone us)
       (size_rescind gone os) (size_rescind gone us)

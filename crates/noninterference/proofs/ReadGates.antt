@@ -38,7 +38,8 @@ module _ (trusted inside : ℕ → Bool) where
       subst (λ a. Link trusted inside (with_slots_from (with_root os p (f (root_at os p))) (annex_at os p) 28 m.capabilities)
       (with_slots_from (with_root us p (f (root_at us p))) a 28 m.capabilities))
       (sym (ap (λ (o : Object). (root_in o.content).annex) (h.same p in_p)))
-      (link_slots trusted inside (with_root os p (f (root_at os p))) (with_root us p (f (root_at us p))) (annex_at os p) 28 m.capabilities first annex sent)
+      (link_slots trusted inside (with_root os p (f (root_at os p))) (with_root us p (f (root_at us p))) (annex_at os p) 28 m.capabilities
+      first annex sent)
 
   -- the reply of linked outcomes
   replies_same : (o p : OrderOutcome) → OutcomesLink trusted inside o p → reply_of p ≡ reply_of o
@@ -66,20 +67,28 @@ module _ (trusted inside : ℕ → Bool) where
       called =
           both_chosen (Link trusted inside) (is_running_process o.objects i.process) (is_running_process p.objects i.process) _ _ _ _
           (ap (λ (x : Object). is_running_object x) (h.objects.same i.process in_p))
-          (λ runs. subst (λ m. Link trusted inside (deliver o.objects i.process (reply_of o)) (deliver p.objects i.process m)) (sym (replies_same o p h))
+          (λ runs. subst (λ m. Link trusted inside (deliver o.objects i.process (reply_of o)) (deliver p.objects i.process m))
+          (sym (replies_same o p h))
           (deliver_link o.objects p.objects h.objects i.process (reply_of o) in_p
           (and_parts (is_process o.objects i.process) (is_running (state_at o.objects i.process)) runs).0 (reply_stays o h.stays)))
           (λ stopped. h.objects)
 
       go : (operation : Operation) → Link trusted inside
-          (elim operation [ Call ↦ if is_running_process o.objects i.process then deliver o.objects i.process (reply_of o) else o.objects | _ ↦ o.objects ])
-          (elim operation [ Call ↦ if is_running_process p.objects i.process then deliver p.objects i.process (reply_of p) else p.objects | _ ↦ p.objects ])
+          (elim operation [
+            | Call ↦ if is_running_process o.objects i.process then deliver o.objects i.process (reply_of o) else o.objects
+            | _ ↦ o.objects
+          ])
+          (elim operation [
+            | Call ↦ if is_running_process p.objects i.process then deliver p.objects i.process (reply_of p) else p.objects
+            | _ ↦ p.objects
+          ])
       go Call = called
       go Return = h.objects
       go Send = h.objects
 
 -- an invoker in linked objects
-module _ (g : Geometry) (trusted inside : ℕ → Bool) (os us : List Object) (h : Link trusted inside os us) (now : IsNow g os) (beside : IsNow g us)
+module _ (g : Geometry) (trusted inside : ℕ → Bool) (os us : List Object) (h : Link trusted inside os us) (now : IsNow g os)
+    (beside : IsNow g us)
     (i : Invocation) (in_p : IsTrue (inside i.process)) (runs : IsTrue (is_running_process os i.process)) where
   root : IsTrue (is_process os i.process)
   root = (and_parts (is_process os i.process) (is_running (state_at os i.process)) runs).0
@@ -150,8 +159,10 @@ module _ (g : Geometry) (trusted inside : ℕ → Bool) (os us : List Object) (h
   unfolding through_gate
   through_link q key in_q is = (
     ap (λ (x : Object). q ∷ (root_in x.content).annex ∷ (elim i.operation [ Send ↦ [] | _ ↦ i.process ∷ [] ])) (h.same q in_q),
-    subst (λ cs. Link trusted inside (deliver (after_gate os i) q (message (sent_to_gate os i))) (deliver (after_gate us i) q (message cs))) (sym gate_same)
-        (deliver_link trusted inside (after_gate os i) (after_gate us i) gate_linked q (message (sent_to_gate os i)) in_q (still_process q is) gate_stays),
+    subst (λ cs. Link trusted inside (deliver (after_gate os i) q (message (sent_to_gate os i))) (deliver (after_gate us i) q (message cs)))
+        (sym gate_same)
+        (deliver_link trusted inside (after_gate os i) (after_gate us i) gate_linked q (message (sent_to_gate os i)) in_q
+        (still_process q is) gate_stays),
   )
     where
       message : List Capability → Message
@@ -173,7 +184,8 @@ module _ (g : Geometry) (trusted inside : ℕ → Bool) (os us : List Object) (h
       ∙ ap (λ cs. order g (after_order us i) c (slice_index i.words 0) (arguments cs)) sent_same))
       (order_link trusted inside (after_order os i) (after_order us i) order_linked g c (slice_index i.words 0) (arguments (sent_by os i))
       after.now (after_now us beside runs_there).now
-      (held_on os (after_order os i) (Waits os) (Waits (after_order os i)) c after.frame after.waits ((now.filled (annex_at os i.process)).slots i.register))
+      (held_on os (after_order os i) (Waits os) (Waits (after_order os i)) c after.frame after.waits
+      ((now.filled (annex_at os i.process)).slots i.register))
       (stays i.register) (map_stays i.sent 0) looks)
     where
       arguments : List Capability → Arguments
@@ -230,5 +242,6 @@ module _ (g : Geometry) (trusted inside : ℕ → Bool) (os us : List Object) (h
       → EffectsLink trusted inside (invoke g os i) (invoke g us i)
   unfolding invoke
   invoked_link looks =
-      subst (λ c. EffectsLink trusted inside (invoked_by os (register_at os i.process i.register)) (invoked_by us c)) (sym (registers i.register))
+      subst (λ c. EffectsLink trusted inside (invoked_by os (register_at os i.process i.register)) (invoked_by us c))
+      (sym (registers i.register))
       (by_link (register_at os i.process i.register) refl (stays i.register) ((now.filled (annex_at os i.process)).slots i.register) looks)

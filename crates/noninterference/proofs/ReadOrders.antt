@@ -16,8 +16,8 @@ use Rattle.noninterference.proofs.ReadEdits.{Link, link_consume, link_of_root, l
 use Rattle.noninterference.proofs.ReadBanks.{OutcomesLink, bank_link, both_chosen, given_link, refused_link, replying_link, wrote_link}
 
 -- what holds of two lists of choices by one option
-found_both : {A X : Type 0} (P : X → X → Type 0) (found : Option A) (x y : X) (f k : A → X) → P x y → ((a : A) → found ≡ Some a → P (f a) (k a))
-    → P (elim found [ None ↦ x | Some a ↦ f a ]) (elim found [ None ↦ y | Some a ↦ k a ])
+found_both : {A X : Type 0} (P : X → X → Type 0) (found : Option A) (x y : X) (f k : A → X) → P x y →
+    ((a : A) → found ≡ Some a → P (f a) (k a)) → P (elim found [ None ↦ x | Some a ↦ f a ]) (elim found [ None ↦ y | Some a ↦ k a ])
 found_both {A} {X} P None x y f k p q = p
 found_both {A} {X} P (Some a) x y f k p q = q a refl
 
@@ -40,11 +40,13 @@ module _ (trusted inside : ℕ → Bool) (os us : List Object) (h : Link trusted
       → Outcomes (on_page os o a requested args) (on_page us o a requested args)
   unfolding on_page
   page_link o a page.Read args in_o = both_chosen Outcomes (nat_lt args.first 512) _ _ _ _ _ refl
-      (λ e. replying_link trusted inside os us h _ 0 _ 0 (ap (λ (x : Object). slice_index (words_in x.content) args.first) (h.same o in_o)) refl)
+      (λ e. replying_link trusted inside os us h _ 0 _ 0 (ap (λ (x : Object). slice_index (words_in x.content) args.first) (h.same o in_o))
+      refl)
       (λ e. refuse code.BadIndex)
   page_link o a page.Write args in_o = both_chosen Outcomes (not (a.0 == 0)) _ _ _ _ _ refl (λ e. refuse code.NoAccess) (λ e.
       both_chosen Outcomes (nat_lt args.first 512) _ _ _ _ _ refl
-      (λ f. wrote_link trusted inside _ _ (link_word trusted inside os us o h in_o args.first args.second) o o refl) (λ f. refuse code.BadIndex))
+      (λ f. wrote_link trusted inside _ _ (link_word trusted inside os us o h in_o args.first args.second) o o refl)
+      (λ f. refuse code.BadIndex))
   page_link o a page.Reduce args in_o = both_chosen Outcomes (reduces args.first) _ _ _ _ _ refl
       (λ e. same (Page o (union a args.first)) (inl in_o)) (λ e. refuse code.BadIndex)
 
@@ -99,7 +101,8 @@ module _ (trusted inside : ℕ → Bool) (os us : List Object) (h : Link trusted
         → Outcomes (wrote (with_slot os (annex_at os p) r c) (annex_at os p)) (wrote (with_slot us (annex_at us p) r c) (annex_at us p))
     put_link r c stays =
         subst (λ a. Outcomes (wrote (with_slot os (annex_at os p) r c) (annex_at os p)) (wrote (with_slot us a r c) a)) (sym annex_same)
-        (wrote_link trusted inside _ _ (link_slot trusted inside os us (annex_at os p) h annex_inside r c stays) (annex_at os p) (annex_at os p) refl)
+        (wrote_link trusted inside _ _ (link_slot trusted inside os us (annex_at os p) h annex_inside r c stays) (annex_at os p)
+        (annex_at os p) refl)
 
     process_link : (requested : ProcessOrder) (args : Arguments) → NamesBut trusted inside args.capability
         → Outcomes (on_process os p requested args) (on_process us p requested args)
@@ -113,16 +116,20 @@ module _ (trusted inside : ℕ → Bool) (os us : List Object) (h : Link trusted
         (ap (λ (o : Object). slice_index (root_in o.content).words args.first) (h.same p in_p)) refl) (λ e. refuse code.BadIndex)
     process_link process.PutWord args sent = both_chosen Outcomes (nat_lt args.first 4) _ _ _ _ _ refl
         (λ e. wrote_link trusted inside _ _
-        (link_of_root trusted inside os us p h in_p (λ r. with_root_word r args.first args.second) annex_inside (h.left.spaces p in_p)) p p refl)
+        (link_of_root trusted inside os us p h in_p (λ r. with_root_word r args.first args.second) annex_inside (h.left.spaces p in_p)) p p
+        refl)
         (λ e. refuse code.BadIndex)
     process_link process.MakeStart args sent = both_chosen Outcomes (nat_lt args.first 65536) _ _ _ _ _ refl
         (λ e. same (Start p args.first) (inl in_p)) (λ e. refuse code.BadIndex)
     process_link process.GetState args sent = replying_link trusted inside os us h _ _ _ _
-        (ap (λ (o : Object). state_number (root_in o.content).state) (h.same p in_p)) (ap (λ (o : Object). (root_in o.content).key) (h.same p in_p))
+        (ap (λ (o : Object). state_number (root_in o.content).state) (h.same p in_p))
+        (ap (λ (o : Object). (root_in o.content).key) (h.same p in_p))
     process_link process.SetState args sent = both_chosen Outcomes (args.first == 0) _ _ _ _ _ refl
         (λ e. wrote_link trusted inside _ _ (set_link Available) p p refl) (λ e.
-        both_chosen Outcomes (args.first == 1) _ _ _ _ _ refl (λ f. wrote_link trusted inside _ _ (set_link Running) p p refl) (λ f. refuse code.BadIndex))
-    process_link process.GetSpace args sent = give _ _ (ap (λ (o : Object). (root_in o.content).space) (h.same p in_p)) (h.left.spaces p in_p)
+        both_chosen Outcomes (args.first == 1) _ _ _ _ _ refl (λ f. wrote_link trusted inside _ _ (set_link Running) p p refl)
+        (λ f. refuse code.BadIndex))
+    process_link process.GetSpace args sent = give _ _ (ap (λ (o : Object). (root_in o.content).space) (h.same p in_p))
+        (h.left.spaces p in_p)
     process_link process.SetSpace args sent = both_chosen Outcomes (is_space args.capability) _ _ _ _ _ refl
         (λ e. wrote_link trusted inside _ _
         (link_of_root trusted inside os us p h in_p (λ r. with_space r args.capability) annex_inside sent) p p refl)
@@ -149,12 +156,15 @@ module _ (trusted inside : ℕ → Bool) (os us : List Object) (h : Link trusted
   order_link g (Node o a) w args now then held stays sent looks = found_both Outcomes (node_order w) _ _ _ _ (refuse code.NoOrder)
       (λ requested e. node_link o a requested args (member o stays) sent)
   order_link g (Space o k a) w args now then held stays sent looks = both_chosen Outcomes (w == 3) _ _ _ _ _ refl
-      (λ e. both_chosen Outcomes (reduces args.first) _ _ _ _ _ refl (λ f. same (Space o k (union a args.first)) stays) (λ f. refuse code.BadIndex)) (λ e. refuse code.NoOrder)
+      (λ e. both_chosen Outcomes (reduces args.first) _ _ _ _ _ refl (λ f. same (Space o k (union a args.first)) stays)
+      (λ f. refuse code.BadIndex)) (λ e. refuse code.NoOrder)
   order_link g (Process p) w args now then held stays sent looks = found_both Outcomes (process_order w) _ _ _ _ (refuse code.NoOrder)
       (λ requested e. process_link p (member p stays) held.names requested args sent)
   order_link g (Bank b) w args now then held stays sent looks = found_both Outcomes (bank_order w) _ _ _ _ (refuse code.NoOrder)
-      (λ requested e. bank_link trusted inside os us (tree_of g os now.frame) (tree_of g us then.frame) h b (member b stays) held.names g requested args
+      (λ requested e. bank_link trusted inside os us (tree_of g os now.frame) (tree_of g us then.frame) h b (member b stays) held.names g
+      requested args
       (bank_looks b w requested e looks) sent)
   order_link g Discrim w args now then held stays sent looks = both_chosen Outcomes (w == 1) _ _ _ _ _ refl
-      (λ e. replying_link trusted inside os us h (tag_of args.capability) (access_bits args.capability) _ _ refl refl) (λ e. refuse code.NoOrder)
+      (λ e. replying_link trusted inside os us h (tag_of args.capability) (access_bits args.capability) _ _ refl refl)
+      (λ e. refuse code.NoOrder)
   order_link g c w args now then held stays sent looks = refuse code.NoOrder

@@ -60,10 +60,12 @@ module _ (trusted inside : ℕ → Bool) (os us : List Object) (h : Link trusted
   along_inside c slots found stays e = cc
 
   -- a test that is passed on the way to what is found
-  if_found : (b : Bool) (r : Result (ℕ × Access) MemoryFault) (why : MemoryFault) (found : ℕ × Access) → (if b then r else Err why) ≡ Ok found → r ≡ Ok found
+  if_found : (b : Bool) (r : Result (ℕ × Access) MemoryFault) (why : MemoryFault) (found : ℕ × Access) →
+      (if b then r else Err why) ≡ Ok found → r ≡ Ok found
   if_found b r why found e = grind (arith, nat_tests)
 
-  walk_inside : (c : Capability) (index : ℕ) (found : ℕ × Access) → NamesBut trusted inside c → walk os c index ≡ Ok found → IsTrue (inside found.0)
+  walk_inside : (c : Capability) (index : ℕ) (found : ℕ × Access) → NamesBut trusted inside c → walk os c index ≡ Ok found →
+      IsTrue (inside found.0)
   unfolding walk
   walk_inside (Page o a) index found stays e = grind (arith, nat_tests, along_inside, if_found)
   walk_inside (Space o k a) index found stays e =
@@ -81,7 +83,8 @@ module _ (trusted inside : ℕ → Bool) (os us : List Object) (h : Link trusted
   writable_inside : (p address page : ℕ) → IsTrue (inside p) → writable (reached os p address) ≡ Ok page → IsTrue (inside page)
   writable_inside p address page in_p e = go (reached os p address) refl e
     where
-      chosen : (found : ℕ × Access) (b : Bool) → reached os p address ≡ Ok found → (if b then Ok found.0 else Err ReadOnly) ≡ Ok page → IsTrue (inside page)
+      chosen : (found : ℕ × Access) (b : Bool) → reached os p address ≡ Ok found → (if b then Ok found.0 else Err ReadOnly) ≡ Ok page →
+          IsTrue (inside page)
       chosen found true at e =
           let same : found.0 ≡ page = cc in
           subst (λ n. IsTrue (inside n)) same (reached_inside p address found in_p at)
@@ -118,7 +121,8 @@ AreSame g trusted inside a b m n = (b ≡ a) × AreLinked g trusted inside m n
 abbrev invoked : Running → Option Effect → Outcome
 invoked s found = elim found [
   | None ↦ outcome answer.Done s
-  | Some effect ↦ outcome answer.Done (writing s effect.objects (s.now.age + 1) effect.written (renewing s.renewed s.now.objects effect.objects))
+  | Some effect ↦ outcome answer.Done (writing s effect.objects (s.now.age + 1) effect.written
+      (renewing s.renewed s.now.objects effect.objects))
 ]
 
 abbrev loaded : Running → ℕ → Result (ℕ × Access) MemoryFault → Outcome
@@ -139,7 +143,8 @@ word_sound : (g : Geometry) (os : List Object) (age n i w : ℕ) → IsSound g (
 word_sound g os age n i w sound fits =
     let us = with_word os n i w in
     let e = edited_word g (Waits os) os n i w (nearly_from g (record { objects = os; age = age }) sound) fits in
-    nearly_to g us age (nearly_weaken g (Waits os) (Waits us) us (λ q waits. subst (λ s. IsTrue (is_waiting s)) (sym (e.states q)) waits) e.sound) sound.age
+    nearly_to g us age (nearly_weaken g (Waits os) (Waits us) us (λ q waits. subst (λ s. IsTrue (is_waiting s)) (sym (e.states q)) waits)
+    e.sound) sound.age
 
 module _ (g : Geometry) (trusted inside : ℕ → Bool) (s q : Running) (h : IsLinked g trusted inside s q) (a b : Answer) (m n : Machine) where
   abbrev Same : Type 0
@@ -173,7 +178,8 @@ module _ (g : Geometry) (trusted inside : ℕ → Bool) (s q : Running) (h : IsL
     effects_alike : (young youth : Bool) (found other : Option Effect) (fits fit : Effect → Bool) → EffectsLink trusted inside found other
         → ((e : Effect) → found ≡ Some e → young ≡ true → IsSound g (record { objects = e.objects; age = s.now.age + 1 }))
         → ((e : Effect) → other ≡ Some e → youth ≡ true → IsSound g (record { objects = e.objects; age = q.now.age + 1 }))
-        → AnswerBy s a m (effect_refusal young found fits) (invoked s found) → AnswerBy q b n (effect_refusal youth other fit) (invoked q other) → Same
+        → AnswerBy s a m (effect_refusal young found fits) (invoked s found) →
+        AnswerBy q b n (effect_refusal youth other fit) (invoked q other) → Same
     effects_alike false youth found other fits fit linked sound sounds first second = absurd (room.0 first.0)
     effects_alike true false found other fits fit linked sound sounds first second = absurd (rooms.0 second.0)
     effects_alike true true None None fits fit linked sound sounds first second = refused_alike refusal.Stalled first second
@@ -191,7 +197,8 @@ module _ (g : Geometry) (trusted inside : ℕ → Bool) (s q : Running) (h : IsL
     stores_alike : (address value : ℕ) (found : Result ℕ MemoryFault) (fits fit : ℕ → Bool) → value < 2 ^ 64
         → ((page : ℕ) → found ≡ Ok page → IsTrue (inside page))
         → AnswerBy s a m (elim found [ Ok page ↦ unless (fits page) refusal.LogFull None | Err why ↦ None ]) (written s address value found)
-        → AnswerBy q b n (elim found [ Ok page ↦ unless (fit page) refusal.LogFull None | Err why ↦ None ]) (written q address value found) → Same
+        → AnswerBy q b n (elim found [ Ok page ↦ unless (fit page) refusal.LogFull None | Err why ↦ None ]) (written q address value found)
+        → Same
     stores_alike address value (Err why) fits fit small within first second =
         carried_alike (written s address value (Err why)) (written q address value (Err why)) first second refl h
     stores_alike address value (Ok page) fits fit small within first second = go (fits page) (fit page) first second
@@ -200,15 +207,17 @@ module _ (g : Geometry) (trusted inside : ℕ → Bool) (s q : Running) (h : IsL
             → AnswerBy q b n (unless y refusal.LogFull None) (written q address value (Ok page)) → Same
         go false y first second = absurd (room.1 first.0)
         go true false first second = absurd (rooms.1 second.0)
-        go true true first second = carried_alike (written s address value (Ok page)) (written q address value (Ok page)) first second refl (record {
-          left = word_sound g s.now.objects s.now.age page (address % 512) value h.left small;
-          right = word_sound g q.now.objects q.now.age page (address % 512) value h.right small;
-          link = link_word trusted inside s.now.objects q.now.objects page h.link (within page refl) (address % 512) value;
-        })
+        go true true first second = carried_alike (written s address value (Ok page)) (written q address value (Ok page)) first second refl
+            (record {
+              left = word_sound g s.now.objects s.now.age page (address % 512) value h.left small;
+              right = word_sound g q.now.objects q.now.age page (address % 512) value h.right small;
+              link = link_word trusted inside s.now.objects q.now.objects page h.link (within page refl) (address % 512) value;
+            })
 
   loads_alike : (address : ℕ) (found : Result (ℕ × Access) MemoryFault) → ((at : ℕ × Access) → found ≡ Ok at → IsTrue (inside at.0))
       → AnswerBy s a m None (loaded s address found) → AnswerBy q b n None (loaded q address found) → Same
-  loads_alike address (Err why) within first second = carried_alike (loaded s address (Err why)) (loaded q address (Err why)) first second refl h
+  loads_alike address (Err why) within first second = carried_alike (loaded s address (Err why)) (loaded q address (Err why)) first second
+      refl h
   loads_alike address (Ok at) within first second = carried_alike (loaded s address (Ok at)) (loaded q address (Ok at)) first second
       (ap (λ (x : Object). answer.Value (slice_index (words_in x.content) (address % 512))) (h.link.same at.0 (within at refl))) h
 
@@ -222,10 +231,13 @@ module _ (g : Geometry) (trusted inside : ℕ → Bool) (s q : Running) (h : IsL
     (room : HasRoomIn a) (rooms : HasRoomIn b) where
   -- the tests of the process are the same
   tests_alike : (p : ℕ) → IsTrue (inside p) → (next : Option Refusal) (o : Outcome)
-      → AnswerBy q b n (unless (is_process q.now.objects p) refusal.NoProcess (unless (is_running_process q.now.objects p) refusal.NotRunning next)) o
-      → AnswerBy q b n (unless (is_process s.now.objects p) refusal.NoProcess (unless (is_running_process s.now.objects p) refusal.NotRunning next)) o
+      → AnswerBy q b n (unless (is_process q.now.objects p) refusal.NoProcess
+      (unless (is_running_process q.now.objects p) refusal.NotRunning next)) o
+      → AnswerBy q b n (unless (is_process s.now.objects p) refusal.NoProcess
+      (unless (is_running_process s.now.objects p) refusal.NotRunning next)) o
   tests_alike p in_p next o second =
-      subst (λ (x : Object). AnswerBy q b n (unless (is_root x.content) refusal.NoProcess (unless (is_running_object x) refusal.NotRunning next)) o)
+      subst (λ (x : Object). AnswerBy q b n (unless (is_root x.content) refusal.NoProcess
+      (unless (is_running_object x) refusal.NotRunning next)) o)
       (h.link.same p in_p) second
 
   invocations_alike : (i : Invocation) → IsTrue (inside i.process) → Fits (command.Invoke i)
@@ -236,10 +248,13 @@ module _ (g : Geometry) (trusted inside : ℕ → Bool) (s q : Running) (h : IsL
       running_alike g trusted inside s q h a b m n (is_process s.now.objects i.process) (is_running_process s.now.objects i.process) _ _
       (invoked s (invoke g s.now.objects i)) (invoked q (invoke g q.now.objects i))
       (λ runs one other.
-      let runs_there : IsTrue (is_running_process q.now.objects i.process) = ap (λ (x : Object). is_running_object x) (h.link.same i.process in_p) ∙ runs in
-      effects_alike g trusted inside s q h a b m n room rooms (nat_lt s.now.age (2 ^ 62)) (nat_lt q.now.age (2 ^ 62)) (invoke g s.now.objects i)
+      let runs_there : IsTrue (is_running_process q.now.objects i.process) =
+      ap (λ (x : Object). is_running_object x) (h.link.same i.process in_p) ∙ runs in
+      effects_alike g trusted inside s q h a b m n room rooms (nat_lt s.now.age (2 ^ 62)) (nat_lt q.now.age (2 ^ 62))
+      (invoke g s.now.objects i)
       (invoke g q.now.objects i) (λ e. not (overfills g s.touched e.written)) (λ e. not (overfills g q.touched e.written))
-      (invoked_link g trusted inside s.now.objects q.now.objects h.link (nearly_from g s.now h.left) (nearly_from g q.now h.right) i in_p runs looks)
+      (invoked_link g trusted inside s.now.objects q.now.objects h.link (nearly_from g s.now h.left) (nearly_from g q.now h.right) i in_p
+      runs looks)
       (λ e done young. invocation_keeps g s.now i e h.left fits runs (ltb-true s.now.age (2 ^ 62) young) done)
       (λ e done young. invocation_keeps g q.now i e h.right fits runs_there (ltb-true q.now.age (2 ^ 62) young) done)
       one other)
@@ -256,7 +271,8 @@ module _ (g : Geometry) (trusted inside : ℕ → Bool) (s q : Running) (h : IsL
       loads_alike g trusted inside s q h a b m n address found
       (λ at e. reached_inside trusted inside s.now.objects q.now.objects h.link p address at in_p e) one other)
       first (tests_alike p in_p None (loaded q address found)
-      (subst (λ r. AnswerBy q b n (unless (is_process q.now.objects p) refusal.NoProcess (unless (is_running_process q.now.objects p) refusal.NotRunning None))
+      (subst (λ r. AnswerBy q b n (unless (is_process q.now.objects p) refusal.NoProcess
+      (unless (is_running_process q.now.objects p) refusal.NotRunning None))
       (loaded q address r)) (reached_same trusted inside s.now.objects q.now.objects h.link p address in_p) second))
 
   -- why a store is refused, once its process runs
@@ -276,7 +292,8 @@ module _ (g : Geometry) (trusted inside : ℕ → Bool) (s q : Running) (h : IsL
       (λ page e. writable_inside trusted inside s.now.objects q.now.objects h.link p address page in_p e) one other)
       first (tests_alike p in_p (store_refusal q found) (written q address value found)
       (subst (λ r. AnswerBy q b n
-      (unless (is_process q.now.objects p) refusal.NoProcess (unless (is_running_process q.now.objects p) refusal.NotRunning (store_refusal q (writable r))))
+      (unless (is_process q.now.objects p) refusal.NoProcess (unless (is_running_process q.now.objects p) refusal.NotRunning
+      (store_refusal q (writable r))))
       (written q address value (writable r))) (reached_same trusted inside s.now.objects q.now.objects h.link p address in_p) second))
 
 -- a command that a member's line says
@@ -284,8 +301,9 @@ abbrev LooksIn : (ℕ → Bool) → Running → Command → Type 0
 LooksIn inside s (command.Invoke i) = looks_outside inside (register_at s.now.objects i.process i.register) (slice_index i.words 0) ≡ false
 LooksIn inside s _ = Unit {0}
 
-answers_alike : (g : Geometry) (trusted inside : ℕ → Bool) (s q : Running) → IsLinked g trusted inside s q → (c : Command) (a b : Answer) (m n : Machine)
-    → HasRoomIn a → HasRoomIn b → IsBy inside c → Fits c → LooksIn inside s c → Answers g s c a m → Answers g q c b n → AreSame g trusted inside a b m n
+answers_alike : (g : Geometry) (trusted inside : ℕ → Bool) (s q : Running) → IsLinked g trusted inside s q →
+    (c : Command) (a b : Answer) (m n : Machine) → HasRoomIn a → HasRoomIn b → IsBy inside c → Fits c → LooksIn inside s c →
+    Answers g s c a m → Answers g q c b n → AreSame g trusted inside a b m n
 answers_alike g trusted inside s q h (command.Invoke i) a b m n room rooms by fits looks first second =
     invocations_alike g trusted inside s q h a b m n room rooms i by fits looks first second
 answers_alike g trusted inside s q h (command.Load p address) a b m n room rooms by fits looks first second =
@@ -339,8 +357,8 @@ each_by : (inside : ℕ → Bool) (ts : List Turn) → AreBy inside ts → EachB
 each_by inside [] by = tt
 each_by inside (t ∷ ts) by = (All-head (IsTurnBy inside) t ts by, each_by inside ts (All-tail (IsTurnBy inside) t ts by))
 
-down_run : (g : Geometry) (inside : ℕ → Bool) (m : Machine) (turns : List Turn) (last : Machine) → IsDown m → EachBy inside turns → IsRun g m turns last
-    → IsDown last
+down_run : (g : Geometry) (inside : ℕ → Bool) (m : Machine) (turns : List Turn) (last : Machine) → IsDown m → EachBy inside turns →
+    IsRun g m turns last → IsDown last
 down_run g inside m [] last down by run = subst IsDown (sym run) down
 down_run g inside m (t ∷ ts) last down by run =
     let turn = run.1 in
@@ -385,7 +403,8 @@ fits_line text (line.Command c) says = says.0
 fits_line text line.Skip says = tt
 fits_line text line.Bad says = tt
 
-looks_line : (inside : ℕ → Bool) (t : Turn) (s : Running) (l : Line) → LooksInside inside t → t.before ≡ Up s → Says t.line l → LooksLine inside s l
+looks_line : (inside : ℕ → Bool) (t : Turn) (s : Running) (l : Line) → LooksInside inside t → t.before ≡ Up s → Says t.line l →
+    LooksLine inside s l
 looks_line inside t s (line.Command (command.Invoke i)) looks before says = looks s i before says
 looks_line inside t s (line.Command c) looks before says = tt
 looks_line inside t s line.Skip looks before says = tt
@@ -411,14 +430,16 @@ module _ (g : Geometry) (trusted inside : ℕ → Bool) where
         | inl one ↦ elim (step_cases g inside q c second.0 n by second.2) [
           | inr down ↦ absurd (above down)
           | inl other ↦
-              let same = answers_alike g trusted inside s q h c first.0 second.0 m n (room_in x first.0 room first.1) (room_in y second.0 rooms second.1)
+              let same = answers_alike g trusted inside s q h c first.0 second.0 m n (room_in x first.0 room first.1)
+              (room_in y second.0 rooms second.1)
               by fits looks one other in
               (second.1 ∙ ap (λ k. Reported k) same.0 ∙ sym first.1, same.1)
         ]
       ]
 
-  turn_alike : (x y : Turn) (s q : Running) → IsLinked g trusted inside s q → x.before ≡ Up s → y.before ≡ Up q → y.line ≡ x.line → IsTurn g x
-      → IsTurn g y → IsTurnBy inside x → LooksInside inside x → HasRoom x → HasRoom y → (IsDown x.after → ⊥) → (IsDown y.after → ⊥)
+  turn_alike : (x y : Turn) (s q : Running) → IsLinked g trusted inside s q → x.before ≡ Up s → y.before ≡ Up q → y.line ≡ x.line →
+      IsTurn g x → IsTurn g y → IsTurnBy inside x → LooksInside inside x → HasRoom x → HasRoom y → (IsDown x.after → ⊥) →
+      (IsDown y.after → ⊥)
       → (y.reply ≡ x.reply) × AreLinked g trusted inside x.after y.after
   turn_alike x y s q h at there same first second by looks room rooms up above =
       let l = first.0 in
@@ -433,7 +454,8 @@ module _ (g : Geometry) (trusted inside : ℕ → Bool) where
   objects_in (Down saved) = []
 
   runs_alike : (t r : Running) (turns others : List Turn) (s q : Running) → IsLinked g trusted inside s q → IsRun g (Up s) turns (Up t)
-      → IsRun g (Up q) others (Up r) → lines others ≡ lines turns → EachBy inside turns → EachBy inside others → All (LooksInside inside) turns
+      → IsRun g (Up q) others (Up r) → lines others ≡ lines turns → EachBy inside turns → EachBy inside others →
+      All (LooksInside inside) turns
       → All HasRoom turns → All HasRoom others → (replies others ≡ replies turns) × HaveSame inside t.now.objects r.now.objects
   runs_alike t r [] [] s q h run other e by too looks room rooms = (
     refl,
@@ -452,7 +474,8 @@ module _ (g : Geometry) (trusted inside : ℕ → Bool) where
 
 -- the laws
 
-linked : (g : Geometry) (trusted inside : ℕ → Bool) (w v : World) → AreSameInside g trusted inside w v → Link trusted inside w.objects v.objects
+linked : (g : Geometry) (trusted inside : ℕ → Bool) (w v : World) → AreSameInside g trusted inside w v →
+    Link trusted inside w.objects v.objects
 linked g trusted inside w v h = record {
   size = h.sound.1.size ∙ sym h.sound.0.size;
   same = h.same;

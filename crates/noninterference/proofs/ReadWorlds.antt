@@ -46,19 +46,27 @@ owned_e0 (suc (suc (suc (suc (suc (suc (suc (suc (suc (suc (suc (suc (suc (suc (
 owned_e0 (suc (suc (suc (suc (suc (suc (suc (suc (suc (suc (suc (suc (suc (suc (suc (suc zero)))))))))))))))) used own = cc
 owned_e0 (suc (suc (suc (suc (suc (suc (suc (suc (suc (suc (suc (suc (suc (suc (suc (suc (suc zero))))))))))))))))) used own = cc
 owned_e0 (suc (suc (suc (suc (suc (suc (suc (suc (suc (suc (suc (suc (suc (suc (suc (suc (suc (suc zero)))))))))))))))))) used own = cc
-owned_e0 (suc (suc (suc (suc (suc (suc (suc (suc (suc (suc (suc (suc (suc (suc (suc (suc (suc (suc (suc zero))))))))))))))))))) used own = cc
-owned_e0 (suc (suc (suc (suc (suc (suc (suc (suc (suc (suc (suc (suc (suc (suc (suc (suc (suc (suc (suc (suc zero)))))))))))))))))))) used own = cc
-owned_e0 (suc (suc (suc (suc (suc (suc (suc (suc (suc (suc (suc (suc (suc (suc (suc (suc (suc (suc (suc (suc (suc zero))))))))))))))))))))) used own = cc
-owned_e0 (suc (suc (suc (suc (suc (suc (suc (suc (suc (suc (suc (suc (suc (suc (suc (suc (suc (suc (suc (suc (suc (suc zero)))))))))))))))))))))) used own = cc
-owned_e0 (suc (suc (suc (suc (suc (suc (suc (suc (suc (suc (suc (suc (suc (suc (suc (suc (suc (suc (suc (suc (suc (suc (suc zero))))))))))))))))))))))) used own = cc
-owned_e0 (suc (suc (suc (suc (suc (suc (suc (suc (suc (suc (suc (suc (suc (suc (suc (suc (suc (suc (suc (suc (suc (suc (suc (suc n)))))))))))))))))))))))) used own = cc
+owned_e0 (suc (suc (suc (suc (suc (suc (suc (suc (suc (suc (suc (suc (suc (suc (suc (suc (suc (suc (suc zero))))))))))))))))))) used own =
+    cc
+owned_e0 (suc (suc (suc (suc (suc (suc (suc (suc (suc (suc (suc (suc (suc (suc (suc (suc (suc (suc (suc (suc zero)))))))))))))))))))) used
+    own = cc
+owned_e0 (suc (suc (suc (suc (suc (suc (suc (suc (suc (suc (suc (suc (suc (suc (suc (suc (suc (suc (suc (suc (suc zero)))))))))))))))))))))
+    used own = cc
+owned_e0 (suc (suc (suc (suc (suc (suc (suc (suc (suc (suc (suc (suc (suc (suc
+    (suc (suc (suc (suc (suc (suc (suc (suc zero)))))))))))))))))))))) used own = cc
+owned_e0 (suc (suc (suc (suc (suc (suc (suc (suc (suc (suc (suc (suc (suc (suc
+    (suc (suc (suc (suc (suc (suc (suc (suc (suc zero))))))))))))))))))))))) used own = cc
+owned_e0 (suc (suc (suc (suc (suc (suc (suc (suc (suc (suc (suc (suc (suc (suc
+    (suc (suc (suc (suc (suc (suc (suc (suc (suc (suc n)))))))))))))))))))))))) used own = cc
 
 closed_e0 : IsReadClosedBut server e0.objects reader
 unfolding e0 all_slots
 closed_e0 = record {
-  annexes = members (λ p. IsTrue (is_process e0.objects p) → IsTrue (reader (annex_at e0.objects p))) (λ is. refl) (λ is. cc) (λ is. cc) (λ is. cc);
+  annexes = members (λ p. IsTrue (is_process e0.objects p) → IsTrue (reader (annex_at e0.objects p))) (λ is. refl) (λ is. cc) (λ is. cc)
+      (λ is. cc);
   owned = λ b n inside. members
-      (λ b. (n : ℕ) → IsTrue (is_bank (content_at e0.objects b)) → is_free (content_at e0.objects n) ≡ false → owner_at e0.objects n ≡ b → IsTrue (reader n))
+      (λ b. (n : ℕ) → IsTrue (is_bank (content_at e0.objects b)) → is_free (content_at e0.objects n) ≡ false → owner_at e0.objects n ≡ b →
+      IsTrue (reader n))
       (λ n bank held owner. cc) (λ n bank held owner. cc) (λ n bank held owner. owned_e0 n held owner) (λ n bank held owner. cc) b inside n;
   slots = λ n i inside. members (λ n. (i : ℕ) → Stays (slot_at e0.objects n i)) (λ i. inl tt) held (λ i. inl tt)
       (λ i. holds_void Stays (inl tt) i) n inside i;
@@ -86,19 +94,27 @@ owned_e1 (suc (suc (suc (suc (suc (suc (suc (suc (suc (suc (suc (suc (suc (suc (
 owned_e1 (suc (suc (suc (suc (suc (suc (suc (suc (suc (suc (suc (suc (suc (suc (suc (suc zero)))))))))))))))) used own = cc
 owned_e1 (suc (suc (suc (suc (suc (suc (suc (suc (suc (suc (suc (suc (suc (suc (suc (suc (suc zero))))))))))))))))) used own = cc
 owned_e1 (suc (suc (suc (suc (suc (suc (suc (suc (suc (suc (suc (suc (suc (suc (suc (suc (suc (suc zero)))))))))))))))))) used own = cc
-owned_e1 (suc (suc (suc (suc (suc (suc (suc (suc (suc (suc (suc (suc (suc (suc (suc (suc (suc (suc (suc zero))))))))))))))))))) used own = cc
-owned_e1 (suc (suc (suc (suc (suc (suc (suc (suc (suc (suc (suc (suc (suc (suc (suc (suc (suc (suc (suc (suc zero)))))))))))))))))))) used own = cc
-owned_e1 (suc (suc (suc (suc (suc (suc (suc (suc (suc (suc (suc (suc (suc (suc (suc (suc (suc (suc (suc (suc (suc zero))))))))))))))))))))) used own = cc
-owned_e1 (suc (suc (suc (suc (suc (suc (suc (suc (suc (suc (suc (suc (suc (suc (suc (suc (suc (suc (suc (suc (suc (suc zero)))))))))))))))))))))) used own = cc
-owned_e1 (suc (suc (suc (suc (suc (suc (suc (suc (suc (suc (suc (suc (suc (suc (suc (suc (suc (suc (suc (suc (suc (suc (suc zero))))))))))))))))))))))) used own = cc
-owned_e1 (suc (suc (suc (suc (suc (suc (suc (suc (suc (suc (suc (suc (suc (suc (suc (suc (suc (suc (suc (suc (suc (suc (suc (suc n)))))))))))))))))))))))) used own = cc
+owned_e1 (suc (suc (suc (suc (suc (suc (suc (suc (suc (suc (suc (suc (suc (suc (suc (suc (suc (suc (suc zero))))))))))))))))))) used own =
+    cc
+owned_e1 (suc (suc (suc (suc (suc (suc (suc (suc (suc (suc (suc (suc (suc (suc (suc (suc (suc (suc (suc (suc zero)))))))))))))))))))) used
+    own = cc
+owned_e1 (suc (suc (suc (suc (suc (suc (suc (suc (suc (suc (suc (suc (suc (suc (suc (suc (suc (suc (suc (suc (suc zero)))))))))))))))))))))
+    used own = cc
+owned_e1 (suc (suc (suc (suc (suc (suc (suc (suc (suc (suc (suc (suc (suc (suc
+    (suc (suc (suc (suc (suc (suc (suc (suc zero)))))))))))))))))))))) used own = cc
+owned_e1 (suc (suc (suc (suc (suc (suc (suc (suc (suc (suc (suc (suc (suc (suc
+    (suc (suc (suc (suc (suc (suc (suc (suc (suc zero))))))))))))))))))))))) used own = cc
+owned_e1 (suc (suc (suc (suc (suc (suc (suc (suc (suc (suc (suc (suc (suc (suc
+    (suc (suc (suc (suc (suc (suc (suc (suc (suc (suc n)))))))))))))))))))))))) used own = cc
 
 closed_e1 : IsReadClosedBut server e1.objects reader
 unfolding e1 all_slots
 closed_e1 = record {
-  annexes = members (λ p. IsTrue (is_process e1.objects p) → IsTrue (reader (annex_at e1.objects p))) (λ is. refl) (λ is. cc) (λ is. cc) (λ is. cc);
+  annexes = members (λ p. IsTrue (is_process e1.objects p) → IsTrue (reader (annex_at e1.objects p))) (λ is. refl) (λ is. cc) (λ is. cc)
+      (λ is. cc);
   owned = λ b n inside. members
-      (λ b. (n : ℕ) → IsTrue (is_bank (content_at e1.objects b)) → is_free (content_at e1.objects n) ≡ false → owner_at e1.objects n ≡ b → IsTrue (reader n))
+      (λ b. (n : ℕ) → IsTrue (is_bank (content_at e1.objects b)) → is_free (content_at e1.objects n) ≡ false → owner_at e1.objects n ≡ b →
+      IsTrue (reader n))
       (λ n bank held owner. cc) (λ n bank held owner. cc) (λ n bank held owner. owned_e1 n held owner) (λ n bank held owner. cc) b inside n;
   slots = λ n i inside. members (λ n. (i : ℕ) → Stays (slot_at e1.objects n i)) (λ i. inl tt) held (λ i. inl tt)
       (λ i. holds_void Stays (inl tt) i) n inside i;

@@ -44,7 +44,8 @@ module _ {s : Stored} {m : Memory} {es : List (Option Entry)} {n : ℕ} (change 
   unfolding frozen_states_in
   frozen_state_stay here = search (arith, maps_same, of_each)
 
-  pub cached_cache : {all : Bool} → (all ≡ true → IsSome (entry_at es n)) → {left count : ℕ} → IsCache all s m left count → IsCache all s cached left count
+  pub cached_cache : {all : Bool} → (all ≡ true → IsSome (entry_at es n)) → {left count : ℕ} → IsCache all s m left count →
+      IsCache all s cached left count
   cached_cache {all} some {left} is =
       let whole : all ≡ true → (k : ℕ) → k < length m.headers → IsSome (entry_at es k) =
       λ is_all. of_each n (λ within. some is_all) (λ k other. rw (change.entries k other) (is.whole is_all k)) in
@@ -63,11 +64,12 @@ pub nothing_frozen_state : (e : Entry) (pending touched : Bool) → frozen_state
 nothing_frozen_state e pending touched is = search arith
 
 -- only a pending number's body is in the staging buffer
-pub no_staging : {s : Stored} {m : Memory} {all : Bool} {left count : ℕ} → IsCache all s m left count → (n : ℕ) (c : Content Cap) → mark_at m.pending n ≡ false →
-    in_staging m.staging n c ≡ c
+pub no_staging : {s : Stored} {m : Memory} {all : Bool} {left count : ℕ} → IsCache all s m left count → (n : ℕ) (c : Content Cap) →
+    mark_at m.pending n ≡ false → in_staging m.staging n c ≡ c
 no_staging {s} {m} {all} {left} {count} is n c not_pending = search (arith, ne_eqb)
 
-module _ {s : Stored} {m : Memory} {all : Bool} {left count : ℕ} (is : IsCache all s m left count) (n : ℕ) (within : n < length m.headers) (e : Entry)
+module _ {s : Stored} {m : Memory} {all : Bool} {left count : ℕ} (is : IsCache all s m left count) (n : ℕ) (within : n < length m.headers)
+    (e : Entry)
     (at : entry_at m.entries n ≡ Some e)
     (clean : mark_at m.dirty n ≡ false) (frozen_state : frozen_state_in_memory m n ≡ Nothing)
     (masks : masked (header_at m.headers n).role (content_at s m n) ≡ content_at s m n) where
@@ -96,7 +98,8 @@ module _ {s : Stored} {m : Memory} {all : Bool} {left count : ℕ} (is : IsCache
   pub frozen_state_dropped : frozen_state_in_memory (with_objects m m.headers dropped) n ≡ frozen_state_in_memory m n
   frozen_state_dropped = ap (λ o. frozen_state_of o (mark_at m.pending n) (mark_at m.touched n)) none_now ∙ sym frozen_state
 
-module _ {D : Type 0} (disk : D → Disk) (d : DurableState D) {m : Memory} (left : ℕ) (order : List ℕ) (most_entries : ℕ) {es : List (Option Entry)} {n : ℕ}
+module _ {D : Type 0} (disk : D → Disk) (d : DurableState D) {m : Memory} (left : ℕ) (order : List ℕ) (most_entries : ℕ)
+    {es : List (Option Entry)} {n : ℕ}
     (change : Recaches (stored_of disk d) m es n) where
   -- all that is seen but for which numbers have entries and what entries have of the frozen frames
   pub seen_cached : {rs : List Bool} {x : List FrozenState} → cached_in es ≡ rs → frozen_states_in (with_objects m m.headers es) ≡ x →
@@ -106,7 +109,8 @@ module _ {D : Type 0} (disk : D → Disk) (d : DurableState D) {m : Memory} (lef
     contents = contents_alike (cached_alike change) k;
     cached = cached k;
     frozen_state = frozen_state k;
-    frozen = option_map (λ f. record { frames = frozen_alike (cached_alike change) k; size = f.size; left = left }) (stored_of disk d).frozen;
+    frozen = option_map (λ f. record { frames = frozen_alike (cached_alike change) k; size = f.size; left = left })
+        (stored_of disk d).frozen;
   }
 
 pub cached_set : (es : List (Option Entry)) (n : ℕ) (o : Option Entry) → cached_in (set es n o) ≡ set (cached_in es) n (is_some o)
@@ -118,10 +122,13 @@ unfolding frozen_states_in
 frozen_state_entry m n within = get_or-map-range_with_len (frozen_state_in_memory m) 0 (length m.headers) n n Nothing within (omega arith)
 
 -- the same by what is seen
-module _ {D : Type 0} (disk : D → Disk) {d : DurableState D} {m : Memory} {all : Bool} {left count : ℕ} {order : List ℕ} {most_entries : ℕ} {s : StoreState D}
-    (view : cache_of disk d m left order most_entries ≡ s) (is : IsCache all (stored_of disk d) m left count) {n : ℕ} (fetched : IsFetchedIn s n)
+module _ {D : Type 0} (disk : D → Disk) {d : DurableState D} {m : Memory} {all : Bool} {left count : ℕ} {order : List ℕ} {most_entries : ℕ}
+    {s : StoreState D}
+    (view : cache_of disk d m left order most_entries ≡ s) (is : IsCache all (stored_of disk d) m left count) {n : ℕ}
+    (fetched : IsFetchedIn s n)
     (clean : mark_at s.dirty n ≡ false)
-    (frozen_state : frozen_state_at s.frozen_state n ≡ Nothing) (masks : masked (header_at s.headers n).role (held_at s.contents n) ≡ held_at s.contents n)
+    (frozen_state : frozen_state_at s.frozen_state n ≡ Nothing) (masks : masked (header_at s.headers n).role (held_at s.contents n)
+    ≡ held_at s.contents n)
     (some : all ≡ false) where
   in_table : n < length m.headers
   in_table = omega (arith, fetched.header, ap (λ t. length t.headers) view)
@@ -130,7 +137,8 @@ module _ {D : Type 0} (disk : D → Disk) {d : DurableState D} {m : Memory} {all
   holds = sym (content_in (stored_of disk d) m n in_table) ∙ ap (λ t. held_at t.contents n) view
 
   masks_here : masked (header_at m.headers n).role (content_at (stored_of disk d) m n) ≡ content_at (stored_of disk d) m n
-  masks_here = ap (masked (header_at m.headers n).role) holds ∙ ap (λ t. masked (header_at t.headers n).role (held_at s.contents n)) view ∙ masks ∙ sym holds
+  masks_here = ap (masked (header_at m.headers n).role) holds ∙ ap (λ t. masked (header_at t.headers n).role (held_at s.contents n)) view
+      ∙ masks ∙ sym holds
 
   entry_here : (e : Entry) × (entry_at m.entries n ≡ Some e)
   entry_here = entry_found disk view is fetched
@@ -158,7 +166,8 @@ module _ {D : Type 0} (disk : D → Disk) {d : DurableState D} {m : Memory} {all
 masked_twice : (r : Role) (c : Content Cap) → masked r (masked r c) ≡ masked r c
 masked_twice other c = search arith
 
-module _ {s : Stored} {m : Memory} {all : Bool} {left count : ℕ} (is : IsCache all s m left count) (number : ℕ) (c : Content Cap) (within : number < length m.headers)
+module _ {s : Stored} {m : Memory} {all : Bool} {left count : ℕ} (is : IsCache all s m left count) (number : ℕ) (c : Content Cap)
+    (within : number < length m.headers)
     (none : entry_at m.entries number ≡ None)
     (present : c ≡ content_at s m number) where
   abbrev e : Entry
@@ -171,7 +180,8 @@ module _ {s : Stored} {m : Memory} {all : Bool} {left count : ℕ} (is : IsCache
   some_now = get_or-set_same m.entries number (Some e) None (omega (arith, within, is.headers, is.entries))
 
   -- a pending number that isn't touched still has its frozen body
-  as_frozen : mark_at m.pending number ≡ true → mark_at m.touched number ≡ false → c ≡ masked (header_at m.frozen_headers number).role (below_body s m number)
+  as_frozen : mark_at m.pending number ≡ true → mark_at m.touched number ≡ false →
+      c ≡ masked (header_at m.frozen_headers number).role (below_body s m number)
   as_frozen pending untouched = search arith
 
   -- the frozen frame by the new entry
@@ -191,13 +201,15 @@ no_entry_by : (o : Option Entry) → is_some o ≡ false → o ≡ None
 no_entry_by o is = search arith
 
 -- the same by what is seen
-module _ {D : Type 0} (disk : D → Disk) {d : DurableState D} {m : Memory} {all : Bool} {left count : ℕ} {order : List ℕ} {most_entries : ℕ} {s : StoreState D}
+module _ {D : Type 0} (disk : D → Disk) {d : DurableState D} {m : Memory} {all : Bool} {left count : ℕ} {order : List ℕ} {most_entries : ℕ}
+    {s : StoreState D}
     (view : cache_of disk d m left order most_entries ≡ s) (is : IsCache all (stored_of disk d) m left count) where
   -- a number that isn't cached has no entry
   pub no_entry : (n : ℕ) → cached_at s.cached n ≡ false → entry_at m.entries n ≡ None
   no_entry n uncached = no_entry_by (entry_at m.entries n) (sym (cached_entry m.entries n) ∙ ap (λ t. cached_at t.cached n) view ∙ uncached)
 
-  module _ (n : ℕ) (c : Content Cap) (known : n < length s.headers) (uncached : cached_at s.cached n ≡ false) (read : c ≡ held_at s.contents n) where
+  module _ (n : ℕ) (c : Content Cap) (known : n < length s.headers) (uncached : cached_at s.cached n ≡ false)
+      (read : c ≡ held_at s.contents n) where
     there : n < length m.headers
     there = omega (arith, known, ap (λ t. length t.headers) view)
 
@@ -210,7 +222,8 @@ module _ {D : Type 0} (disk : D → Disk) {d : DurableState D} {m : Memory} {all
     new_here : Recaches (stored_of disk d) m (set m.entries n (Some (new_entry c))) n
     new_here = cached_new is n c there (no_entry n uncached) present_there
 
-    pub cached_next : IsSeenAs all disk d (with_objects m m.headers (set m.entries n (Some (new_entry c)))) left count (n ∷ order) most_entries (with_cached n s)
+    pub cached_next : IsSeenAs all disk d (with_objects m m.headers (set m.entries n (Some (new_entry c)))) left count (n ∷ order)
+        most_entries (with_cached n s)
     cached_next = search (
       cached_cache new_here (λ is_all. ap is_some some_there) is,
       seen_cached disk d left (n ∷ order) most_entries new_here (cached_set m.entries n (Some (new_entry c)))
@@ -239,8 +252,8 @@ module _ (s : Stored) (m : Memory) (n : ℕ) (within : n < length m.entries) (e 
   now : entry_at apart_entries n ≡ Some (keeping e)
   now = get_or-set_same m.entries n (option_map (keeping) (entry_at m.entries n)) None within ∙ ap (option_map (keeping)) at
 
-  frozen_same : frozen_body (entry_at apart_entries n) (mark_at m.touched n) (below_body s m n) ≡ frozen_body (entry_at m.entries n) (mark_at m.touched n)
-      (below_body s m n)
+  frozen_same : frozen_body (entry_at apart_entries n) (mark_at m.touched n) (below_body s m n)
+      ≡ frozen_body (entry_at m.entries n) (mark_at m.touched n) (below_body s m n)
   frozen_same = search (arith, now, facts)
 
   pub keeps_apart : Recaches s m apart_entries n
@@ -250,8 +263,10 @@ module _ (s : Stored) (m : Memory) (n : ℕ) (within : n < length m.entries) (e 
   frozen_state_apart = rw (now, facts.0)
 
 -- the same by what is seen
-module _ {D : Type 0} (disk : D → Disk) {d : DurableState D} {m : Memory} {all : Bool} {left count : ℕ} {order : List ℕ} {most_entries : ℕ} {s : StoreState D}
-    (view : cache_of disk d m left order most_entries ≡ s) (is : IsCache all (stored_of disk d) m left count) {n : ℕ} (fetched : IsFetchedIn s n)
+module _ {D : Type 0} (disk : D → Disk) {d : DurableState D} {m : Memory} {all : Bool} {left count : ℕ} {order : List ℕ} {most_entries : ℕ}
+    {s : StoreState D}
+    (view : cache_of disk d m left order most_entries ≡ s) (is : IsCache all (stored_of disk d) m left count) {n : ℕ}
+    (fetched : IsFetchedIn s n)
     (shared : frozen_state_at s.frozen_state n ≡ Shared) where
   known_here : n < length m.headers
   known_here = fetched_known disk view is fetched

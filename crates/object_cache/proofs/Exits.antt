@@ -16,15 +16,16 @@ no_ok (Ok x) P Q failed = absurd failed
 no_ok (Err e) P Q failed = tt
 
 -- an error of a call that `?` passes on
-pub counts_as : {T U E : Type 0} {old new : Disk} {e : E} (r : Result U E) (Q : E → Type 0) → IsErrAnd r Q → Counts {T = T} old new (Err e) →
-    Counts old new r
+pub counts_as : {T U E : Type 0} {old new : Disk} {e : E} (r : Result U E) (Q : E → Type 0) → IsErrAnd r Q →
+    Counts {T = T} old new (Err e) → Counts old new r
 counts_as r Q failed counts = err_counts (ap is_err (err_from_is_err_and r failed).1) counts
 
 -- ---- calls that write frames and read bodies, one after the other
 
 module _ {D : Type 0} where
   -- a new state, and what it is like
-  pub as_like : (like : StoreState D → StoreState D → StoreState D) (s : StoreState D) {t u : StoreState D} → u ≡ t → t ≡ like s t → u ≡ like s u
+  pub as_like : (like : StoreState D → StoreState D → StoreState D) (s : StoreState D) {t u : StoreState D} → u ≡ t → t ≡ like s t →
+      u ≡ like s u
   as_like like s is same = is ∙ same ∙ ap (like s) (sym is)
 
   rest_on : (s t u : StoreState D) → t ≡ on_device_with s t → u ≡ on_device_with t u → u ≡ on_device_with s u
@@ -33,8 +34,8 @@ module _ {D : Type 0} where
   put_on : (s t u : StoreState D) → t ≡ on_device s t → u ≡ on_device t u → u ≡ on_device s u
   put_on s t u first second = second ∙ ap (λ x. on_device x u) first
 
-  pub away_on : (s t u : StoreState D) (n : ℕ) → t ≡ on_device s t → u ≡ record t { cached = set t.cached n false; order = without n t.order } →
-      u ≡ without_cached n (on_device s u)
+  pub away_on : (s t u : StoreState D) (n : ℕ) → t ≡ on_device s t → u ≡ record t
+      { cached = set t.cached n false; order = without n t.order } → u ≡ without_cached n (on_device s u)
   away_on s t u n put is = search arith
 
 module _ {D : Type 0} {disk : D → Disk} where
@@ -45,14 +46,15 @@ module _ {D : Type 0} {disk : D → Disk} where
   moves_none only_now s same = record { rest = same; continues = goes_on_same disk only_now s; cause = ok_counts refl }
 
   -- `?` passes a failure on
-  pub moves_err : {like : StoreState D → StoreState D → StoreState D} {s t : StoreState D} {T U E : Type 0} {e : E} (r : Result U E) (Q : E → Type 0) →
-      IsErrAnd r Q → Moves {T = T} disk like s t (Err e) → Moves disk like s t r
+  pub moves_err : {like : StoreState D → StoreState D → StoreState D} {s t : StoreState D} {T U E : Type 0} {e : E} (r : Result U E)
+      (Q : E → Type 0) → IsErrAnd r Q → Moves {T = T} disk like s t (Err e) → Moves disk like s t r
   moves_err r Q failed moves = record { rest = moves.rest; continues = moves.continues; cause = counts_as r Q failed moves.cause }
 
   -- by what is seen of the fields
-  pub moves_next : {like : StoreState D → StoreState D → StoreState D} {all : Bool} {s t : StoreState D} {d : DurableState D} {m : Memory} {left count : ℕ}
-      {order : List ℕ} {most_entries : ℕ} → IsNext all disk s d m left count order most_entries t → t ≡ like s t → {T E : Type 0} (r : Result T E) →
-      Counts (disk s.durable.beneath) (disk d.beneath) r → Moves disk like s (cache_of disk d m left order most_entries) r
+  pub moves_next : {like : StoreState D → StoreState D → StoreState D} {all : Bool} {s t : StoreState D} {d : DurableState D} {m : Memory}
+      {left count : ℕ} {order : List ℕ} {most_entries : ℕ} → IsNext all disk s d m left count order most_entries t → t ≡ like s t →
+      {T E : Type 0} (r : Result T E) → Counts (disk s.durable.beneath) (disk d.beneath) r →
+      Moves disk like s (cache_of disk d m left order most_entries) r
   moves_next {like} {s = s} next same r cause = record { rest = as_like like s next.view same; continues = next.continues; cause = cause }
 
   -- entries may be others too
@@ -60,7 +62,8 @@ module _ {D : Type 0} {disk : D → Disk} where
   moves_more {s} moves = record { rest = as_like on_device_with s moves.rest refl; continues = moves.continues; cause = moves.cause }
 
   -- another order
-  pub moves_used : {s t : StoreState D} {os : List ℕ} → t ≡ record s { order = os } → GoesOnIn disk s t → Moves {T = Unit {0}} {E = Failed} disk on_device_with s t (Ok tt)
+  pub moves_used : {s t : StoreState D} {os : List ℕ} → t ≡ record s { order = os } → GoesOnIn disk s t →
+      Moves {T = Unit {0}} {E = Failed} disk on_device_with s t (Ok tt)
   moves_used {s} {t} is goes = record {
     rest = as_like on_device_with s is refl;
     continues = goes;
@@ -85,12 +88,14 @@ module _ {D : Type 0} {disk : D → Disk} where
 
   -- an entry was dropped, or another order: the device is as it was
   pub moves_in_memory : {s t u : StoreState D} {cached : List Bool} {order : List ℕ} {T U E : Type 0} {x : T} {y : U} →
-      Moves {E = E} disk on_device s t (Ok x) → u ≡ record t { cached = cached; order = order } → Moves {E = E} disk on_device_with s u (Ok y)
-  moves_in_memory {s} {t} {cached = cached} {order} {U = U} {E} {y = y} moves is = subst (λ v. Moves {T = U} {E = E} disk on_device_with s v (Ok y)) (sym is) (record {
-    rest = ap (λ (v : StoreState D). record v { cached = cached; order = order }) moves.rest;
-    continues = continues_with disk cached t.frozen_state order t.staging moves.continues;
-    cause = ok_counts (counted_ok moves.cause);
-  })
+      Moves {E = E} disk on_device s t (Ok x) → u ≡ record t { cached = cached; order = order } →
+      Moves {E = E} disk on_device_with s u (Ok y)
+  moves_in_memory {s} {t} {cached = cached} {order} {U = U} {E} {y = y} moves is =
+      subst (λ v. Moves {T = U} {E = E} disk on_device_with s v (Ok y)) (sym is) (record {
+        rest = ap (λ (v : StoreState D). record v { cached = cached; order = order }) moves.rest;
+        continues = continues_with disk cached t.frozen_state order t.staging moves.continues;
+        cause = ok_counts (counted_ok moves.cause);
+      })
 
 -- ---- what is fetched and can be kept still is, if the device or the entries have changed
 
@@ -102,7 +107,8 @@ module _ {D : Type 0} {s t : StoreState D} where
   module _ {disk : D → Disk} (goes : GoesOnIn disk s t) where
     pub keepable_put : {n : ℕ} → t ≡ on_device s t → IsKeepableIn disk s n → IsKeepableIn disk t n
     keepable_put {n} put keepable =
-        subst (λ x. IsKeepable (stored_of disk t.durable).saved.geometry most n (record { header = header_at x.headers n; content = held_at x.contents n }))
+        subst (λ x. IsKeepable (stored_of disk t.durable).saved.geometry most n
+        (record { header = header_at x.headers n; content = held_at x.contents n }))
         (sym put) (subst (λ g. IsKeepable g most n (record { header = header_at s.headers n; content = held_at s.contents n }))
         (ap (λ a. a.saved.geometry) (sym goes.snapshots)) keepable)
 
@@ -116,8 +122,9 @@ module _ {D : Type 0} where
   readied_on : (s t u : StoreState D) → t ≡ record s { frozen_state = t.frozen_state } → u ≡ readied t u → u ≡ readied s u
   readied_on s t u apart is = is ∙ ap (λ x. readied x u) apart
 
-  pub readied_by : {T E : Type 0} (r : Result T E) (s t u : StoreState D) (touched dirty : List Bool) → t ≡ record s { frozen_state = t.frozen_state } →
-      OnOk r (u ≡ record t { touched = touched; dirty = dirty }) → OnErr r (u ≡ t) → u ≡ readied s u
+  pub readied_by : {T E : Type 0} (r : Result T E) (s t u : StoreState D) (touched dirty : List Bool) →
+      t ≡ record s { frozen_state = t.frozen_state } → OnOk r (u ≡ record t { touched = touched; dirty = dirty }) → OnErr r (u ≡ t) →
+      u ≡ readied s u
   readied_by (Ok x) s t u touched dirty apart marked unchanged = readied_on s t u apart (marked ∙ ap (readied t) (sym marked))
   readied_by (Err e) s t u touched dirty apart marked unchanged = readied_on s t u apart (unchanged ∙ ap (readied t) (sym unchanged))
 
@@ -128,12 +135,14 @@ released_own h = search arith
 -- the parts are the same, unless the device failed
 module _ {D : Type 0} (disk : D → Disk) (s : StoreState D) where
   pub same_parts : (t : StoreState D) → t.headers ≡ s.headers → t.contents ≡ s.contents → t.touched ≡ s.touched →
-      (stored_of disk t.durable).saved.geometry ≡ (stored_of disk s.durable).saved.geometry → AreSameUnlessFailed (parts_of disk s) (parts_of disk t)
+      (stored_of disk t.durable).saved.geometry ≡ (stored_of disk s.durable).saved.geometry →
+      AreSameUnlessFailed (parts_of disk s) (parts_of disk t)
   same_parts t headers contents touched geometry failures =
       λ k. record { geometry = geometry k; headers = headers k; contents = contents k; touched = touched k; failures = failures k }
 
   pub same_seen : (t : StoreState D) {f : Option FrozenFrames} → t ≡ record s { durable = t.durable; frozen = f } →
-      (stored_of disk t.durable).saved.geometry ≡ (stored_of disk s.durable).saved.geometry → AreSameUnlessFailed (parts_of disk s) (parts_of disk t)
+      (stored_of disk t.durable).saved.geometry ≡ (stored_of disk s.durable).saved.geometry →
+      AreSameUnlessFailed (parts_of disk s) (parts_of disk t)
   same_seen t is = same_parts t (ap (λ x. x.headers) is) (ap (λ x. x.contents) is) (ap (λ x. x.touched) is)
 
   pub puts_same : (t : StoreState D) {k : ℕ} → PutsBy disk s t k → AreSameUnlessFailed (parts_of disk s) (parts_of disk t)
@@ -145,7 +154,8 @@ module _ {D : Type 0} {disk : D → Disk} {s t : StoreState D} {all : Bool} (som
   pub continues_some : GoesOnIn disk s t → ContinuesIn all disk s t
   continues_some goes = record { goes_on = goes; still = λ is. absurd (true≢false (sym is ∙ some)) }
 
-  pub fetches_only : {T E : Type 0} {r : Result T E} → Moves disk on_device_with s t r → OnlyFetches (parts_of disk) (ContinuesIn all disk) s t
+  pub fetches_only : {T E : Type 0} {r : Result T E} → Moves disk on_device_with s t r →
+      OnlyFetches (parts_of disk) (ContinuesIn all disk) s t
   fetches_only moves = record {
     same = same_parts disk s t (ap (λ x. x.headers) moves.rest) (ap (λ x. x.contents) moves.rest) (ap (λ x. x.touched) moves.rest)
         (ap (λ a. a.saved.geometry) moves.continues.snapshots);
@@ -156,11 +166,11 @@ module _ {D : Type 0} {disk : D → Disk} {s t : StoreState D} {all : Bool} (som
 
 -- numbers were announced, or not
 module _ {D : Type 0} {disk : D → Disk} {s t : StoreState D} {all : Bool} (rest : t ≡ readied s t) (goes : GoesOnIn disk s t) where
-  pub prepares_by : {T : Type 0} (r : Result T Refusal) {ws : List ℕ} → OnOk r (t.touched ≡ touching s.touched ws) → OnErr r (t.touched ≡ s.touched) →
-      touched_count s.touched ≤ (stored_of disk s.durable).saved.geometry.log → touched_count t.touched ≤ (stored_of disk t.durable).saved.geometry.log →
-      IfErr r IsUnprepared →
-      (IsErrOf r refusal.LogFull → (stored_of disk s.durable).saved.geometry.log < touched_count (touching s.touched ws)) → (IsErrOf r refusal.Fault → ⊥) →
-      Prepares (parts_of disk) (ContinuesIn all disk) s t ws r
+  pub prepares_by : {T : Type 0} (r : Result T Refusal) {ws : List ℕ} → OnOk r (t.touched ≡ touching s.touched ws) →
+      OnErr r (t.touched ≡ s.touched) → touched_count s.touched ≤ (stored_of disk s.durable).saved.geometry.log →
+      touched_count t.touched ≤ (stored_of disk t.durable).saved.geometry.log → IfErr r IsUnprepared →
+      (IsErrOf r refusal.LogFull → (stored_of disk s.durable).saved.geometry.log < touched_count (touching s.touched ws)) →
+      (IsErrOf r refusal.Fault → ⊥) → Prepares (parts_of disk) (ContinuesIn all disk) s t ws r
   prepares_by r {ws} touched untouched before within refusals full unfailed =
       let same : t.durable ≡ s.durable = ap (λ x. x.durable) rest in
       record {
@@ -172,7 +182,8 @@ module _ {D : Type 0} {disk : D → Disk} {s t : StoreState D} {all : Bool} (res
           touched = is k;
           failures = (disk (same k).beneath).failures;
         }) touched;
-        within = on_ok_weaker r (λ is. omega (arith, ap touched_count is, ap (λ d. (stored_of disk d).saved.geometry.log) same, within)) touched;
+        within = on_ok_weaker r (λ is. omega (arith, ap touched_count is, ap (λ d. (stored_of disk d).saved.geometry.log) same, within))
+            touched;
         same = on_err_weaker r (λ is. same_parts disk s t (ap (λ x. x.headers) rest) (ap (λ x. x.contents) rest) is
             (ap (λ d. (stored_of disk d).saved.geometry) same)) untouched;
         full = full;

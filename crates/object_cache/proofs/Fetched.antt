@@ -34,7 +34,8 @@ front_without n m (suc k) (a ∷ rest) other is = elim (cases_eq n a) [
 ]
 
 -- each use brings a number at most one further back
-uses_stay : (ns order : List ℕ) (n k j : ℕ) → length ns + k ≤ j → is_member (take k order) n ≡ true → is_member (take j (used_in_turn ns order)) n ≡ true
+uses_stay : (ns order : List ℕ) (n k j : ℕ) → length ns + k ≤ j → is_member (take k order) n ≡ true →
+    is_member (take j (used_in_turn ns order)) n ≡ true
 uses_stay [] order n k j few is = front_within k j n order (omega (arith, few)) is
 uses_stay (m ∷ ms) order n k j few is = uses_stay ms (m ∷ without m order) n (suc k) j (omega (arith, few)) (elim (cases_eq n m) [
   | inl same ↦ member_head n m (take k (without m order)) same
@@ -96,8 +97,8 @@ pub used_order : {D : Type 0} (s : StoreState D) (n : ℕ) → IsBounded s → I
 used_order {D} s n bounded there = search (arith, same_front, length_without)
 
 -- one that has none
-pub brought_order : {D : Type 0} (s : StoreState D) (n : ℕ) (os : List ℕ) → IsBounded s → cached_at s.cached n ≡ false → os ≡ take s.capacity (n ∷ s.order) →
-    os ≡ take s.capacity (n ∷ without n s.order)
+pub brought_order : {D : Type 0} (s : StoreState D) (n : ℕ) (os : List ℕ) → IsBounded s → cached_at s.cached n ≡ false →
+    os ≡ take s.capacity (n ∷ s.order) → os ≡ take s.capacity (n ∷ without n s.order)
 brought_order s n os bounded none is = is ∙ ap (λ ns. take s.capacity (n ∷ ns)) (sym (without_absent n s.order (bounded.listed n ∙ none)))
 
 -- ---- numbers are used in turn
@@ -107,12 +108,15 @@ pub used_more : (most i : ℕ) (ns s t u : List ℕ) → i < length ns → t ≡
 used_more most i ns s t u below before is = search (arith, use_keeps_front, one_more)
 
 -- the first of them were used before
-pub used_then : (most k : ℕ) (ns s t u : List ℕ) → t ≡ used_in_turn (take k ns) s → u ≡ take most (used_in_turn ns t) → u ≡ take most (used_in_turn ns s)
-used_then most k ns s t u first is = is ∙ ap (λ ks. take most (used_in_turn ns ks)) first ∙ ap (take most) (used_anew ns (take k ns) s (in_front k ns))
+pub used_then : (most k : ℕ) (ns s t u : List ℕ) → t ≡ used_in_turn (take k ns) s → u ≡ take most (used_in_turn ns t) →
+    u ≡ take most (used_in_turn ns s)
+used_then most k ns s t u first is = is ∙ ap (λ ks. take most (used_in_turn ns ks)) first
+    ∙ ap (take most) (used_anew ns (take k ns) s (in_front k ns))
 
 -- ---- bodies are read from the device: nothing that is seen changes
 
-module _ {D : Type 0} (disk : D → Disk) {d : DurableState D} {m : Memory} {all : Bool} {left count : ℕ} {order : List ℕ} {most_entries : ℕ} {s : StoreState D}
+module _ {D : Type 0} (disk : D → Disk) {d : DurableState D} {m : Memory} {all : Bool} {left count : ℕ} {order : List ℕ} {most_entries : ℕ}
+    {s : StoreState D}
     (view : cache_of disk d m left order most_entries ≡ s) (is : IsCache all (stored_of disk d) m left count) where
   module _ (n : ℕ) (known : n < length s.headers) (uncached : cached_at s.cached n ≡ false) (empty : s.staging ≡ None) where
     known_here : n < length m.headers
@@ -133,9 +137,9 @@ module _ {D : Type 0} (disk : D → Disk) {d : DurableState D} {m : Memory} {all
   read_next {new} reads later = search (arith, stored_next)
 
   -- and it is made an entry
-  pub kept_next : (n : ℕ) → n < length s.headers → cached_at s.cached n ≡ false → s.staging ≡ None → {new : DurableState D} → ReadsStore disk d new →
-      (disk d.beneath).failures ≤ (disk new.beneath).failures → {f : Frame} → f ≡ newest (stored_of disk d) n → {h : ObjectHeader} →
-      h ≡ header_at m.headers n → {es : EntriesState} →
+  pub kept_next : (n : ℕ) → n < length s.headers → cached_at s.cached n ≡ false → s.staging ≡ None → {new : DurableState D} →
+      ReadsStore disk d new → (disk d.beneath).failures ≤ (disk new.beneath).failures → {f : Frame} → f ≡ newest (stored_of disk d) n →
+      {h : ObjectHeader} → h ≡ header_at m.headers n → {es : EntriesState} →
       es ≡ with_new n (masked h.role f.content) (record { at = m.entries; order = order; most = most_entries }) →
       IsNext all disk s new (with_objects m m.headers es.at) left count es.order es.most
       (with_cached n (record s { durable = new }))
@@ -157,7 +161,8 @@ module _ {D : Type 0} (disk : D → Disk) {d : DurableState D} {m : Memory} {all
 abbrev pub holding_up : ℕ → Content Cap → Memory → Memory
 holding_up n c m = record m { staging = Some (record { number = n; content = c }) }
 
-module _ {s : Stored} {m : Memory} {all : Bool} {left count : ℕ} (is : IsCache all s m left count) (n : ℕ) (pending : mark_at m.pending n ≡ true) (empty : m.staging ≡ None)
+module _ {s : Stored} {m : Memory} {all : Bool} {left count : ℕ} (is : IsCache all s m left count) (n : ℕ)
+    (pending : mark_at m.pending n ≡ true) (empty : m.staging ≡ None)
     (c : Content Cap) (read : c ≡ (below_at s n).content) where
   abbrev then : Memory
   then = holding_up n c m
@@ -169,7 +174,8 @@ module _ {s : Stored} {m : Memory} {all : Bool} {left count : ℕ} (is : IsCache
   below_same k = in_staging_same k ∙ sym (ap (λ o. in_staging o k (below_at s k).content) empty)
 
   content_same : (k : ℕ) → content_at s then k ≡ content_at s m k
-  content_same k = ap (λ x. present_body (entry_at m.entries k) (header_at m.headers k).role (put_body (put_at s.working k) x)) (below_same k)
+  content_same k = ap (λ x. present_body (entry_at m.entries k) (header_at m.headers k).role (put_body (put_at s.working k) x))
+      (below_same k)
 
   frozen_stays : (k : ℕ) → frozen_at s then k ≡ frozen_at s m k
   frozen_stays k = rw (below_same k)
@@ -184,8 +190,10 @@ module _ {s : Stored} {m : Memory} {all : Bool} {left count : ℕ} (is : IsCache
       search (clean_alike taken_alike is, unwritten_alike taken_alike is, keepable_alike taken_alike is)
 
 -- the same by what is seen
-module _ {D : Type 0} (disk : D → Disk) {d : DurableState D} {m : Memory} {all : Bool} {left count : ℕ} {order : List ℕ} {most_entries : ℕ} {s : StoreState D}
-    (view : cache_of disk d m left order most_entries ≡ s) (is : IsCache all (stored_of disk d) m left count) (n : ℕ) (pending : mark_at s.pending n ≡ true) where
+module _ {D : Type 0} (disk : D → Disk) {d : DurableState D} {m : Memory} {all : Bool} {left count : ℕ} {order : List ℕ} {most_entries : ℕ}
+    {s : StoreState D}
+    (view : cache_of disk d m left order most_entries ≡ s) (is : IsCache all (stored_of disk d) m left count) (n : ℕ)
+    (pending : mark_at s.pending n ≡ true) where
   pending_here : mark_at m.pending n ≡ true
   pending_here = ap (λ t. mark_at t.pending n) view ∙ pending
 
@@ -204,12 +212,15 @@ module _ {D : Type 0} (disk : D → Disk) {d : DurableState D} {m : Memory} {all
     taken_next staging_is later =
         let next = read_next disk view is reads later in
         next_as (next_in (record {
-          is = subst (λ t. IsCache all t (holding_up n c m) left count) (sym reads.stored) (taken_cache is n pending_here empty_here c read);
+          is = subst (λ t. IsCache all t (holding_up n c m) left count) (sym reads.stored)
+              (taken_cache is n pending_here empty_here c read);
           view = seen;
-          continues = subst (GoesOnIn disk s) (sym seen) (continues_with disk s.cached s.frozen_state s.order (Some (record { number = n; content = c }))
+          continues = subst (GoesOnIn disk s) (sym seen) (continues_with disk s.cached s.frozen_state s.order
+              (Some (record { number = n; content = c }))
               (subst (GoesOnIn disk s) next.view next.continues));
         }) (λ k. record m { staging = staging_is k }) refl refl) (λ k. record s { durable = new; staging = sym staging_is k }) where
-          seen : cache_of disk new (holding_up n c m) left order most_entries ≡ record s { durable = new; staging = Some (record { number = n; content = c }) }
+          seen : cache_of disk new (holding_up n c m) left order most_entries
+              ≡ record s { durable = new; staging = Some (record { number = n; content = c }) }
           seen =
               ap (λ t. record (cache_of disk d m left order most_entries) {
                 durable = new;
@@ -220,7 +231,11 @@ module _ {D : Type 0} (disk : D → Disk) {d : DurableState D} {m : Memory} {all
               ∙ (λ k. record (cache_of disk d m left order most_entries) {
                 durable = new;
                 contents = contents_alike (taken_alike is n pending_here empty_here c read) k;
-                frozen = option_map (λ f. record { frames = frozen_alike (taken_alike is n pending_here empty_here c read) k; size = f.size; left = left })
+                frozen = option_map (λ f. record {
+                  frames = frozen_alike (taken_alike is n pending_here empty_here c read) k;
+                  size = f.size;
+                  left = left;
+                })
                     (stored_of disk d).frozen;
                 staging = Some (record { number = n; content = c });
               }) ∙ ap (λ (t : StoreState D). record t { durable = new; staging = Some (record { number = n; content = c }) }) view

@@ -81,7 +81,8 @@ module _ {s : Stored} {m : Memory} {all : Bool} {left count : ℕ} (is : IsCache
   body_now n within o at = search (arith, below_now, masked_here, none)
 
   frozen_by : (n : ℕ) → n < length m.headers → (b t : Bool) → mark_at m.dirty n ≡ b → mark_at m.touched n ≡ t →
-      frozen_frame b (header_at fh n) (frozen_body (entry_at m.entries n) false (below_body begun now n)) (below_at begun n) ≡ present_at s m n
+      frozen_frame b (header_at fh n) (frozen_body (entry_at m.entries n) false (below_body begun now n)) (below_at begun n)
+      ≡ present_at s m n
   frozen_by n within b t dirty touched = search (arith, body_now, none, saved_below)
 
   frozen_now : (n : ℕ) → n < length m.headers → frozen_at begun now n ≡ present_at s m n
@@ -111,8 +112,10 @@ module _ {s : Stored} {m : Memory} {all : Bool} {left count : ℕ} (is : IsCache
   begun_are = record {
     each = is.puts ∙ sym is.dirty_marks;
     size =
-        ap (count_by (λ b. b)) (same_lists (map (λ n. mark_at m.dirty n || is_kept (put_at s.working n)) (range_with_len 0 (length m.dirty))) m.touched
-        (length-map-range_with_len (λ n. mark_at m.dirty n || is_kept (put_at s.working n)) 0 (length m.dirty) ∙ is.dirty_marks ∙ sym is.marks)
+        ap (count_by (λ b. b)) (same_lists (map (λ n. mark_at m.dirty n || is_kept (put_at s.working n))
+        (range_with_len 0 (length m.dirty))) m.touched
+        (length-map-range_with_len (λ n. mark_at m.dirty n || is_kept (put_at s.working n)) 0 (length m.dirty) ∙ is.dirty_marks
+        ∙ sym is.marks)
         (λ i b lt.
         let within : i < length m.dirty = omega
         (arith, lt, length-map-range_with_len (λ n. mark_at m.dirty n || is_kept (put_at s.working n)) 0 (length m.dirty)) in
@@ -125,14 +128,28 @@ module _ {s : Stored} {m : Memory} {all : Bool} {left count : ℕ} (is : IsCache
   }
 
   pub begun_cache : IsCache all begun now count 0
-  begun_cache = search (arith, length-replicate, none_counted, alike, present_same, frozen_now, none-some, same_Some, begun_are, begun_frozen, none)
+  begun_cache = search (
+    arith,
+    length-replicate,
+    none_counted,
+    alike,
+    present_same,
+    frozen_now,
+    none-some,
+    same_Some,
+    begun_are,
+    begun_frozen,
+    none,
+  )
 
 -- the same by what is seen
-module _ {D : Type 0} (disk : D → Disk) {d : DurableState D} {m : Memory} {all : Bool} {left count : ℕ} {order : List ℕ} {most_entries : ℕ} {s : StoreState D}
+module _ {D : Type 0} (disk : D → Disk) {d : DurableState D} {m : Memory} {all : Bool} {left count : ℕ} {order : List ℕ} {most_entries : ℕ}
+    {s : StoreState D}
     (view : cache_of disk d m left order most_entries ≡ s) (is : IsCache all (stored_of disk d) m left count) where
   -- as many slots are held as were written since
   pub freeze_enough : sum_of held_slot (stored_of disk d).working ≤ count
-  freeze_enough = let few = held_touched (stored_of disk d).working m.touched (is.puts ∙ sym is.marks) is.unput in omega (arith, few, is.counted)
+  freeze_enough = let few = held_touched (stored_of disk d).working m.touched (is.puts ∙ sym is.marks) is.unput in
+      omega (arith, few, is.counted)
 
   module _ (new : DurableState D) (is_none : option_map left_of (stored_of disk d).frozen ≡ None)
       (begun : stored_of disk new ≡ freezing_puts count (stored_of disk d))
@@ -149,11 +166,13 @@ module _ {D : Type 0} (disk : D → Disk) {d : DurableState D} {m : Memory} {all
     freeze_stands = subst (λ t. IsCache all t (frozen_memory fh m) count 0) (sym begun) (begun_cache is none fh fh_count same_headers kept)
 
     freeze_contents : contents_in (stored_of disk new) (frozen_memory fh m) ≡ s.contents
-    freeze_contents = ap (λ t. contents_in t (frozen_memory fh m)) begun ∙ begun_contents is none fh fh_count same_headers kept ∙ ap (λ t. t.contents) view
+    freeze_contents = ap (λ t. contents_in t (frozen_memory fh m)) begun ∙ begun_contents is none fh fh_count same_headers kept
+        ∙ ap (λ t. t.contents) view
 
     freeze_touched : replicate (length m.touched) false ≡ untouched (stored_of disk s.durable).saved.geometry
     unfolding untouched
-    freeze_touched = ap (λ k. replicate k false) is.marks ∙ ap (λ t. replicate (object_count (stored_of disk t.durable).saved.geometry) false) view
+    freeze_touched = ap (λ k. replicate k false) is.marks ∙ ap (λ t. replicate (object_count (stored_of disk t.durable).saved.geometry)
+        false) view
 
     pub freeze_parts : new.beneath ≡ d.beneath → parts_of disk (cache_of disk new (frozen_memory fh m) count order most_entries) ≡
         all_untouched (parts_of disk s)
@@ -170,7 +189,11 @@ module _ {D : Type 0} (disk : D → Disk) {d : DurableState D} {m : Memory} {all
     freeze_snapshots =
         ap (λ t. record { frozen = frozen_seen t (frozen_memory fh m) count; saved = t.saved; to_move = t.to_move }) begun
         ∙ (λ k. record {
-          frozen = Some (record { frames = begun_frozen is none fh fh_count same_headers kept k; size = is.counted k; left = is.counted k });
+          frozen = Some (record {
+            frames = begun_frozen is none fh fh_count same_headers kept k;
+            size = is.counted k;
+            left = is.counted k;
+          });
           saved = (stored_of disk d).saved;
           to_move = (stored_of disk d).to_move;
         }) ∙ ap (λ t. freezing (all_frozen (frames_in t.headers t.contents) (touched_count t.touched)) (snapshots_of disk t)) view

@@ -12,7 +12,8 @@ use Rattle.object_cache.proofs.Caching.{frozen_state_entry}
 pub still_uncached : (ss : List Bool) (n k : ℕ) → cached_at ss k ≡ false → cached_at (set ss n false) k ≡ false
 still_uncached ss n k none = search (arith, cases_eq, set_there, get_or-set_other)
 
-module _ {D : Type 0} (disk : D → Disk) {d : DurableState D} {m : Memory} {all : Bool} {left count : ℕ} {order : List ℕ} {most_entries : ℕ} {s : StoreState D}
+module _ {D : Type 0} (disk : D → Disk) {d : DurableState D} {m : Memory} {all : Bool} {left count : ℕ} {order : List ℕ} {most_entries : ℕ}
+    {s : StoreState D}
     (view : cache_of disk d m left order most_entries ≡ s) (is : IsCache all (stored_of disk d) m left count) (n : ℕ) where
   module _ (known : n < length s.headers) where
     pub known_there : n < length m.headers
@@ -22,8 +23,8 @@ module _ {D : Type 0} (disk : D → Disk) {d : DurableState D} {m : Memory} {all
     frozen_state_is = sym (frozen_state_entry m n known_there) ∙ ap (λ t. frozen_state_at t.frozen_state n) view
 
     -- by whether its entry keeps a body apart
-    pub frozen_state_with : (k : Option (Content Cap)) → option_map kept_of (entry_at m.entries n) ≡ Some k → (p b t : Bool) → p ≡ mark_at m.pending n →
-        b ≡ is_some k →
+    pub frozen_state_with : (k : Option (Content Cap)) → option_map kept_of (entry_at m.entries n) ≡ Some k → (p b t : Bool) →
+        p ≡ mark_at m.pending n → b ≡ is_some k →
         t ≡ mark_at m.touched n →
         frozen_state_by p b t ≡ frozen_state_at s.frozen_state n
     frozen_state_with k kept p b t p_is b_is t_is = search (arith, frozen_state_is, none-some, same_Some)
@@ -47,7 +48,8 @@ pub record IsLeast {D : Type 0} (s : StoreState D) (n : ℕ) : Type 0 where
   pub room : length (without n s.order) < s.capacity
   pub rest : without n s.order ≡ take (s.capacity - 1) s.order
 
-module _ {D : Type 0} (disk : D → Disk) {d : DurableState D} {m : Memory} {all : Bool} {left count : ℕ} {order : List ℕ} {most_entries : ℕ} {s : StoreState D}
+module _ {D : Type 0} (disk : D → Disk) {d : DurableState D} {m : Memory} {all : Bool} {left count : ℕ} {order : List ℕ} {most_entries : ℕ}
+    {s : StoreState D}
     (view : cache_of disk d m left order most_entries ≡ s) (is : IsCache all (stored_of disk d) m left count)
     (ordered : AreOrdered (record { at = m.entries; order = order; most = most_entries })) (full : s.capacity ≤ length s.order) where
   long : 8 ≤ length order

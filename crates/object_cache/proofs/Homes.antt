@@ -42,13 +42,16 @@ module _ (s : Stored) (m : Memory) where
   unfolding frozen_in
   numbered_stands left count generation entries age k is = search
 
-  pub home_stands : {all : Bool} (left count : ℕ) (b : Bool) (k : ℕ) → IsCache all s m left count → IsCache all (stored_with s b k) m left count
+  pub home_stands : {all : Bool} (left count : ℕ) (b : Bool) (k : ℕ) → IsCache all s m left count →
+      IsCache all (stored_with s b k) m left count
   home_stands left count true k is = numbered_stands left count s.saved.generation 0 s.saved.age k is
   home_stands left count false k is = numbered_stands left count s.saved.generation s.saved.entries s.saved.age k is
 
 -- the same by what is seen
-module _ {D : Type 0} (disk : D → Disk) {d : DurableState D} {m : Memory} {all : Bool} {left count : ℕ} {order : List ℕ} {most_entries : ℕ} {s : StoreState D}
-    (view : cache_of disk d m left order most_entries ≡ s) (is : IsCache all (stored_of disk d) m left count) (new : DurableState D) (amount : ℕ) where
+module _ {D : Type 0} (disk : D → Disk) {d : DurableState D} {m : Memory} {all : Bool} {left count : ℕ} {order : List ℕ} {most_entries : ℕ}
+    {s : StoreState D}
+    (view : cache_of disk d m left order most_entries ≡ s) (is : IsCache all (stored_of disk d) m left count) (new : DurableState D)
+    (amount : ℕ) where
   home_next : (b : Bool) (k : ℕ) → stored_of disk new ≡ stored_with (stored_of disk d) b k →
       IsSeenAs all disk new m left count order most_entries (record s { durable = new })
   home_next b k put = search (arith, stored_next, home_stands, contents_home, frozen_home)
@@ -72,9 +75,12 @@ module _ {D : Type 0} (disk : D → Disk) {d : DurableState D} {m : Memory} {all
 kept_marks : (ps : List Put) → count_by (λ b. b) (map is_kept ps) ≡ kept_count ps
 unfolding sum_of
 kept_marks [] = refl
-kept_marks (Absent ∷ ps) = let total = sum_by-cons (λ b. cond b 1 0) false (map is_kept ps) in let rest = kept_marks ps in omega (arith, total, rest)
-kept_marks (Broken ∷ ps) = let total = sum_by-cons (λ b. cond b 1 0) false (map is_kept ps) in let rest = kept_marks ps in omega (arith, total, rest)
-kept_marks (Kept f ∷ ps) = let total = sum_by-cons (λ b. cond b 1 0) true (map is_kept ps) in let rest = kept_marks ps in omega (arith, total, rest)
+kept_marks (Absent ∷ ps) = let total = sum_by-cons (λ b. cond b 1 0) false (map is_kept ps) in let rest = kept_marks ps in
+    omega (arith, total, rest)
+kept_marks (Broken ∷ ps) = let total = sum_by-cons (λ b. cond b 1 0) false (map is_kept ps) in let rest = kept_marks ps in
+    omega (arith, total, rest)
+kept_marks (Kept f ∷ ps) = let total = sum_by-cons (λ b. cond b 1 0) true (map is_kept ps) in let rest = kept_marks ps in
+    omega (arith, total, rest)
 
 not_marked : (ts : List Bool) (n : ℕ) → count_by (λ b. b) ts ≡ 0 → mark_at ts n ≡ false
 not_marked ts n none = go (mark_at ts n) refl
@@ -92,7 +98,8 @@ module _ {s : Stored} {m : Memory} {all : Bool} {count : ℕ} (is : IsCache all 
       let are = is.running f f_is in
       let same : map (λ n. mark_at m.pending n || is_kept (put_at f.put n)) (range_with_len 0 (length m.pending)) ≡ map is_kept f.put =
       same_lists (map (λ n. mark_at m.pending n || is_kept (put_at f.put n)) (range_with_len 0 (length m.pending))) (map is_kept f.put)
-      (length-map-range_with_len (λ n. mark_at m.pending n || is_kept (put_at f.put n)) 0 (length m.pending) ∙ sym are.each ∙ sym (length-map f.put is_kept))
+      (length-map-range_with_len (λ n. mark_at m.pending n || is_kept (put_at f.put n)) 0 (length m.pending) ∙ sym are.each
+      ∙ sym (length-map f.put is_kept))
       (λ i b lt.
       let inside : i < length m.pending = omega
       (arith, lt, length-map-range_with_len (λ n. mark_at m.pending n || is_kept (put_at f.put n)) 0 (length m.pending)) in
@@ -133,10 +140,13 @@ module _ {s : Stored} {m : Memory} {all : Bool} {count : ℕ} (is : IsCache all 
     saved_stands = search (arith, none-some, clean_alike, saved_alike, unwritten_alike, length_over, none_pending)
 
 -- the same by what is seen
-module _ {D : Type 0} (disk : D → Disk) {d : DurableState D} {m : Memory} {all : Bool} {left count : ℕ} {order : List ℕ} {most_entries : ℕ} {s : StoreState D}
-    (view : cache_of disk d m left order most_entries ≡ s) (is : IsCache all (stored_of disk d) m left count) (f : FrozenFrames) (running : s.frozen ≡ Some f)
+module _ {D : Type 0} (disk : D → Disk) {d : DurableState D} {m : Memory} {all : Bool} {left count : ℕ} {order : List ℕ} {most_entries : ℕ}
+    {s : StoreState D}
+    (view : cache_of disk d m left order most_entries ≡ s) (is : IsCache all (stored_of disk d) m left count) (f : FrozenFrames)
+    (running : s.frozen ≡ Some f)
     (stable : f.left ≡ 0) where
-  found : (h : FrozenPuts) × ((stored_of disk d).frozen ≡ Some h) × (record { frames = frozen_in (stored_of disk d) m; size = h.size; left = left } ≡ f)
+  found : (h : FrozenPuts) × ((stored_of disk d).frozen ≡ Some h) × (record
+      { frames = frozen_in (stored_of disk d) m; size = h.size; left = left } ≡ f)
   found = running_in (frozen_in (stored_of disk d) m) left (stored_of disk d).frozen f (ap (λ t. t.frozen) view ∙ running)
 
   none_left : left ≡ 0
@@ -162,24 +172,27 @@ module _ {D : Type 0} (disk : D → Disk) {d : DurableState D} {m : Memory} {all
         MayCommit puts age h (stored_of disk d).saved
     save_ready may h at = search (arith, saved_here, overlaid_are)
 
-    next_are : (h : FrozenPuts) → (stored_of disk d).frozen ≡ Some h → next_saved puts age h (stored_of disk d).saved ≡ next_saved whole age f
-        (stored_of disk s.durable).saved
+    next_are : (h : FrozenPuts) → (stored_of disk d).frozen ≡ Some h → next_saved puts age h (stored_of disk d).saved
+        ≡ next_saved whole age f (stored_of disk s.durable).saved
     next_are h at = search (arith, same_Some, found, overlaid_are, saved_here)
 
     pub save_moments : (old new : Disk) →
-        LeavesOneOf old new (stored_of disk d).saved (option_map (λ h. next_saved puts age h (stored_of disk d).saved) (stored_of disk d).frozen)
+        LeavesOneOf old new (stored_of disk d).saved (option_map (λ h. next_saved puts age h (stored_of disk d).saved)
+        (stored_of disk d).frozen)
         →
         LeavesEither old new (stored_of disk s.durable).saved (next_saved whole age f (stored_of disk s.durable).saved)
     save_moments old new moments = search (arith, next_are, found, saved_here)
 
     pub save_next : (new : DurableState D) {T E : Type 0} (r : Result T E) →
-        ((h : FrozenPuts) → (stored_of disk d).frozen ≡ Some h → OnOk r (stored_of disk new ≡ on_snapshots (committed puts age h) (stored_of disk d))) →
-        OnErr r (stored_of disk new ≡ stored_of disk d) →
-        IsSeenAs all disk new m left count order most_entries (record s { durable = new; frozen = frozen_seen (stored_of disk new) m left }) ×
+        ((h : FrozenPuts) → (stored_of disk d).frozen ≡ Some h → OnOk r (stored_of disk new
+        ≡ on_snapshots (committed puts age h) (stored_of disk d))) → OnErr r (stored_of disk new ≡ stored_of disk d) →
+        IsSeenAs all disk new m left count order most_entries (record s { durable = new; frozen = frozen_seen (stored_of disk new) m left })
+        ×
         OnOk r (snapshots_of disk (cache_of disk new m left order most_entries) ≡ committed whole age f (snapshots_of disk s))
     save_next new (Ok x) done undone =
         let now = done found.0 found.1 in
-        let contents = ap (λ t. contents_in t m) now ∙ contents_alike (saved_alike stands_here found.0 found.1 age) ∙ ap (λ t. t.contents) view in (
+        let contents = ap (λ t. contents_in t m) now ∙ contents_alike (saved_alike stands_here found.0 found.1 age)
+        ∙ ap (λ t. t.contents) view in (
           record {
             is = subst (λ t. IsCache all t m left count) (sym now)
                 (subst (λ k. IsCache all (on_snapshots (committed puts age found.0) (stored_of disk d)) m k count) (sym none_left)
@@ -200,6 +213,7 @@ module _ {D : Type 0} (disk : D → Disk) {d : DurableState D} {m : Memory} {all
 
 -- a checkpoint with no frame left to write may be committed where each may be
 pub ready_of : (o : Option FrozenFrames) (saved : SavedFrames) (age k : ℕ) → option_map (λ f. f.left) o ≡ Some k → k ≡ 0 →
-    ((f : FrozenFrames) → o ≡ Some f → MayCommit whole age f saved) → (f : FrozenFrames) × (o ≡ Some f) × (f.left ≡ 0) × MayCommit whole age f saved
+    ((f : FrozenFrames) → o ≡ Some f → MayCommit whole age f saved) → (f : FrozenFrames) × (o ≡ Some f) × (f.left ≡ 0)
+    × MayCommit whole age f saved
 ready_of None saved age k is none may = absurd (none-some k is)
 ready_of (Some f) saved age k is none may = (f, refl, same_Some f.left k is ∙ none, may f refl)

@@ -50,7 +50,8 @@ module _ {s : Stored} {m : Memory} {all : Bool} {left count : ℕ} (is : IsCache
     masked_here : masked (header_at m.headers n).role (content_at s m n) ≡ content_at s m n
     masked_here = ap (λ r. masked r (content_at s m n)) role_is
 
-    fresh : (p : Put) → entry_at m.entries n ≡ None → put_at s.working n ≡ p → ((c : Content Cap) → put_body p c ≡ c) → content_at after m n ≡ content_at s m n
+    fresh : (p : Put) → entry_at m.entries n ≡ None → put_at s.working n ≡ p → ((c : Content Cap) → put_body p c ≡ c) →
+        content_at after m n ≡ content_at s m n
     fresh p at put bare = search (arith, no_staging, below_here, page_is, masked_here)
 
     here_by : (o : Option Entry) (p : Put) → entry_at m.entries n ≡ o → put_at s.working n ≡ p → content_at after m n ≡ content_at s m n
@@ -61,7 +62,8 @@ module _ {s : Stored} {m : Memory} {all : Bool} {left count : ℕ} (is : IsCache
 
     content_same : (k : ℕ) → content_at after m k ≡ content_at s m k
     content_same k = elim (cases_eq k n) [
-      | inl same ↦ ap (content_at after m) same ∙ (here_by (entry_at m.entries n) (put_at s.working n) refl refl) ∙ sym (ap (content_at s m) same)
+      | inl same ↦ ap (content_at after m) same ∙ (here_by (entry_at m.entries n) (put_at s.working n) refl refl)
+          ∙ sym (ap (content_at s m) same)
       | inr other ↦ rw (below_other k other)
     ]
 
@@ -91,17 +93,20 @@ module _ {s : Stored} {m : Memory} {all : Bool} {left count : ℕ} (is : IsCache
     journal_frozen = search arith
 
 -- an answer depends on whether a checkpoint is on its way, and on nothing else of it
-pub answer_same : {F : Type 0} (f g : F → ℕ) (o : Option F) (old new : Disk) (saved : SavedFrames) (is_known is_page is_saved : Bool) (r : Result ℕ Refusal) →
-    IsJournalAnswer old new (option_map f o) saved is_known is_page is_saved r → IsJournalAnswer old new (option_map g o) saved is_known is_page is_saved r
+pub answer_same : {F : Type 0} (f g : F → ℕ) (o : Option F) (old new : Disk) (saved : SavedFrames) (is_known is_page is_saved : Bool)
+    (r : Result ℕ Refusal) → IsJournalAnswer old new (option_map f o) saved is_known is_page is_saved r →
+    IsJournalAnswer old new (option_map g o) saved is_known is_page is_saved r
 answer_same {F} f g o old new saved is_known is_page is_saved r reported = search (arith, none-some)
 
 -- its words matter only if it is a page
-next_words : {F : Type 0} (age n : ℕ) (ws vs : List ℕ) (o : Option F) (saved : SavedFrames) (is_page is_saved : Bool) → (o ≡ None → is_page ≡ true → ws ≡ vs) →
-    next_journaled {F = F} age n ws o saved is_page is_saved ≡ next_journaled {F = F} age n vs o saved is_page is_saved
+next_words : {F : Type 0} (age n : ℕ) (ws vs : List ℕ) (o : Option F) (saved : SavedFrames) (is_page is_saved : Bool) →
+    (o ≡ None → is_page ≡ true → ws ≡ vs) → next_journaled {F = F} age n ws o saved is_page is_saved
+    ≡ next_journaled {F = F} age n vs o saved is_page is_saved
 next_words {F} age n ws vs o saved is_page is_saved same = search arith
 
 -- the same by what is seen
-module _ {D : Type 0} (disk : D → Disk) {d : DurableState D} {m : Memory} {all : Bool} {left count : ℕ} {order : List ℕ} {most_entries : ℕ} {s : StoreState D}
+module _ {D : Type 0} (disk : D → Disk) {d : DurableState D} {m : Memory} {all : Bool} {left count : ℕ} {order : List ℕ} {most_entries : ℕ}
+    {s : StoreState D}
     (view : cache_of disk d m left order most_entries ≡ s) (is : IsCache all (stored_of disk d) m left count) (n : ℕ)
     (keepable : AreKeepable (stored_of disk s.durable).saved.geometry most (frames_in s.headers s.contents)) where
   abbrev st : Stored
@@ -120,14 +125,25 @@ module _ {D : Type 0} (disk : D → Disk) {d : DurableState D} {m : Memory} {all
   journal_object page = let within = known page in omega (arith, within, is.headers)
 
   content_page : is_page_role header.role ≡ true → is_page (content_at st m n) ≡ true
-  content_page page = search (arith, known page, frame_in m.headers (contents_in st m) n (known page), content_is_page, content_in, role_is_page)
+  content_page page = search (
+    arith,
+    known page,
+    frame_in m.headers (contents_in st m) n (known page),
+    content_is_page,
+    content_in,
+    role_is_page,
+  )
 
   pub journal_page : (stored_of disk d).frozen ≡ None → is_page_role (header_at m.headers n).role ≡ true →
       is_page (held_now m.entries (stored_of disk d) n) ≡ true
   journal_page none page = subst (λ c. is_page c ≡ true) (page_held is none n (role_is_page header.role page)) (content_page page)
 
   words_seen : st.frozen ≡ None → is_page_role header.role ≡ true → words_in (held_now m.entries st n) ≡ words_in (held_at s.contents n)
-  words_seen none page = rw (← page_held is none n (role_is_page header.role page), sym (content_in st m n (known page)) ∙ ap (λ t. held_at t.contents n) view)
+  words_seen none page = rw (
+    ← page_held is none n (role_is_page header.role page),
+    sym (content_in st m n (known page))
+        ∙ ap (λ t. held_at t.contents n) view,
+  )
 
   module _ (new : DurableState D) (age : ℕ) where
     abbrev IsThere : Type 0
@@ -142,7 +158,8 @@ module _ {D : Type 0} (disk : D → Disk) {d : DurableState D} {m : Memory} {all
 
     pub journal_next : {T E : Type 0} (r : Result T E) → OnOk r IsThere → OnOk r IsDone → OnErr r (stored_of disk new ≡ st) →
         IsSeenAs all disk new m left count order most_entries (record s { durable = new }) ×
-        OnOk r (snapshots_of disk (cache_of disk new m left order most_entries) ≡ journaled age n (words_in (held_at s.contents n)) (snapshots_of disk s)) ×
+        OnOk r (snapshots_of disk (cache_of disk new m left order most_entries)
+        ≡ journaled age n (words_in (held_at s.contents n)) (snapshots_of disk s)) ×
         OnErr r (snapshots_of disk (cache_of disk new m left order most_entries) ≡ snapshots_of disk s)
     journal_next (Ok x) there done undone =
         let none = none_of left_of st.frozen there.0 in
@@ -153,7 +170,8 @@ module _ {D : Type 0} (disk : D → Disk) {d : DurableState D} {m : Memory} {all
           next,
           ap (snapshots_of disk) next.view
               ∙ ap (λ t. let a : Snapshots FrozenFrames = record { frozen = s.frozen; saved = t.saved; to_move = t.to_move } in a) done
-              ∙ ap (λ ws. journaled age n ws (record { frozen = s.frozen; saved = st.saved; to_move = st.to_move })) (words_seen none there.1)
+              ∙ ap (λ ws. journaled age n ws (record { frozen = s.frozen; saved = st.saved; to_move = st.to_move }))
+              (words_seen none there.1)
               ∙ ap (λ t. journaled age n (words_in (held_at s.contents n))
               (record { frozen = s.frozen; saved = (stored_of disk t.durable).saved; to_move = (stored_of disk t.durable).to_move })) view,
           tt,
@@ -167,12 +185,13 @@ module _ {D : Type 0} (disk : D → Disk) {d : DurableState D} {m : Memory} {all
 
     -- how many are left of a checkpoint on its way
     left_seen : (o : Option FrozenPuts) →
-        option_map (λ (f : FrozenFrames). f.left) (option_map (λ (f : FrozenPuts). record { frames = frozen_in st m; size = f.size; left = left }) o) ≡
+        option_map (λ (f : FrozenFrames). f.left) (option_map (λ (f : FrozenPuts). record
+        { frames = frozen_in st m; size = f.size; left = left }) o) ≡
         option_map (λ f. left) o
     left_seen o = search arith
 
-    pub answer_seen : (r : Result ℕ Refusal) → IsJournalAnswer (disk d.beneath) (disk new.beneath) (option_map left_of (stored_of disk d).frozen)
-        (stored_of disk d).saved
+    pub answer_seen : (r : Result ℕ Refusal) → IsJournalAnswer (disk d.beneath) (disk new.beneath)
+        (option_map left_of (stored_of disk d).frozen) (stored_of disk d).saved
         (nat_lt n (length m.headers)) (is_page_role (header_at m.headers n).role)
         (journal.is_same_page (header_at m.headers n).allocations (frame_at (stored_of disk d).saved.frames n)) r →
         IsJournalAnswer (disk s.durable.beneath) (disk new.beneath) (option_map (λ f. f.left) s.frozen) (stored_of disk s.durable).saved
@@ -182,8 +201,9 @@ module _ {D : Type 0} (disk : D → Disk) {d : DurableState D} {m : Memory} {all
 
     pub moments_seen : LeavesOneOf (disk d.beneath) (disk new.beneath) (stored_of disk d).saved
         (next_journaled age n (words_in (held_now m.entries (stored_of disk d) n)) (stored_of disk d).frozen (stored_of disk d).saved
-        (is_page_role (header_at m.headers n).role) (journal.is_same_page (header_at m.headers n).allocations (frame_at (stored_of disk d).saved.frames n))) →
-        LeavesOneOf (disk s.durable.beneath) (disk new.beneath) (stored_of disk s.durable).saved
+        (is_page_role (header_at m.headers n).role) (journal.is_same_page (header_at m.headers n).allocations
+        (frame_at (stored_of disk d).saved.frames n))) → LeavesOneOf (disk s.durable.beneath) (disk new.beneath)
+        (stored_of disk s.durable).saved
         (next_journaled age n (words_in (held_at s.contents n)) s.frozen (stored_of disk s.durable).saved
         (is_page_role (header_at s.headers n).role)
         (journal.is_same_page (header_at s.headers n).allocations (frame_at (stored_of disk s.durable).saved.frames n)))
@@ -194,18 +214,20 @@ module _ {D : Type 0} (disk : D → Disk) {d : DurableState D} {m : Memory} {all
 words_read : (b : Body) (slots : List Cap) (ws : List ℕ) → is_page (content_of b slots ws) ≡ true → ws ≡ words_in (content_of b slots ws)
 words_read other slots ws page = search arith
 
-pub read_words : (read : ObjectHeader × Body) (room : Scratch) (f : Frame) → frame_of read room ≡ f → is_page f.content ≡ true → room.words ≡ words_in f.content
+pub read_words : (read : ObjectHeader × Body) (room : Scratch) (f : Frame) → frame_of read room ≡ f → is_page f.content ≡ true →
+    room.words ≡ words_in f.content
 read_words read room f found page = search (arith, words_read)
 
 -- what a crash leaves while it is read, and then is saved
-pub read_first : {D : Type 0} (disk : D → Disk) (a b : DurableState D) (new : Disk) (age n : ℕ) (vs ws : List ℕ) → ReadsStore disk a b → is_sound disk a →
-    vs ≡ ws →
+pub read_first : {D : Type 0} (disk : D → Disk) (a b : DurableState D) (new : Disk) (age n : ℕ) (vs ws : List ℕ) → ReadsStore disk a b →
+    is_sound disk a → vs ≡ ws →
     LeavesEither (disk b.beneath) new (stored_of disk b).saved (journaled_saved age n vs (stored_of disk b).saved) →
     LeavesEither (disk a.beneath) new (stored_of disk a).saved (journaled_saved age n ws (stored_of disk a).saved)
 read_first {D} disk a b new age n vs ws reads sound same moments = search (arith, leaves_on, leaves_weaker)
 
 -- what a page holds now, by whether it has an entry
-pub held_is : (es : List (Option Entry)) (s : Stored) (n : ℕ) (c : Content Cap) → option_map present_of (entry_at es n) ≡ Some c → held_now es s n ≡ c
+pub held_is : (es : List (Option Entry)) (s : Stored) (n : ℕ) (c : Content Cap) → option_map present_of (entry_at es n) ≡ Some c →
+    held_now es s n ≡ c
 held_is es s n c is = search (arith, none-some, same_Some)
 
 pub held_newest : (es : List (Option Entry)) (s : Stored) (n : ℕ) → is_some (entry_at es n) ≡ false → held_now es s n ≡ (newest s n).content

@@ -27,7 +27,8 @@ pub one_fewer : (t : List Bool) (n : ℕ) → get_or t n false ≡ true → coun
 one_fewer t n marked = search (arith, sum_by-set, marked_within)
 
 -- a mark that is set for the first time is one more
-pub touched_count-set : (t : List Bool) (n : ℕ) → n < length t → get_or t n false ≡ false → touched_count (set t n true) ≡ touched_count t + 1
+pub touched_count-set : (t : List Bool) (n : ℕ) → n < length t → get_or t n false ≡ false →
+    touched_count (set t n true) ≡ touched_count t + 1
 touched_count-set t n inside unmarked = search (arith, sum_by-set)
 
 -- a mark that is there stays
@@ -50,7 +51,8 @@ one_more_at_most t n = elim (cases_lt n (length t)) [
 
 pub at_most_the_length : (t : List Bool) (ns : List ℕ) → touched_count (touching t ns) ≤ touched_count t + length ns
 at_most_the_length t [] = omega arith
-at_most_the_length t (n ∷ ns) = let rest = at_most_the_length (set t n true) ns in let one = one_more_at_most t n in omega (arith, rest, one)
+at_most_the_length t (n ∷ ns) = let rest = at_most_the_length (set t n true) ns in let one = one_more_at_most t n in
+    omega (arith, rest, one)
 
 -- what is marked stays marked
 pub still_set : (t : List Bool) (m n : ℕ) → get_or t n false ≡ true → get_or (set t m true) n false ≡ true
@@ -66,9 +68,11 @@ first_listed : (t : List Bool) (m : ℕ) (ns : List ℕ) (n : ℕ) (b : Bool) �
     (b || list_any (λ y. eqb y n) ns) ≡ true → get_or (touching (set t m true) ns) n false ≡ true
 first_listed t m ns n b same inside later listed = search (arith, still_marked, eqb-true, get_or-set_same)
 
-listed_marked : (t : List Bool) (ns : List ℕ) (n : ℕ) → n < length t → list_any (λ y. eqb y n) ns ≡ true → get_or (touching t ns) n false ≡ true
+listed_marked : (t : List Bool) (ns : List ℕ) (n : ℕ) → n < length t → list_any (λ y. eqb y n) ns ≡ true →
+    get_or (touching t ns) n false ≡ true
 listed_marked t [] n inside listed = cc
-listed_marked t (m ∷ ns) n inside listed = first_listed t m ns n (eqb m n) refl inside (listed_marked (set t m true) ns n (rw length-set inside)) listed
+listed_marked t (m ∷ ns) n inside listed = first_listed t m ns n (eqb m n) refl inside
+    (listed_marked (set t m true) ns n (rw length-set inside)) listed
 
 -- what is neither marked nor listed isn't marked
 first_unlisted : (t : List Bool) (m : ℕ) (ns : List ℕ) (n : ℕ) (b : Bool) → eqb m n ≡ b → get_or t n false ≡ false →
@@ -79,7 +83,8 @@ first_unlisted t m ns n b same unmarked later unlisted = search (arith, get_or-s
 unlisted_unmarked : (t : List Bool) (ns : List ℕ) (n : ℕ) → get_or t n false ≡ false → list_any (λ y. eqb y n) ns ≡ false →
     get_or (touching t ns) n false ≡ false
 unlisted_unmarked t [] n unmarked unlisted = unmarked
-unlisted_unmarked t (m ∷ ns) n unmarked unlisted = first_unlisted t m ns n (eqb m n) refl unmarked (unlisted_unmarked (set t m true) ns n) unlisted
+unlisted_unmarked t (m ∷ ns) n unmarked unlisted = first_unlisted t m ns n (eqb m n) refl unmarked (unlisted_unmarked (set t m true) ns n)
+    unlisted
 
 -- the next number of a list: new, listed before, or marked at first
 pub touched_count_new : (t : List Bool) (ns : List ℕ) (i : ℕ) → i < length ns → get_or ns i 0 < length t →
@@ -87,7 +92,8 @@ pub touched_count_new : (t : List Bool) (ns : List ℕ) (i : ℕ) → i < length
     touched_count (touching t (take (i + 1) ns)) ≡ touched_count (touching t (take i ns)) + 1
 touched_count_new t ns i inside known unmarked unlisted =
     rw (take_more ns i 0 inside, touching-append t (take i ns) (get_or ns i 0 ∷ []))
-    (touched_count-set (touching t (take i ns)) (get_or ns i 0) (rw length-touching known) (unlisted_unmarked t (take i ns) (get_or ns i 0) unmarked unlisted))
+    (touched_count-set (touching t (take i ns)) (get_or ns i 0) (rw length-touching known)
+    (unlisted_unmarked t (take i ns) (get_or ns i 0) unmarked unlisted))
 
 pub touched_count_listed : (t : List Bool) (ns : List ℕ) (i : ℕ) → i < length ns → get_or ns i 0 < length t →
     list_any (λ y. eqb y (get_or ns i 0)) (take i ns) ≡ true →
@@ -104,5 +110,6 @@ touched_count_marked t ns i inside known marked =
     (ap touched_count (set-marked (touching t (take i ns)) (get_or ns i 0) (still_marked t (take i ns) (get_or ns i 0) marked)))
 
 -- one number more is marked after the others
-pub touching_more : (t : List Bool) (ns : List ℕ) (i : ℕ) → i < length ns → touching t (take (i + 1) ns) ≡ set (touching t (take i ns)) (get_or ns i 0) true
+pub touching_more : (t : List Bool) (ns : List ℕ) (i : ℕ) → i < length ns →
+    touching t (take (i + 1) ns) ≡ set (touching t (take i ns)) (get_or ns i 0) true
 touching_more t ns i inside = rw (take_more ns i 0 inside, touching-append t (take i ns) (get_or ns i 0 ∷ [])) refl

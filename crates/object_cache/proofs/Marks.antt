@@ -22,11 +22,13 @@ marked_or ts (n ∷ ns) k = elim (cases_eq k n) [
 ]
 
 -- what is listed is marked
-listed_by : (ts : List Bool) (ns : List ℕ) (i k : ℕ) → i < length ns → slice_index_or ns i k ≡ k → k < length ts → mark_at (touching ts ns) k ≡ true
+listed_by : (ts : List Bool) (ns : List ℕ) (i k : ℕ) → i < length ns → slice_index_or ns i k ≡ k → k < length ts →
+    mark_at (touching ts ns) k ≡ true
 listed_by ts [] i k lt is within = absurd (omega (arith, lt))
 listed_by ts (n ∷ ns) zero k lt is within = still_marked (set ts n true) ns k
     (subst (λ j. mark_at (set ts n true) j ≡ true) is (get_or-set_same ts n true false (omega (arith, within, is))))
-listed_by ts (n ∷ ns) (suc i) k lt is within = listed_by (set ts n true) ns i k (omega (arith, lt)) is (omega (arith, within, length-set ts n true))
+listed_by ts (n ∷ ns) (suc i) k lt is within = listed_by (set ts n true) ns i k (omega (arith, lt)) is
+    (omega (arith, within, length-set ts n true))
 
 pub listed_is_marked : (ts : List Bool) (ns : List ℕ) (k : ℕ) → Contains ns k → k < length ts → mark_at (touching ts ns) k ≡ true
 listed_is_marked ts ns k has within = listed_by ts ns has.0 k has.1 has.2 within
@@ -51,7 +53,8 @@ frozen_state_marked o pending touched frozen_state = search arith
 abbrev pub marking : List ℕ → Memory → Memory
 marking ns m = record m { touched = touching m.touched ns; dirty = touching m.dirty ns }
 
-module _ {s : Stored} {m : Memory} {all : Bool} {left count : ℕ} (is : IsCache all s m left count) (ns : List ℕ) (known : (n : ℕ) → Contains ns n → n < length m.headers)
+module _ {s : Stored} {m : Memory} {all : Bool} {left count : ℕ} (is : IsCache all s m left count) (ns : List ℕ)
+    (known : (n : ℕ) → Contains ns n → n < length m.headers)
     (apart : (n : ℕ) → Contains ns n → frozen_state_in_memory m n ≢ Shared) where
   touched_here : (k : ℕ) → Contains ns k → mark_at (touching m.touched ns) k ≡ true
   touched_here k has = listed_is_marked m.touched ns k has (let there = known k has in omega (arith, there, is.headers, is.marks))
@@ -73,9 +76,11 @@ module _ {s : Stored} {m : Memory} {all : Bool} {left count : ℕ} (is : IsCache
   unmarked : (ts : List Bool) (k : ℕ) → mark_at (touching ts ns) k ≡ false → mark_at ts k ≡ false
   unmarked ts k none = search (arith, still_marked)
 
-  pub marked_cache : (total : ℕ) → total ≡ touched_count (touching m.touched ns) → total ≤ s.saved.geometry.log → IsCache all s (marking ns m) left total
+  pub marked_cache : (total : ℕ) → total ≡ touched_count (touching m.touched ns) → total ≤ s.saved.geometry.log →
+      IsCache all s (marking ns m) left total
   marked_cache total counted few =
-      let marked : (k : ℕ) → mark_at (touching m.dirty ns) k ≡ true → mark_at (touching m.touched ns) k ≡ true = λ k dirty. elim (marked_or m.dirty ns k) [
+      let marked : (k : ℕ) → mark_at (touching m.dirty ns) k ≡ true → mark_at (touching m.touched ns) k ≡ true =
+      λ k dirty. elim (marked_or m.dirty ns k) [
         | inl as_it_was ↦ still_marked m.touched ns k (is.marked k (sym as_it_was ∙ dirty))
         | inr has ↦ touched_here k has
       ] in
@@ -92,7 +97,8 @@ module _ {s : Stored} {m : Memory} {all : Bool} {left count : ℕ} (is : IsCache
       search (is, keepable_alike marked_alike is, length-touching m.touched ns ∙ is.marks, length-touching m.dirty ns ∙ is.dirty_marks)
 
 -- the same by what is seen
-module _ {D : Type 0} (disk : D → Disk) {d : DurableState D} {m : Memory} {all : Bool} {left count : ℕ} {order : List ℕ} {most_entries : ℕ} {s : StoreState D}
+module _ {D : Type 0} (disk : D → Disk) {d : DurableState D} {m : Memory} {all : Bool} {left count : ℕ} {order : List ℕ} {most_entries : ℕ}
+    {s : StoreState D}
     (view : cache_of disk d m left order most_entries ≡ s) (is : IsCache all (stored_of disk d) m left count) (ns : List ℕ)
     (known : (n : ℕ) → Contains ns n → n < length s.headers)
     (apart : (n : ℕ) → Contains ns n → frozen_state_at s.frozen_state n ≢ Shared) where
@@ -100,13 +106,15 @@ module _ {D : Type 0} (disk : D → Disk) {d : DurableState D} {m : Memory} {all
   known_here n has = let there = known n has in omega (arith, there, ap (λ t. length t.headers) view)
 
   apart_here : (n : ℕ) → Contains ns n → frozen_state_in_memory m n ≢ Shared
-  apart_here n has shared = apart n has (ap (λ t. frozen_state_at t.frozen_state n) (sym view) ∙ frozen_state_entry m n (known_here n has) ∙ shared)
+  apart_here n has shared = apart n has (ap (λ t. frozen_state_at t.frozen_state n) (sym view) ∙ frozen_state_entry m n (known_here n has)
+      ∙ shared)
 
   pub mark_stands : (total : ℕ) → total ≡ touched_count (touching m.touched ns) → total ≤ (stored_of disk d).saved.geometry.log →
       IsCache all (stored_of disk d) (marking ns m) left total
   mark_stands = marked_cache is ns known_here apart_here
 
-  pub mark_seen : cache_of disk d (marking ns m) left order most_entries ≡ record s { touched = touching s.touched ns; dirty = touching s.dirty ns }
+  pub mark_seen : cache_of disk d (marking ns m) left order most_entries ≡ record s
+      { touched = touching s.touched ns; dirty = touching s.dirty ns }
   unfolding contents_in
   mark_seen =
       (λ k. record (cache_of disk d m left order most_entries) {
@@ -125,7 +133,8 @@ module _ {D : Type 0} (disk : D → Disk) where
         GoesOnIn disk s (record s { touched = ts; dirty = ds })
     mark_continues s ts ds grows = search (arith, goes_none, peeks_started)
 
-module _ {D : Type 0} (disk : D → Disk) {d : DurableState D} {m : Memory} {all : Bool} {left count : ℕ} {order : List ℕ} {most_entries : ℕ} {s : StoreState D}
+module _ {D : Type 0} (disk : D → Disk) {d : DurableState D} {m : Memory} {all : Bool} {left count : ℕ} {order : List ℕ} {most_entries : ℕ}
+    {s : StoreState D}
     (view : cache_of disk d m left order most_entries ≡ s) (is : IsCache all (stored_of disk d) m left count) where
   -- what is marked may be written
   pub marked_announced : (ns : List ℕ) (n : ℕ) → n < length s.headers → Contains ns n →
@@ -137,10 +146,12 @@ module _ {D : Type 0} (disk : D → Disk) {d : DurableState D} {m : Memory} {all
     dirty_already : (n : ℕ) → Contains ns n → mark_at m.dirty n ≡ true
     dirty_already n has =
         ap (λ ts. mark_at ts n) (sym same)
-        ∙ listed_is_marked m.dirty ns n has (let there = known n has in omega (arith, there, is.headers, is.dirty_marks, ap (λ t. length t.headers) view))
+        ∙ listed_is_marked m.dirty ns n has (let there = known n has in omega
+        (arith, there, is.headers, is.dirty_marks, ap (λ t. length t.headers) view))
 
     pub ready_touched : touching s.touched ns ≡ s.touched
-    ready_touched = subst (λ t. touching t.touched ns ≡ t.touched) view (all_marked m.touched ns (λ n has. is.marked n (dirty_already n has)))
+    ready_touched = subst (λ t. touching t.touched ns ≡ t.touched) view (all_marked m.touched ns
+        (λ n has. is.marked n (dirty_already n has)))
 
     pub ready_announced : (n : ℕ) → Contains ns n → IsAnnouncedIn s n
     ready_announced n has = search (arith, known n has, ap (λ t. mark_at t.dirty n) (sym view) ∙ dirty_already n has, contents_count)

@@ -65,7 +65,8 @@ pub record Changes (m : Memory) (hs : List ObjectHeader) (es : List (Option Entr
   pub role : entry_at es n ≡ None → ((header_at hs n).role ≡ (header_at m.headers n).role) ⊎ ((header_at hs n).role ≡ role.Free)
 
 -- of an object written since it was frozen the frozen body isn't the present one
-by_kept : (o p : Option Entry) (below : Content Cap) → option_map kept_of o ≡ option_map kept_of p → frozen_body o true below ≡ frozen_body p true below
+by_kept : (o p : Option Entry) (below : Content Cap) → option_map kept_of o ≡ option_map kept_of p →
+    frozen_body o true below ≡ frozen_body p true below
 by_kept o p below same = search (arith, none-some, same_Some)
 
 kept_some : (o p : Option Entry) → option_map kept_of o ≡ option_map kept_of p → IsSome p → IsSome o
@@ -86,7 +87,8 @@ module _ (s : Stored) {m : Memory} {hs : List ObjectHeader} {es : List (Option E
   present_elsewhere k other = search (arith, content_elsewhere)
 
   -- what all objects hold, by what the changed one does
-  pub contents_changed : (c : Content Cap) → n < length m.headers → content_at s changed n ≡ c → contents_in s changed ≡ set (contents_in s m) n c
+  pub contents_changed : (c : Content Cap) → n < length m.headers → content_at s changed n ≡ c →
+      contents_in s changed ≡ set (contents_in s m) n c
   unfolding contents_in
   contents_changed c within here = search (arith, map_set, content_elsewhere)
 
@@ -128,10 +130,22 @@ module _ (s : Stored) {m : Memory} {hs : List ObjectHeader} {es : List (Option E
     some_here some = kept_some (entry_at es n) (entry_at m.entries n) change.kept some
 
     whole_still : all ≡ true → (k : ℕ) → k < length m.headers → IsSome (entry_at es k)
-    whole_still is_all = of_each n (λ within. some_here (is.whole is_all n within)) (λ k other. rw (change.entries k other) (is.whole is_all k))
+    whole_still is_all = of_each n (λ within. some_here (is.whole is_all n within))
+        (λ k other. rw (change.entries k other) (is.whole is_all k))
 
     pub still_cache : IsCache all s changed left count
-    still_cache = search (arith, present_elsewhere, unmarked, touched_here, frozen_stays, frozen_same, of_each, apart_here, none_here, whole_still)
+    still_cache = search (
+      arith,
+      present_elsewhere,
+      unmarked,
+      touched_here,
+      frozen_stays,
+      frozen_same,
+      of_each,
+      apart_here,
+      none_here,
+      whole_still,
+    )
 
 -- ---- what is seen of a cache after one object was changed
 
@@ -146,7 +160,8 @@ kept_stays f o = search arith
 
 present_kept : (f : Content Cap → Content Cap) (n : ℕ) (es : List (Option Entry)) → n < length es →
     option_map kept_of (entry_at (with_entry (changing f) n es) n) ≡ option_map kept_of (entry_at es n)
-present_kept f n es within = ap (option_map kept_of) (get_or-set_same es n (option_map (changing f) (entry_at es n)) None within) ∙ kept_stays f (entry_at es n)
+present_kept f n es within = ap (option_map kept_of) (get_or-set_same es n (option_map (changing f) (entry_at es n)) None within)
+    ∙ kept_stays f (entry_at es n)
 
 -- the same numbers have entries
 pub cached_stay : (change : Entry → Entry) (n : ℕ) (es : List (Option Entry)) → cached_in (with_entry change n es) ≡ cached_in es
@@ -158,7 +173,8 @@ edit_changes : (m : Memory) (n : ℕ) (h : ObjectHeader) (f : Content Cap → Co
     (entry_at m.entries n ≡ None → h.role ≡ role.Free) → Changes m (set m.headers n h) (with_entry (changing f) n m.entries) n
 edit_changes m n h f within entry_within free = search (arith, length-set, get_or-set_other, present_kept, get_or-set_same, none_of)
 
-body_changes : (m : Memory) (n : ℕ) (f : Content Cap → Content Cap) → n < length m.entries → Changes m m.headers (with_entry (changing f) n m.entries) n
+body_changes : (m : Memory) (n : ℕ) (f : Content Cap → Content Cap) → n < length m.entries →
+    Changes m m.headers (with_entry (changing f) n m.entries) n
 body_changes m n f within = search (arith, length-set, get_or-set_other, present_kept)
 
 -- what it holds then: where it is free without an entry, nothing
@@ -193,20 +209,23 @@ pub some_of : (o : Option Entry) → IsSome o → (e : Entry) × (o ≡ Some e)
 some_of o is = search arith
 
 -- the entries of a cache are no more than its capacity
-pub bounded_seen : {D : Type 0} (disk : D → Disk) {d : DurableState D} {m : Memory} {all : Bool} {left count : ℕ} {order : List ℕ} {most_entries : ℕ} {s : StoreState D} →
-    cache_of disk d m left order most_entries ≡ s → IsCache all (stored_of disk d) m left count →
+pub bounded_seen : {D : Type 0} (disk : D → Disk) {d : DurableState D} {m : Memory} {all : Bool} {left count : ℕ} {order : List ℕ}
+    {most_entries : ℕ} {s : StoreState D} → cache_of disk d m left order most_entries ≡ s → IsCache all (stored_of disk d) m left count →
     AreOrdered (record { at = m.entries; order = order; most = most_entries }) → IsBounded s
 bounded_seen {D} disk {d} {m} {left} {count} {order} {most_entries} {s} view is are = search (arith, cached_entry)
 
-pub present_is : (o : Option Entry) (c : Content Cap) (r : Role) (newest : Content Cap) → option_map present_of o ≡ Some c → present_body o r newest ≡ c
+pub present_is : (o : Option Entry) (c : Content Cap) (r : Role) (newest : Content Cap) → option_map present_of o ≡ Some c →
+    present_body o r newest ≡ c
 present_is o c r newest is = search (arith, none-some, same_Some)
 
 pub contents_count : (s : Stored) (m : Memory) → length (contents_in s m) ≡ length m.headers
 unfolding contents_in
 contents_count s m = length-map-range_with_len (content_at s m) 0 (length m.headers)
 
-module _ {D : Type 0} (disk : D → Disk) {d : DurableState D} {m : Memory} {all : Bool} {left count : ℕ} {order : List ℕ} {most_entries : ℕ} {s : StoreState D}
-    (view : cache_of disk d m left order most_entries ≡ s) (is : IsCache all (stored_of disk d) m left count) {n : ℕ} (fetched : IsFetchedIn s n) where
+module _ {D : Type 0} (disk : D → Disk) {d : DurableState D} {m : Memory} {all : Bool} {left count : ℕ} {order : List ℕ} {most_entries : ℕ}
+    {s : StoreState D}
+    (view : cache_of disk d m left order most_entries ≡ s) (is : IsCache all (stored_of disk d) m left count) {n : ℕ}
+    (fetched : IsFetchedIn s n) where
   pub entry_some : IsSome (entry_at m.entries n)
   entry_some = sym (cached_entry m.entries n) ∙ ap (λ t. cached_at t.cached n) view ∙ fetched.cached
 
@@ -222,10 +241,11 @@ module _ {D : Type 0} (disk : D → Disk) {d : DurableState D} {m : Memory} {all
 
 -- ---- another durable store below the same memory
 
-pub stored_next : {D : Type 0} (disk : D → Disk) {d new : DurableState D} {m : Memory} {all : Bool} {left count : ℕ} {order : List ℕ} {most_entries : ℕ} {s : StoreState D} →
-    cache_of disk d m left order most_entries ≡ s → {t : Stored} → stored_of disk new ≡ t → IsCache all t m left count →
-    contents_in t m ≡ contents_in (stored_of disk d) m → frozen_seen t m left ≡ frozen_seen (stored_of disk d) m left →
-    IsSeenAs all disk new m left count order most_entries (record s { durable = new })
+pub stored_next : {D : Type 0} (disk : D → Disk) {d new : DurableState D} {m : Memory} {all : Bool} {left count : ℕ} {order : List ℕ}
+    {most_entries : ℕ} {s : StoreState D} → cache_of disk d m left order most_entries ≡ s → {t : Stored} → stored_of disk new ≡ t →
+    IsCache all t m left count → contents_in t m ≡ contents_in (stored_of disk d) m →
+    frozen_seen t m left ≡ frozen_seen (stored_of disk d) m left → IsSeenAs all disk new m left count order most_entries
+    (record s { durable = new })
 stored_next {D} disk {d} {new} {m} {left} {count} {order} {most_entries} {s} view {t} put is contents frozen = search arith
 
 -- ---- an object that may be written
@@ -236,8 +256,10 @@ pub record IsKnown (m : Memory) (n : ℕ) : Type 0 where
   pub dirty : mark_at m.dirty n ≡ true
   pub touched : mark_at m.touched n ≡ true
 
-module _ {D : Type 0} (disk : D → Disk) {d : DurableState D} {m : Memory} {all : Bool} {left count : ℕ} {order : List ℕ} {most_entries : ℕ} {s : StoreState D}
-    (view : cache_of disk d m left order most_entries ≡ s) (is : IsCache all (stored_of disk d) m left count) {n : ℕ} (announced : IsAnnouncedIn s n) where
+module _ {D : Type 0} (disk : D → Disk) {d : DurableState D} {m : Memory} {all : Bool} {left count : ℕ} {order : List ℕ} {most_entries : ℕ}
+    {s : StoreState D}
+    (view : cache_of disk d m left order most_entries ≡ s) (is : IsCache all (stored_of disk d) m left count) {n : ℕ}
+    (announced : IsAnnouncedIn s n) where
   abbrev IsNow : Memory → StoreState D → Type 0
   IsNow then t = IsSeenAs all disk d then left count order most_entries t
 
@@ -251,13 +273,15 @@ module _ {D : Type 0} (disk : D → Disk) {d : DurableState D} {m : Memory} {all
   announced_entry = known.entry
 
   module _ {hs : List ObjectHeader} {es : List (Option Entry)} (change : Changes m hs es n) where
-    edit_seen : {cs : List (Content Cap)} → cached_in es ≡ cached_in m.entries → contents_in (stored_of disk d) (with_objects m hs es) ≡ cs →
-        cache_of disk d (with_objects m hs es) left order most_entries ≡ record (cache_of disk d m left order most_entries) { headers = hs; contents = cs }
+    edit_seen : {cs : List (Content Cap)} → cached_in es ≡ cached_in m.entries →
+        contents_in (stored_of disk d) (with_objects m hs es) ≡ cs → cache_of disk d (with_objects m hs es) left order most_entries
+        ≡ record (cache_of disk d m left order most_entries) { headers = hs; contents = cs }
     edit_seen {cs} cached contents = search (arith, frozen_state_same, known, frozen_same)
 
   -- another header of the same role
   pub header_becomes : (h : ObjectHeader → ObjectHeader) → ((x : ObjectHeader) → (h x).role ≡ x.role) →
-      IsNow (with_objects m (set m.headers n (h (header_at m.headers n))) m.entries) (record s { headers = set s.headers n (h (header_at s.headers n)) })
+      IsNow (with_objects m (set m.headers n (h (header_at m.headers n))) m.entries)
+      (record s { headers = set s.headers n (h (header_at s.headers n)) })
   header_becomes h same =
       let x = header_at m.headers n in
       let change = header_changes m n (h x) known.header (same x) in
@@ -282,7 +306,8 @@ module _ {D : Type 0} (disk : D → Disk) {d : DurableState D} {m : Memory} {all
         still_cache (stored_of disk d) change is known.dirty,
         edit_seen change (cached_stay (changing (λ y. c)) n m.entries) (contents_changed (stored_of disk d) change c known.header
             (edited_content (stored_of disk d) m n x c known.header known.entry free))
-            ∙ ap (λ (t : StoreState D). record t { headers = set t.headers n (h (header_at t.headers n)); contents = set t.contents n c }) view,
+            ∙ ap (λ (t : StoreState D). record t { headers = set t.headers n (h (header_at t.headers n)); contents = set t.contents n c })
+            view,
       )
 
   -- another content, of an object that is fetched
@@ -308,11 +333,13 @@ pub one_copied : (es : List (Option Entry)) (bodies : List (Content Cap)) (k : �
 one_copied es bodies k c many copied here n below = search (arith, cases_lt, get_or_append_left, get_or_at)
 
 -- all were copied out of a store in which each object has an entry
-module _ {D : Type 0} (disk : D → Disk) {d : DurableState D} {m : Memory} {all : Bool} {left count : ℕ} {order : List ℕ} {most_entries : ℕ} {s : StoreState D}
+module _ {D : Type 0} (disk : D → Disk) {d : DurableState D} {m : Memory} {all : Bool} {left count : ℕ} {order : List ℕ} {most_entries : ℕ}
+    {s : StoreState D}
     (view : cache_of disk d m left order most_entries ≡ s) (is : IsCache all (stored_of disk d) m left count) where
   -- no more numbers are touched than half of the log holds
   pub within_log : touched_count s.touched ≤ (stored_of disk s.durable).saved.geometry.log
-  within_log = subst (λ t. touched_count t.touched ≤ (stored_of disk t.durable).saved.geometry.log) view (omega (arith, is.within, is.counted))
+  within_log = subst (λ t. touched_count t.touched ≤ (stored_of disk t.durable).saved.geometry.log) view
+      (omega (arith, is.within, is.counted))
 
   pub contents_each : length s.contents ≡ length s.headers
   contents_each = ap (λ t. length t.contents) (sym view) ∙ contents_count (stored_of disk d) m ∙ ap (λ t. length t.headers) view
@@ -323,7 +350,8 @@ module _ {D : Type 0} (disk : D → Disk) {d : DurableState D} {m : Memory} {all
       ext_get_or content.Free bodies s.contents (each ∙ ap (λ t. length t.headers) view ∙ sym contents_each)
       (λ n within.
       let known : n < length m.headers = omega (arith, within, each) in
-      sym (present_is (entry_at m.entries n) (held_at bodies n) (header_at m.headers n).role (newest_body (stored_of disk d) m n) (copied n known))
+      sym (present_is (entry_at m.entries n) (held_at bodies n) (header_at m.headers n).role (newest_body (stored_of disk d) m n)
+      (copied n known))
       ∙ sym (content_in (stored_of disk d) m n known) ∙ ap (λ t. held_at t.contents n) view)
 
   pub all_copied : {E : Type 0} → (headers : List ObjectHeader) → headers ≡ m.headers → (r : Result AllObjects E)

@@ -61,7 +61,8 @@ module _ (s : Stored) (hs fh : List ObjectHeader) (fh_count : length fh ≡ leng
 
   pub open_cache : {all : Bool} → (all ≡ true → AreAll e) → IsCache all s (open_memory hs fh e) 0 0
   open_cache {all} whole =
-      let some : all ≡ true → (n : ℕ) → n < length hs → IsSome (entry_at e.at n) = λ is_all n within. whole is_all n (omega (arith, within, each, hold.each)) in
+      let some : all ≡ true → (n : ℕ) → n < length hs → IsSome (entry_at e.at n) =
+      λ is_all n within. whole is_all n (omega (arith, within, each, hold.each)) in
       search (arith, some, each, marks_are, length-replicate, none_counted, alike, unput_here, present_is, frozen_is, none-some)
 
   pub open_over : {D : Type 0} (disk : D → Disk) (d : DurableState D) → stored_of disk d ≡ s →
@@ -102,13 +103,15 @@ one_inserted e k count are below c = record {
   whole = are.whole;
   earlier = λ n less. elim (cases_lt n k) [
     | inl earlier ↦
-        subst IsUnkept (sym (get_or-set_other e.at k n (Some (new_entry c)) None (λ same. omega (arith, earlier, same)))) (are.earlier n earlier)
+        subst IsUnkept (sym (get_or-set_other e.at k n (Some (new_entry c)) None (λ same. omega (arith, earlier, same))))
+        (are.earlier n earlier)
     | inr last ↦
         let same : k ≡ n = omega (arith, last, less) in
         subst (λ i. IsUnkept (entry_at (with_new k c e).at i)) same
         (c, get_or-set_same e.at k (Some (new_entry c)) None (omega (arith, below, are.each)))
   ];
-  later = λ n past. get_or-set_other e.at k n (Some (new_entry c)) None (λ same. omega (arith, past, same)) ∙ are.later n (omega (arith, past));
+  later = λ n past. get_or-set_other e.at k n (Some (new_entry c)) None (λ same. omega (arith, past, same))
+      ∙ are.later n (omega (arith, past));
 }
 
 -- a number more has no frozen copy
@@ -149,9 +152,19 @@ module _ (e : EntriesState) (taken count : ℕ) (room : HaveRoom e taken count) 
   pub one_body : (fs : List Frame) (f : Frame) → length fs ≡ taken → f.content ≡ c →
       ((n : ℕ) → n < length fs → entry_at e.at n ≡ Some (new_entry (frame_at fs n).content)) →
       (n : ℕ) → n < length (fs ++ f ∷ []) → entry_at (with_body taken c e).at n ≡ Some (new_entry (frame_at (fs ++ f ∷ []) n).content)
-  one_body fs f many is before n within = search (arith, cases_lt, get_or_append_left, get_or-set_other, length-append, get_or-set_same, body_is, get_or_at)
+  one_body fs f many is before n within = search (
+    arith,
+    cases_lt,
+    get_or_append_left,
+    get_or-set_other,
+    length-append,
+    get_or-set_same,
+    body_is,
+    get_or_at,
+  )
 
-module _ (o : Option EntriesState) (taken count : ℕ) (below : taken < count) (rooms : (e : EntriesState) → o ≡ Some e → HaveRoom e taken count) where
+module _ (o : Option EntriesState) (taken count : ℕ) (below : taken < count)
+    (rooms : (e : EntriesState) → o ≡ Some e → HaveRoom e taken count) where
   pub held_in : (e : EntriesState) → o ≡ Some e → is_some (entry_at e.at taken) ≡ true
   held_in e at = ap is_some ((rooms e at).later taken (omega arith) below).1
 
@@ -160,7 +173,8 @@ module _ (o : Option EntriesState) (taken count : ℕ) (below : taken < count) (
     where
       go : (p : Option EntriesState) → o ≡ p → option_map (with_body taken c) p ≡ Some e → HaveRoom e (taken + 1) count
       go None at gone = absurd (none-some e gone)
-      go (Some x) at some = subst (λ y. HaveRoom y (taken + 1) count) (same_Some (with_body taken c x) e some) (one_room x taken count (rooms x at) below c)
+      go (Some x) at some = subst (λ y. HaveRoom y (taken + 1) count) (same_Some (with_body taken c x) e some)
+          (one_room x taken count (rooms x at) below c)
 
 headers_more : (fs : List Frame) (f : Frame) → headers (fs ++ f ∷ []) ≡ headers fs ++ f.header ∷ []
 headers_more [] f = refl
@@ -168,7 +182,11 @@ headers_more (g ∷ gs) f = ap (λ hs. g.header ∷ hs) (headers_more gs f)
 
 pub taken_more : (s : TakenState) (fs : List Frame) (f : Frame) → length s.headers < s.count →
     ((e : EntriesState) → s.entries ≡ Some e → HaveRoom e (length s.headers) s.count) → AreTaken s fs →
-    AreTaken (record { headers = s.headers ++ f.header ∷ []; entries = option_map (with_body (length s.headers) f.content) s.entries; count = s.count })
+    AreTaken (record {
+      headers = s.headers ++ f.header ∷ [];
+      entries = option_map (with_body (length s.headers) f.content) s.entries;
+      count = s.count;
+    })
     (fs ++ f ∷ [])
 taken_more s fs f below rooms took = record {
   headers_are = ap (λ hs. hs ++ f.header ∷ []) took.headers_are ∙ sym (headers_more fs f);
@@ -186,7 +204,8 @@ taken_more s fs f below rooms took = record {
       (one_body x (length s.headers) s.count (rooms x at) below f.content fs f many refl (took.bodies x at))
 
 -- all of them
-module _ (s : TakenState) (fs : List Frame) (took : AreTaken s fs) (e : EntriesState) (at : s.entries ≡ Some e) (room : HaveRoom e (length s.headers) s.count)
+module _ (s : TakenState) (fs : List Frame) (took : AreTaken s fs) (e : EntriesState) (at : s.entries ≡ Some e)
+    (room : HaveRoom e (length s.headers) s.count)
     (all : length s.headers ≡ s.count) where
   frames_count : length fs ≡ length e.at
   frames_count = omega (arith, ap length took.headers_are, length-map fs (λ f. f.header), room.each, all)

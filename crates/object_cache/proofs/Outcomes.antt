@@ -5,37 +5,41 @@ use Rattle.object_cache.proofs.Names.{err_counts, err_from_is_err_and, is_err, I
 use Rattle.std.proofs.Common.{◌≡◌, ◌∙◌}
 
 -- what always holds does of the fields of a cache, and this is seen of them
-pub record IsSeenAs {D : Type 0} (all : Bool) (disk : D → Disk) (d : DurableState D) (m : Memory) (left count : ℕ) (order : List ℕ) (most_entries : ℕ) (s : StoreState D) :
+pub record IsSeenAs {D : Type 0} (all : Bool) (disk : D → Disk) (d : DurableState D) (m : Memory) (left count : ℕ) (order : List ℕ)
+    (most_entries : ℕ) (s : StoreState D) :
     Type 0 where
   pub is : IsCache all (stored_of disk d) m left count
   pub view : cache_of disk d m left order most_entries ≡ s
 
 -- what always holds does of the fields of a cache after a step, this is seen of them, and the store goes on
-pub record IsNext {D : Type 0} (all : Bool) (disk : D → Disk) (s : StoreState D) (d : DurableState D) (m : Memory) (left count : ℕ) (order : List ℕ) (most_entries : ℕ)
+pub record IsNext {D : Type 0} (all : Bool) (disk : D → Disk) (s : StoreState D) (d : DurableState D) (m : Memory) (left count : ℕ)
+    (order : List ℕ) (most_entries : ℕ)
     (t : StoreState D) : Type 0 where
   pub is : IsCache all (stored_of disk d) m left count
   pub view : cache_of disk d m left order most_entries ≡ t
   pub continues : GoesOnIn disk s (cache_of disk d m left order most_entries)
 
-module _ {D : Type 0} {disk : D → Disk} {s t : StoreState D} {d : DurableState D} {m : Memory} {all : Bool} {left count : ℕ} {order : List ℕ} {most_entries : ℕ}
+module _ {D : Type 0} {disk : D → Disk} {s t : StoreState D} {d : DurableState D} {m : Memory} {all : Bool} {left count : ℕ}
+    {order : List ℕ} {most_entries : ℕ}
     (next : IsNext all disk s d m left count order most_entries t) where
   pub next_as : {u : StoreState D} → t ≡ u → IsNext all disk s d m left count order most_entries u
   next_as same = record { is = next.is; view = next.view ∙ same; continues = next.continues }
 
-  pub next_in : {n : Memory} {ns : List ℕ} {most : ℕ} → n ≡ m → ns ≡ order → most ≡ most_entries → IsNext all disk s d n left count ns most t
+  pub next_in : {n : Memory} {ns : List ℕ} {most : ℕ} → n ≡ m → ns ≡ order → most ≡ most_entries →
+      IsNext all disk s d n left count ns most t
   next_in m_is order_is most_is = subst (λ (x : Memory × List ℕ × ℕ). IsNext all disk s d x.0 left count x.1 x.2 t)
       (λ k. (sym m_is k, sym order_is k, sym most_is k)) next
 
 module _ {D : Type 0} (disk : D → Disk) where
   -- what is in memory doesn't matter
-  pub continues_with : {s t : StoreState D} (cached : List Bool) (frozen_state : List FrozenState) (order : List ℕ) (staging : Option Held) → GoesOnIn disk s
-      t →
+  pub continues_with : {s t : StoreState D} (cached : List Bool) (frozen_state : List FrozenState) (order : List ℕ) (staging : Option Held)
+      → GoesOnIn disk s t →
       GoesOnIn disk s (record t { cached = cached; frozen_state = frozen_state; order = order; staging = staging })
   continues_with cached frozen_state order staging first = search
 
   -- the failures of the device by what is seen, if all went well, and if `?` passes a failure on
-  pub counts_ok : {T U E : Type 0} {s t : StoreState D} {new : Disk} {x : T} {y : U} → s ≡ t → Counts {E = E} (disk s.durable.beneath) new (Ok x) →
-      Counts {E = E} (disk t.durable.beneath) new (Ok y)
+  pub counts_ok : {T U E : Type 0} {s t : StoreState D} {new : Disk} {x : T} {y : U} → s ≡ t →
+      Counts {E = E} (disk s.durable.beneath) new (Ok x) → Counts {E = E} (disk t.durable.beneath) new (Ok y)
   counts_ok same counts = ok_counts (counted_ok counts ∙ ap (λ x. (disk x.durable.beneath).failures) same)
 
   pub counts_err : {T U E : Type 0} {s t : StoreState D} {new : Disk} {e : E} (r : Result U E) (Q : E → Type 0) → s ≡ t → IsErrAnd r Q →
@@ -44,11 +48,18 @@ module _ {D : Type 0} (disk : D → Disk) where
       (err_counts (ap is_err (err_from_is_err_and r failed).1) counts)
 
   -- what was in memory before doesn't matter either
-  pub continues_past : {s t u : StoreState D} (x : List FrozenState) → t ≡ record s { frozen_state = x } → GoesOnIn disk t u → GoesOnIn disk s u
+  pub continues_past : {s t u : StoreState D} (x : List FrozenState) → t ≡ record s { frozen_state = x } → GoesOnIn disk t u →
+      GoesOnIn disk s u
   continues_past {s} {t} {u} x same later =
       let on = subst (λ y. GoesOnIn disk y u) same later in
-      record
-      { goes_on = on.goes_on; snapshots = on.snapshots; later = on.later; grows = on.grows; capacity = on.capacity; only_reads = on.only_reads }
+      record {
+        goes_on = on.goes_on;
+        snapshots = on.snapshots;
+        later = on.later;
+        grows = on.grows;
+        capacity = on.capacity;
+        only_reads = on.only_reads;
+      }
 
 -- ---- what calls that may fail leave, by their outcome
 

@@ -32,16 +32,16 @@ held_touched (p ∷ ps) (false ∷ ts) count each =
     omega (arith, total, rest, none)
 
 -- and fewer, where one that was written has none
-held_short : (ps : List Put) (ts : List Bool) (n : ℕ) → length ps ≡ length ts → ((k : ℕ) → mark_at ts k ≡ false → put_at ps k ≡ Absent) → mark_at ts n ≡ true →
-    put_at ps n ≡ Absent → sum_of held_slot ps < touched_count ts
+held_short : (ps : List Put) (ts : List Bool) (n : ℕ) → length ps ≡ length ts → ((k : ℕ) → mark_at ts k ≡ false → put_at ps k ≡ Absent) →
+    mark_at ts n ≡ true → put_at ps n ≡ Absent → sum_of held_slot ps < touched_count ts
 held_short ps ts n count each marked none =
     let less = one_fewer ts n marked in
     let few = held_touched ps (set ts n false) (count ∙ sym (length-set ts n false))
     (of_each n (λ unmarked. none) (λ k other. rw (get_or-set_other ts n k false false other) (each k))) in
     omega (arith, less, few)
 
-pub has_free_slot : (room : ℕ) (ps : List Put) (ts : List Bool) (n : ℕ) → length ps ≡ length ts → ((k : ℕ) → mark_at ts k ≡ false → put_at ps k ≡ Absent) →
-    mark_at ts n ≡ true → touched_count ts ≤ room → HasFreeSlot room ps n
+pub has_free_slot : (room : ℕ) (ps : List Put) (ts : List Bool) (n : ℕ) → length ps ≡ length ts →
+    ((k : ℕ) → mark_at ts k ≡ false → put_at ps k ≡ Absent) → mark_at ts n ≡ true → touched_count ts ≤ room → HasFreeSlot room ps n
 has_free_slot room ps ts n count each marked within = search (arith, held_short)
 
 -- ---- a working frame
@@ -50,7 +50,8 @@ has_free_slot room ps ts n count each marked within = search (arith, held_short)
 abbrev pub with_dirty : Memory → List Bool → Memory
 with_dirty m ds = record m { dirty = ds }
 
-module _ {s : Stored} {m : Memory} {all : Bool} {left count : ℕ} (is : IsCache all s m left count) (n : ℕ) (within : n < length m.headers) (e : Entry)
+module _ {s : Stored} {m : Memory} {all : Bool} {left count : ℕ} (is : IsCache all s m left count) (n : ℕ) (within : n < length m.headers)
+    (e : Entry)
     (at : entry_at m.entries n ≡ Some e) (dirty : mark_at m.dirty n ≡ true)
     (p : Put) (ds : List Bool) (size : length ds ≡ length m.dirty) (others : (k : ℕ) → k ≢ n → mark_at ds k ≡ mark_at m.dirty k)
     (here : (mark_at ds n ≡ true) ⊎ (p ≡ Kept (present_at s m n))) where
@@ -75,8 +76,10 @@ module _ {s : Stored} {m : Memory} {all : Bool} {left count : ℕ} (is : IsCache
 
 -- ---- the same by what is seen
 
-module _ {D : Type 0} (disk : D → Disk) {d : DurableState D} {m : Memory} {all : Bool} {left count : ℕ} {order : List ℕ} {most_entries : ℕ} {s : StoreState D}
-    (view : cache_of disk d m left order most_entries ≡ s) (is : IsCache all (stored_of disk d) m left count) {n : ℕ} (fetched : IsFetchedIn s n)
+module _ {D : Type 0} (disk : D → Disk) {d : DurableState D} {m : Memory} {all : Bool} {left count : ℕ} {order : List ℕ} {most_entries : ℕ}
+    {s : StoreState D}
+    (view : cache_of disk d m left order most_entries ≡ s) (is : IsCache all (stored_of disk d) m left count) {n : ℕ}
+    (fetched : IsFetchedIn s n)
     (dirty : mark_at s.dirty n ≡ true) where
   known_here : n < length m.headers
   known_here = fetched_known disk view is fetched
@@ -91,13 +94,15 @@ module _ {D : Type 0} (disk : D → Disk) {d : DurableState D} {m : Memory} {all
   touched_here = is.marked n dirty_here
 
   pub room_here : HasFreeSlot (stored_of disk d).saved.geometry.log (stored_of disk d).working n
-  room_here = has_free_slot (stored_of disk d).saved.geometry.log (stored_of disk d).working m.touched n (is.puts ∙ sym is.marks) is.unput touched_here
+  room_here = has_free_slot (stored_of disk d).saved.geometry.log (stored_of disk d).working m.touched n (is.puts ∙ sym is.marks) is.unput
+      touched_here
       (omega (arith, is.within, is.counted))
 
   -- its slot was written
   module _ {new : DurableState D} {p : Put} {ds : List Bool} (size : length ds ≡ length m.dirty)
       (others : (k : ℕ) → k ≢ n → mark_at ds k ≡ mark_at m.dirty k)
-      (here : (mark_at ds n ≡ true) ⊎ (p ≡ Kept (present_at (stored_of disk d) m n))) (put : stored_of disk new ≡ with_working n p (stored_of disk d))
+      (here : (mark_at ds n ≡ true) ⊎ (p ≡ Kept (present_at (stored_of disk d) m n)))
+      (put : stored_of disk new ≡ with_working n p (stored_of disk d))
       (goes : GoesOn disk d new) (later : (disk d.beneath).failures ≤ (disk new.beneath).failures) where
     seen_put : cache_of disk new (with_dirty m ds) left order most_entries ≡ record s { durable = new; dirty = ds }
     unfolding frozen_in frozen_states_in
@@ -111,12 +116,14 @@ module _ {D : Type 0} (disk : D → Disk) {d : DurableState D} {m : Memory} {all
         ∙ (λ k. record (view k) {
           durable = new;
           dirty = ds;
-          contents = (contents_alike (put_alike is n known_here entry_here.0 entry_here.1 dirty_here p ds size others here) ∙ ap (λ t. t.contents) view) k;
+          contents = (contents_alike (put_alike is n known_here entry_here.0 entry_here.1 dirty_here p ds size others here)
+              ∙ ap (λ t. t.contents) view) k;
         })
 
     put_next : IsNext all disk s new (with_dirty m ds) left count order most_entries (record s { durable = new; dirty = ds })
     put_next = record {
-      is = subst (λ t. IsCache all t (with_dirty m ds) left count) (sym put) (put_cache is n known_here entry_here.0 entry_here.1 dirty_here p ds size others here);
+      is = subst (λ t. IsCache all t (with_dirty m ds) left count) (sym put)
+          (put_cache is n known_here entry_here.0 entry_here.1 dirty_here p ds size others here);
       view = seen_put;
       continues = subst (GoesOnIn disk s) (sym seen_put) (record {
         goes_on = subst (λ t. GoesOn disk t.durable new) view goes;
@@ -127,13 +134,19 @@ module _ {D : Type 0} (disk : D → Disk) {d : DurableState D} {m : Memory} {all
         later = subst (λ t. (disk t.durable.beneath).failures ≤ (disk new.beneath).failures) view later;
         grows = omega arith;
         capacity = refl;
-        only_reads = λ none idle. absurd (omega (arith, none, one_fewer s.touched n (ap (λ t. mark_at t.touched n) (sym view) ∙ touched_here)));
+        only_reads = λ none idle. absurd (omega (
+          arith,
+          none,
+          one_fewer s.touched n
+              (ap (λ t. mark_at t.touched n) (sym view) ∙ touched_here),
+        ));
       });
     }
 
   -- its slot may hold any bytes
   pub unput_next : {new : DurableState D} → stored_of disk new ≡ with_working n Broken (stored_of disk d) → GoesOn disk d new →
-      (disk d.beneath).failures ≤ (disk new.beneath).failures → IsNext all disk s new m left count order most_entries (record s { durable = new })
+      (disk d.beneath).failures ≤ (disk new.beneath).failures → IsNext all disk s new m left count order most_entries
+      (record s { durable = new })
   unput_next {new = new} put goes later = next_as (put_next refl (λ k other. refl) (inl dirty_here) put goes later)
       (ap (λ t. record s { durable = new; dirty = t.dirty }) view)
 

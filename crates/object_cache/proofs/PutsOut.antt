@@ -26,7 +26,8 @@ abbrev pub with_pending : Memory → List Bool → List (Option Entry) → Optio
 with_pending m ps es staging = record m { pending = ps; entries = es; staging = staging }
 
 -- the slot of a number's frozen frame is written: what it holds and its frozen frame stay
-pub record Releases (s : Stored) (m : Memory) (n : ℕ) (p : Put) (ps : List Bool) (es : List (Option Entry)) (staging : Option Held) : Type 0 where
+pub record Releases (s : Stored) (m : Memory) (n : ℕ) (p : Put) (ps : List Bool) (es : List (Option Entry)) (staging : Option Held) :
+    Type 0 where
   pub mark_count : length ps ≡ length m.pending
   pub entry_count : length es ≡ length m.entries
   pub marks : (k : ℕ) → k ≢ n → mark_at ps k ≡ mark_at m.pending k
@@ -43,7 +44,8 @@ pub record Releases (s : Stored) (m : Memory) (n : ℕ) (p : Put) (ps : List Boo
   pub freed : entry_at es n ≡ None → mark_at ps n ≡ true → (header_at m.frozen_headers n).role ≡ role.Free →
       (is_kept (put_at s.working n) ≡ true) ⊎ ((header_at m.headers n).role ≡ role.Free)
 
-module _ {s : Stored} {m : Memory} {all : Bool} {left count : ℕ} (is : IsCache all s m left count) {n : ℕ} (pending : mark_at m.pending n ≡ true) where
+module _ {s : Stored} {m : Memory} {all : Bool} {left count : ℕ} (is : IsCache all s m left count) {n : ℕ}
+    (pending : mark_at m.pending n ≡ true) where
   pending_within : n < length m.headers → n < length m.pending
   pending_within within = omega (arith, within, is.headers, is.pending_marks)
 
@@ -51,22 +53,25 @@ module _ {s : Stored} {m : Memory} {all : Bool} {left count : ℕ} (is : IsCache
   frozen_below {f} f_is within g = search (arith, get_or-set_same)
 
   -- its slot is torn: all is in memory
-  pub torn_releases : content_at (with_frozen n Broken s) m n ≡ content_at s m n → frozen_at (with_frozen n Broken s) m n ≡ frozen_at s m n →
-      Releases s m n Broken m.pending m.entries m.staging
+  pub torn_releases : content_at (with_frozen n Broken s) m n ≡ content_at s m n →
+      frozen_at (with_frozen n Broken s) m n ≡ frozen_at s m n → Releases s m n Broken m.pending m.entries m.staging
   torn_releases content frozen = search (arith, content, frozen, ap (λ b. b || false) pending, pending, is.held, is.apart n, is.freed n)
 
   -- it has its frozen frame: nothing is kept apart
-  pub put_releases : {f : FrozenPuts} → s.frozen ≡ Some f → n < length m.headers → (g : Frame) → g ≡ frozen_at s m n → (es : List (Option Entry)) →
-      length es ≡ length m.entries → ((k : ℕ) → k ≢ n → entry_at es k ≡ entry_at m.entries k) → ((e : Entry) → entry_at es n ≡ Some e → e.kept ≡ None) →
-      (IsSome (entry_at m.entries n) → IsSome (entry_at es n)) → (staging : Option Held) → ((k : ℕ) (c : Content Cap) → k ≢ n → in_staging staging k c ≡ in_staging m.staging k c) →
+  pub put_releases : {f : FrozenPuts} → s.frozen ≡ Some f → n < length m.headers → (g : Frame) → g ≡ frozen_at s m n →
+      (es : List (Option Entry)) → length es ≡ length m.entries → ((k : ℕ) → k ≢ n → entry_at es k ≡ entry_at m.entries k) →
+      ((e : Entry) → entry_at es n ≡ Some e → e.kept ≡ None) → (IsSome (entry_at m.entries n) → IsSome (entry_at es n)) →
+      (staging : Option Held) → ((k : ℕ) (c : Content Cap) → k ≢ n → in_staging staging k c ≡ in_staging m.staging k c) →
       ((h : Held) → staging ≡ Some h → (h.number ≢ n) × (mark_at m.pending h.number ≡ true)) →
       content_at (with_frozen n (Kept g) s) (with_pending m (set m.pending n false) es staging) n ≡ content_at s m n →
       Releases s m n (Kept g) (set m.pending n false) es staging
   put_releases {f} f_is within g g_is es es_count entries kept some staging others released content =
       search (arith, length-set, get_or-set_other, frozen_below, one_fewer, get_or-set_same, pending_within)
 
-module _ {s : Stored} {m : Memory} {all : Bool} {left count : ℕ} (is : IsCache all s m left count) {n : ℕ} (within : n < length m.headers) {f : FrozenPuts}
-    (f_is : s.frozen ≡ Some f) (pending : mark_at m.pending n ≡ true) {p : Put} {ps : List Bool} {es : List (Option Entry)} {staging : Option Held}
+module _ {s : Stored} {m : Memory} {all : Bool} {left count : ℕ} (is : IsCache all s m left count) {n : ℕ} (within : n < length m.headers)
+    {f : FrozenPuts}
+    (f_is : s.frozen ≡ Some f) (pending : mark_at m.pending n ≡ true) {p : Put} {ps : List Bool} {es : List (Option Entry)}
+    {staging : Option Held}
     (rest : Releases s m n p ps es staging) where
   abbrev after : Stored
   after = with_frozen n p s
@@ -85,7 +90,8 @@ module _ {s : Stored} {m : Memory} {all : Bool} {left count : ℕ} (is : IsCache
 
   content_stays : (k : ℕ) → content_at after memory k ≡ content_at s m k
   content_stays = of_each n rest.content
-      (λ k other i. present_body (rest.entries k other i) (header_at m.headers k).role (put_body (put_at s.working k) (body_elsewhere k other i)))
+      (λ k other i. present_body (rest.entries k other i) (header_at m.headers k).role
+      (put_body (put_at s.working k) (body_elsewhere k other i)))
 
   frozen_stays : (k : ℕ) → frozen_at after memory k ≡ frozen_at s m k
   frozen_stays = search (arith, of_each, body_elsewhere, below_elsewhere)
@@ -109,7 +115,8 @@ module _ {s : Stored} {m : Memory} {all : Bool} {left count : ℕ} (is : IsCache
 
   pub released_cache : IsCache all after memory left count
   released_cache =
-      let idle : after.frozen ≡ None → (k : ℕ) → mark_at ps k ≡ false = λ none. absurd (none-some (with_put n p f) (sym none ∙ frozen_now)) in
+      let idle : after.frozen ≡ None → (k : ℕ) → mark_at ps k ≡ false = λ none. absurd (none-some (with_put n p f) (sym none ∙ frozen_now))
+      in
       let running : (g : FrozenPuts) → after.frozen ≡ Some g → AreFrozen g ps left =
       λ g g_is. subst (λ h. AreFrozen h ps left) (same_Some (with_put n p f) g (sym frozen_now ∙ g_is)) still_frozen in
       let apart : (k : ℕ) (e : Entry) → entry_at es k ≡ Some e → (e.kept ≡ None) ⊎ (mark_at ps k ≡ true) =
@@ -134,13 +141,21 @@ pub state_put : (m : Memory) (n : ℕ) (es : List (Option Entry)) (staging : Opt
     ((k : ℕ) → k ≢ n → entry_at es k ≡ entry_at m.entries k) →
     frozen_states_in (with_pending m (set m.pending n false) es staging) ≡ set (frozen_states_in m) n Nothing
 unfolding frozen_states_in
-state_put m n es staging within pending_within entries = search (arith, map_set, get_or-set_same, pending_within, none_frozen_state, get_or-set_other)
+state_put m n es staging within pending_within entries = search (
+  arith,
+  map_set,
+  get_or-set_same,
+  pending_within,
+  none_frozen_state,
+  get_or-set_other,
+)
 
 -- ---- the frozen frame of an object is put, or was to be, from its entry or from the staging buffer
 
 -- ---- what is in the staging buffer, once it has released a number's body
 
-pub released_others : (staging : Option Held) (n k : ℕ) (c : Content Cap) → k ≢ n → in_staging (released n staging) k c ≡ in_staging staging k c
+pub released_others : (staging : Option Held) (n k : ℕ) (c : Content Cap) → k ≢ n →
+    in_staging (released n staging) k c ≡ in_staging staging k c
 released_others staging n k c other = search (arith, cases_eq, eq-eqb, ne_eqb)
 
 pub released_of : (staging : Option Held) (n : ℕ) (h : Held) → released n staging ≡ Some h → (h.number ≢ n) × (staging ≡ Some h)
@@ -155,8 +170,10 @@ dropping e = record e { kept = None }
 no_put : (pending : Bool) (p : Put) → (pending || is_kept p) ≡ false → (p ≡ Broken → pending ≡ true) → p ≡ Absent
 no_put pending p none torn = search arith
 
-module _ {D : Type 0} (disk : D → Disk) {d : DurableState D} {m : Memory} {all : Bool} {left count : ℕ} {order : List ℕ} {most_entries : ℕ} {s : StoreState D}
-    (view : cache_of disk d m left order most_entries ≡ s) (is : IsCache all (stored_of disk d) m left count) {n : ℕ} (known : n < length m.headers)
+module _ {D : Type 0} (disk : D → Disk) {d : DurableState D} {m : Memory} {all : Bool} {left count : ℕ} {order : List ℕ} {most_entries : ℕ}
+    {s : StoreState D}
+    (view : cache_of disk d m left order most_entries ≡ s) (is : IsCache all (stored_of disk d) m left count) {n : ℕ}
+    (known : n < length m.headers)
     (pending : mark_at m.pending n ≡ true) where
   pub running_here : (f : FrozenPuts) × ((stored_of disk d).frozen ≡ Some f)
   running_here = search arith
@@ -172,7 +189,8 @@ module _ {D : Type 0} (disk : D → Disk) {d : DurableState D} {m : Memory} {all
       (λ k none. elim (cases_lt k (length m.pending)) [
         | inl below ↦ no_put (mark_at m.pending k) (put_at f.put k) (sym (at k below) ∙ none) (are.torn k)
         | inr past ↦ get_or_past f.put k Absent (omega (arith, past, are.each))
-      ]) (at n (omega (arith, known, is.headers, is.pending_marks)) ∙ ap (λ b. b || is_kept (put_at f.put n)) pending) (omega (arith, are.size))
+      ]) (at n (omega (arith, known, is.headers, is.pending_marks)) ∙ ap (λ b. b || is_kept (put_at f.put n)) pending)
+      (omega (arith, are.size))
 
   pub frozen_ready : {g : Frame} → g ≡ frozen_at (stored_of disk d) m n → MayPutFrozen disk d n g
   unfolding frozen_in
@@ -250,7 +268,8 @@ has_frozen_body : (e : Entry) (pending touched : Bool) → frozen_state_of (Some
     (pending ≡ true) × ((below : Content Cap) → apart_body e.kept touched e.present below ≡ own_body e.kept e.present)
 has_frozen_body e pending touched frozen_state = search arith
 
-module _ {s : Stored} {m : Memory} {all : Bool} {left count : ℕ} (is : IsCache all s m left count) (n : ℕ) (within : n < length m.headers) (e : Entry)
+module _ {s : Stored} {m : Memory} {all : Bool} {left count : ℕ} (is : IsCache all s m left count) (n : ℕ) (within : n < length m.headers)
+    (e : Entry)
     (at : entry_at m.entries n ≡ Some e) (frozen_state : frozen_state_in_memory m n ≢ Nothing) where
   pub frozen_state_pending : (mark_at m.pending n ≡ true) ×
       ((below : Content Cap) → apart_body e.kept (mark_at m.touched n) e.present below ≡ own_body e.kept e.present)
@@ -264,8 +283,10 @@ module _ {s : Stored} {m : Memory} {all : Bool} {left count : ℕ} (is : IsCache
   own_content t = ap (λ o. present_body o (header_at m.headers n).role (newest_body t m n)) at
 
 -- the same by what is seen
-module _ {D : Type 0} (disk : D → Disk) {d : DurableState D} {m : Memory} {all : Bool} {left count : ℕ} {order : List ℕ} {most_entries : ℕ} {s : StoreState D}
-    (view : cache_of disk d m left order most_entries ≡ s) (is : IsCache all (stored_of disk d) m left count) {n : ℕ} (fetched : IsFetchedIn s n)
+module _ {D : Type 0} (disk : D → Disk) {d : DurableState D} {m : Memory} {all : Bool} {left count : ℕ} {order : List ℕ} {most_entries : ℕ}
+    {s : StoreState D}
+    (view : cache_of disk d m left order most_entries ≡ s) (is : IsCache all (stored_of disk d) m left count) {n : ℕ}
+    (fetched : IsFetchedIn s n)
     (frozen_state : frozen_state_at s.frozen_state n ≢ Nothing) where
   entry_here : (e : Entry) × (entry_at m.entries n ≡ Some e)
   entry_here = entry_found disk view is fetched
@@ -313,7 +334,12 @@ module _ {D : Type 0} (disk : D → Disk) {d : DurableState D} {m : Memory} {all
           es ≡ with_entry_of dropping n (record { at = m.entries; order = order; most = most_entries }) → staging ≡ released n m.staging →
           stored_of disk new ≡ with_frozen n (Kept (record { header = header; content = masked header.role x })) (stored_of disk d) →
           IsNext all disk s new (with_pending m ps es.at staging) left count es.order es.most
-          (record s { durable = new; pending = set s.pending n false; frozen_state = set s.frozen_state n Nothing; staging = released n s.staging })
+          (record s {
+            durable = new;
+            pending = set s.pending n false;
+            frozen_state = set s.frozen_state n Nothing;
+            staging = released n s.staging;
+          })
       out_next ps_is es_is staging_is put =
           let here = running_here disk view is own_known own_pending in
           let in_entries : n < length m.entries = omega (arith, own_known, is.headers, is.entries) in
@@ -321,10 +347,12 @@ module _ {D : Type 0} (disk : D → Disk) {d : DurableState D} {m : Memory} {all
           let e = option_map dropping (entry_at m.entries n) in
           let others : (k : ℕ) → k ≢ n → entry_at (with_entry dropping n m.entries) k ≡ entry_at m.entries k = (λ k other.
           get_or-set_other m.entries n k e None other) in
-          let now : entry_at (with_entry dropping n m.entries) n ≡ Some (dropping entry_here.0) = get_or-set_same m.entries n e None in_entries
+          let now : entry_at (with_entry dropping n m.entries) n ≡ Some (dropping entry_here.0) =
+          get_or-set_same m.entries n e None in_entries
           ∙ ap (option_map dropping) entry_here.1 in
           next_in (next_as (put_next disk view is own_known own_pending put goes later
-          (put_releases is own_pending here.1 own_known frame own_frame_is (with_entry dropping n m.entries) (length-set m.entries n e) others
+          (put_releases is own_pending here.1 own_known frame own_frame_is (with_entry dropping n m.entries) (length-set m.entries n e)
+          others
           (λ g g_is. ap (λ y. y.kept) (same_Some g (dropping entry_here.0) (sym g_is ∙ now))) (λ some. ap is_some now)
           (released n m.staging) (λ k c other. released_others m.staging n k c other)
           (λ h h_is. let was = released_of m.staging n h h_is in (was.0, is.held h was.1))
@@ -332,9 +360,15 @@ module _ {D : Type 0} (disk : D → Disk) {d : DurableState D} {m : Memory} {all
           (newest_body (with_frozen n (Kept frame) (stored_of disk d))
           (with_pending m (set m.pending n false) (with_entry dropping n m.entries) (released n m.staging)) n)) now
           ∙ sym (own_content is n own_known entry_here.0 entry_here.1 state_here (stored_of disk d))))
-          (cached_stay dropping n m.entries) (state_put m n (with_entry dropping n m.entries) (released n m.staging) own_known in_pending others) refl refl)
+          (cached_stay dropping n m.entries) (state_put m n (with_entry dropping n m.entries) (released n m.staging) own_known in_pending
+          others) refl refl)
           (ap (λ t.
-          record s { durable = new; pending = set s.pending n false; frozen_state = set s.frozen_state n Nothing; staging = released n t.staging }) view))
+          record s {
+            durable = new;
+            pending = set s.pending n false;
+            frozen_state = set s.frozen_state n Nothing;
+            staging = released n t.staging;
+          }) view))
           (λ k. with_pending m (ps_is k) (es_is k).at (staging_is k)) (ap (λ x. x.order) es_is) (ap (λ x. x.most) es_is)
 
 -- ---- the body is in the staging buffer
@@ -347,48 +381,52 @@ put_under : (p : Put) (fr r : Role) (c : Content Cap) → (fr ≡ role.Free → 
     masked r (put_body p (masked fr c)) ≡ masked r (put_body p c)
 put_under p fr r c freed = search (arith, mask_under)
 
-module _ {s : Stored} {m : Memory} {all : Bool} {left count : ℕ} (is : IsCache all s m left count) (h : Held) (staging : m.staging ≡ Some h) where
-  pub held_pending : mark_at m.pending h.number ≡ true
-  held_pending = is.held h staging
+module _ {s : Stored} {m : Memory} {all : Bool} {left count : ℕ} (is : IsCache all s m left count) (h : Held) (staging : m.staging ≡ Some h)
+  where
+    pub held_pending : mark_at m.pending h.number ≡ true
+    held_pending = is.held h staging
 
-  pub held_within : h.number < length m.headers
-  held_within = omega (arith, marked_within m.pending h.number held_pending, is.headers, is.pending_marks)
+    pub held_within : h.number < length m.headers
+    held_within = omega (arith, marked_within m.pending h.number held_pending, is.headers, is.pending_marks)
 
-  module _ (frozen_state : frozen_state_in_memory m h.number ≡ Nothing) where
-    below_is : (t : Stored) → below_body t m h.number ≡ h.content
-    below_is t = rw (staging, eq-eqb h.number h.number refl)
+    module _ (frozen_state : frozen_state_in_memory m h.number ≡ Nothing) where
+      below_is : (t : Stored) → below_body t m h.number ≡ h.content
+      below_is t = rw (staging, eq-eqb h.number h.number refl)
 
-    -- an entry has nothing of it
-    bare : (e : Entry) → entry_at m.entries h.number ≡ Some e → (mark_at m.touched h.number ≡ true) × (e.kept ≡ None)
-    bare e at = search (arith, nothing_frozen_state, held_pending)
+      -- an entry has nothing of it
+      bare : (e : Entry) → entry_at m.entries h.number ≡ Some e → (mark_at m.touched h.number ≡ true) × (e.kept ≡ None)
+      bare e at = search (arith, nothing_frozen_state, held_pending)
 
-    body_is : (t : Stored) (o : Option Entry) → entry_at m.entries h.number ≡ o →
-        frozen_body o (mark_at m.touched h.number) (below_body t m h.number) ≡ h.content
-    body_is t o at = search (arith, below_is, bare)
+      body_is : (t : Stored) (o : Option Entry) → entry_at m.entries h.number ≡ o →
+          frozen_body o (mark_at m.touched h.number) (below_body t m h.number) ≡ h.content
+      body_is t o at = search (arith, below_is, bare)
 
-    frozen_is_held : (t : Stored) → frozen_at t m h.number ≡ record
-        { header = header_at m.frozen_headers h.number; content = masked (header_at m.frozen_headers h.number).role h.content }
-    frozen_is_held t = search (arith, held_pending, body_is)
+      frozen_is_held : (t : Stored) → frozen_at t m h.number ≡ record
+          { header = header_at m.frozen_headers h.number; content = masked (header_at m.frozen_headers h.number).role h.content }
+      frozen_is_held t = search (arith, held_pending, body_is)
 
-    content_put : {f : FrozenPuts} → s.frozen ≡ Some f → (g : Frame) → g ≡ frozen_at s m h.number → (o : Option Entry) → entry_at m.entries h.number ≡ o →
-        present_body o (header_at m.headers h.number).role
-        (newest_body (with_frozen h.number (Kept g) s) (with_pending m (set m.pending h.number false) m.entries None) h.number) ≡
-        present_body o (header_at m.headers h.number).role (newest_body s m h.number)
-    content_put f_is g g_is None at = rw (frozen_below is held_pending f_is held_within g, g_is, frozen_is_held s, below_is s)
-        (put_under (put_at s.working h.number) (header_at m.frozen_headers h.number).role (header_at m.headers h.number).role h.content
-        (is.freed h.number at held_pending))
-    content_put f_is g g_is (Some e) at = refl
+      content_put : {f : FrozenPuts} → s.frozen ≡ Some f → (g : Frame) → g ≡ frozen_at s m h.number → (o : Option Entry) →
+          entry_at m.entries h.number ≡ o → present_body o (header_at m.headers h.number).role
+          (newest_body (with_frozen h.number (Kept g) s) (with_pending m (set m.pending h.number false) m.entries None) h.number) ≡
+          present_body o (header_at m.headers h.number).role (newest_body s m h.number)
+      content_put f_is g g_is None at = rw (frozen_below is held_pending f_is held_within g, g_is, frozen_is_held s, below_is s)
+          (put_under (put_at s.working h.number) (header_at m.frozen_headers h.number).role (header_at m.headers h.number).role h.content
+          (is.freed h.number at held_pending))
+      content_put f_is g g_is (Some e) at = refl
 
-    pub held_releases : {f : FrozenPuts} → s.frozen ≡ Some f → (g : Frame) → g ≡ frozen_at s m h.number →
-        Releases s m h.number (Kept g) (set m.pending h.number false) m.entries None
-    held_releases f_is g g_is = put_releases is held_pending f_is held_within g g_is m.entries refl (λ k other. refl) (λ e at. (bare e at).1) (λ some. some) None
-        (λ k c other. sym (ap (λ o. in_staging o k c) staging
-        ∙ ap (λ b. cond b h.content c) (ne_eqb h.number k (λ same. other (sym same))))) (λ g gone. absurd (none-some g gone))
-        (content_put f_is g g_is (entry_at m.entries h.number) refl)
+      pub held_releases : {f : FrozenPuts} → s.frozen ≡ Some f → (g : Frame) → g ≡ frozen_at s m h.number →
+          Releases s m h.number (Kept g) (set m.pending h.number false) m.entries None
+      held_releases f_is g g_is = put_releases is held_pending f_is held_within g g_is m.entries refl (λ k other. refl)
+          (λ e at. (bare e at).1) (λ some. some) None
+          (λ k c other. sym (ap (λ o. in_staging o k c) staging
+          ∙ ap (λ b. cond b h.content c) (ne_eqb h.number k (λ same. other (sym same))))) (λ g gone. absurd (none-some g gone))
+          (content_put f_is g g_is (entry_at m.entries h.number) refl)
 
 -- the same by what is seen
-module _ {D : Type 0} (disk : D → Disk) {d : DurableState D} {m : Memory} {all : Bool} {left count : ℕ} {order : List ℕ} {most_entries : ℕ} {s : StoreState D}
-    (view : cache_of disk d m left order most_entries ≡ s) (is : IsCache all (stored_of disk d) m left count) (h : Held) (staging : m.staging ≡ Some h) where
+module _ {D : Type 0} (disk : D → Disk) {d : DurableState D} {m : Memory} {all : Bool} {left count : ℕ} {order : List ℕ} {most_entries : ℕ}
+    {s : StoreState D}
+    (view : cache_of disk d m left order most_entries ≡ s) (is : IsCache all (stored_of disk d) m left count) (h : Held)
+    (staging : m.staging ≡ Some h) where
   held_marked : mark_at m.pending h.number ≡ true
   held_marked = held_pending is h staging
 
@@ -420,15 +458,21 @@ module _ {D : Type 0} (disk : D → Disk) {d : DurableState D} {m : Memory} {all
     held_ready header_is = frozen_ready disk view is held_known held_marked (held_frame_is header_is)
 
     module _ {new : DurableState D} (goes : GoesOn disk d new) (later : (disk d.beneath).failures ≤ (disk new.beneath).failures) where
-      pub settled_next : {ps : List Bool} {staging : Option Held} → ps ≡ set m.pending h.number false → staging ≡ None → {header : ObjectHeader} →
-          header ≡ header_at m.frozen_headers h.number →
-          stored_of disk new ≡ with_frozen h.number (Kept (record { header = header; content = masked header.role h.content })) (stored_of disk d) →
-          IsNext all disk s new (with_pending m ps m.entries staging) left count order most_entries
-          (record s { durable = new; pending = set s.pending h.number false; frozen_state = set s.frozen_state h.number Nothing; staging = None })
+      pub settled_next : {ps : List Bool} {staging : Option Held} → ps ≡ set m.pending h.number false → staging ≡ None →
+          {header : ObjectHeader} → header ≡ header_at m.frozen_headers h.number →
+          stored_of disk new ≡ with_frozen h.number (Kept (record { header = header; content = masked header.role h.content }))
+          (stored_of disk d) → IsNext all disk s new (with_pending m ps m.entries staging) left count order most_entries
+          (record s {
+            durable = new;
+            pending = set s.pending h.number false;
+            frozen_state = set s.frozen_state h.number Nothing;
+            staging = None;
+          })
       settled_next ps_is staging_is {header = header} header_is put =
           let here = running_here disk view is held_known held_marked in
           next_in (put_next disk view is held_known held_marked put goes later
-          (held_releases is h staging state_there here.1 (record { header = header; content = masked header.role h.content }) (held_frame_is header_is))
+          (held_releases is h staging state_there here.1 (record { header = header; content = masked header.role h.content })
+          (held_frame_is header_is))
           refl (state_put m h.number m.entries None held_known held_in_marks (λ k other. refl)) refl refl)
           (λ k. with_pending m (ps_is k) m.entries (staging_is k)) refl refl
 

@@ -15,12 +15,13 @@ leaves_one None leaves = leaves
 leaves_one {old} {new} {saved} (Some next) leaves = leaves_weaker {old = old} {new = new} {P = λ c. Holds old.sectors c saved}
     (λ c. Holds old.sectors c saved ⊎ Holds old.sectors c next) (λ c holds. inl holds) leaves
 
-next_is : {F : Type 0} (age n : ℕ) (ws : List ℕ) (o : Option F) (saved : SavedFrames) (p q : Bool) → o ≡ None → saved.entries ≡ 0 → p ≡ true → q ≡ true →
-    Some (journaled_saved age n ws saved) ≡ next_journaled {F = F} age n ws o saved p q
+next_is : {F : Type 0} (age n : ℕ) (ws : List ℕ) (o : Option F) (saved : SavedFrames) (p q : Bool) → o ≡ None → saved.entries ≡ 0 →
+    p ≡ true → q ≡ true → Some (journaled_saved age n ws saved) ≡ next_journaled {F = F} age n ws o saved p q
 next_is {F} age n ws o saved p q free home page same = search arith
 
-one_saved : {F : Type 0} {old new : Disk} {saved : SavedFrames} (age n : ℕ) (ws : List ℕ) (o : Option F) (p q : Bool) → o ≡ None → saved.entries ≡ 0 →
-    p ≡ true → q ≡ true → LeavesEither old new saved (journaled_saved age n ws saved) → LeavesOneOf old new saved (next_journaled {F = F} age n ws o saved p q)
+one_saved : {F : Type 0} {old new : Disk} {saved : SavedFrames} (age n : ℕ) (ws : List ℕ) (o : Option F) (p q : Bool) → o ≡ None →
+    saved.entries ≡ 0 → p ≡ true → q ≡ true → LeavesEither old new saved (journaled_saved age n ws saved) →
+    LeavesOneOf old new saved (next_journaled {F = F} age n ws o saved p q)
 one_saved {old = old} {new = new} {saved = saved} age n ws o p q free home page same =
     subst (LeavesOneOf old new saved) (next_is age n ws o saved p q free home page same)
 
@@ -28,8 +29,8 @@ same_role : (a : ℕ) (f : Frame) → is_same_page a f ≡ true → f.header.rol
 same_role a f same = search (arith, role_is_page)
 
 module _ {D : Type 0} (disk : D → Disk) {s t : DurableState D} (reads : ReadsStore disk s t) (sound : is_sound disk s) where
-  pub saves_after : {E : Type 0} {u : DurableState D} {n age : ℕ} {ws : List ℕ} {r : Result ℕ E} → (disk t.beneath).failures ≡ (disk s.beneath).failures →
-      SavesPage disk t u n age ws r → SavesPage disk s u n age ws r
+  pub saves_after : {E : Type 0} {u : DurableState D} {n age : ℕ} {ws : List ℕ} {r : Result ℕ E} →
+      (disk t.beneath).failures ≡ (disk s.beneath).failures → SavesPage disk t u n age ws r → SavesPage disk s u n age ws r
   saves_after {u = u} {n = n} {age = age} {ws = ws} {r = r} same saves = record {
     stored = on_ok_weaker r (λ is. is ∙ ap (on_snapshots (journaled age n ws)) reads.stored) saves.stored;
     unchanged = on_err_weaker r (λ is. is ∙ reads.stored) saves.unchanged;
@@ -70,14 +71,16 @@ module _ {D : Type 0} (disk : D → Disk) {s t : DurableState D} (reads : ReadsS
   may_save h n age free home same later most x_is = record {
     free = ap (λ x. x.frozen) reads.stored ∙ free;
     home = ap (λ x. x.saved.entries) reads.stored ∙ home;
-    page = ap (λ x. (frame_at x.saved.frames n).header.role) reads.stored ∙ same_role h.allocations (frame_at (stored_of disk s).saved.frames n) same;
+    page = ap (λ x. (frame_at x.saved.frames n).header.role) reads.stored ∙ same_role h.allocations
+        (frame_at (stored_of disk s).saved.frames n) same;
     saved = x_is ∙ ap (λ x. (frame_at x.saved.frames n).header) (sym reads.stored);
     sound = reads.goes_on.sound sound;
     later = subst (λ x. x.saved.age < age) (sym reads.stored) later;
     most = most;
   }
 
-module _ {D : Type 0} (disk : D → Disk) {s : DurableState D} (sound : is_sound disk s) (es : List (Option Entry)) (h : ObjectHeader) (is_known : Bool)
+module _ {D : Type 0} (disk : D → Disk) {s : DurableState D} (sound : is_sound disk s) (es : List (Option Entry)) (h : ObjectHeader)
+    (is_known : Bool)
     (n age : ℕ) where
   -- another spelling of the header, and of whether it is known
   pub journals_as : {t : DurableState D} {g : ObjectHeader} {k : Bool} {r : Result ℕ Refusal} → h ≡ g → is_known ≡ k →
@@ -88,35 +91,40 @@ module _ {D : Type 0} (disk : D → Disk) {s : DurableState D} (sound : is_sound
   -- nothing that is stored changed
   pub refuses : {t : DurableState D} {why : Refusal} {r : Result ℕ Refusal} → (e : Refusal) × (r ≡ Err e) × (e ≡ why) →
       stored_of disk t ≡ stored_of disk s → GoesOn disk s t → (IsTurnedAway (Err why) → t ≡ s) →
-      IsJournalAnswer (disk s.beneath) (disk t.beneath) (option_map left_of (stored_of disk s).frozen) (stored_of disk s).saved is_known (is_page_role h.role)
+      IsJournalAnswer (disk s.beneath) (disk t.beneath) (option_map left_of (stored_of disk s).frozen) (stored_of disk s).saved is_known
+      (is_page_role h.role)
       (is_saved_page (stored_of disk s) h n) (Err why) → JournalsPage disk s t es h is_known n age r
-  refuses {t = t} why_is same goes turned answer = subst (JournalsPage disk s t es h is_known n age) (sym (why_is.1 ∙ ap Err why_is.2)) (record {
-    journaled = tt;
-    unchanged = same;
-    turned_away = turned;
-    plan = goes.plan;
-    answer = answer;
-    sound = inr (goes.sound sound);
-    size = goes.size;
-    any_moment = leaves_one (next_journaled age n (words_in (held_now es (stored_of disk s) n)) (stored_of disk s).frozen (stored_of disk s).saved
-        (is_page_role h.role) (is_saved_page (stored_of disk s) h n)) (goes.any_moment sound);
-  })
+  refuses {t = t} why_is same goes turned answer = subst (JournalsPage disk s t es h is_known n age) (sym (why_is.1 ∙ ap Err why_is.2))
+      (record {
+        journaled = tt;
+        unchanged = same;
+        turned_away = turned;
+        plan = goes.plan;
+        answer = answer;
+        sound = inr (goes.sound sound);
+        size = goes.size;
+        any_moment = leaves_one (next_journaled age n (words_in (held_now es (stored_of disk s) n)) (stored_of disk s).frozen
+            (stored_of disk s).saved
+            (is_page_role h.role) (is_saved_page (stored_of disk s) h n)) (goes.any_moment sound);
+      })
 
   module _ (free : (stored_of disk s).frozen ≡ None) (page : is_page_role h.role ≡ true) where
     -- after the device was read
     pub refuses_late : {t : DurableState D} {why : Refusal} {r : Result ℕ Refusal} → (e : Refusal) × (r ≡ Err e) × (e ≡ why) →
         ReadsStore disk s t → (IsTurnedAway (Err why) → ⊥) →
-        IsJournalAnswer (disk s.beneath) (disk t.beneath) None (stored_of disk s).saved is_known true (is_saved_page (stored_of disk s) h n) (Err why) →
-        JournalsPage disk s t es h is_known n age r
+        IsJournalAnswer (disk s.beneath) (disk t.beneath) None (stored_of disk s).saved is_known true (is_saved_page (stored_of disk s) h n)
+        (Err why) → JournalsPage disk s t es h is_known n age r
     refuses_late {t = t} {why = why} why_is reads late answer = refuses why_is reads.stored reads.goes_on (λ away. absurd (late away))
-        (subst (λ p. IsJournalAnswer (disk s.beneath) (disk t.beneath) (option_map left_of (stored_of disk s).frozen) (stored_of disk s).saved is_known p
+        (subst (λ p. IsJournalAnswer (disk s.beneath) (disk t.beneath) (option_map left_of (stored_of disk s).frozen)
+        (stored_of disk s).saved is_known p
         (is_saved_page (stored_of disk s) h n) (Err why)) (sym page)
         (subst (λ o. IsJournalAnswer (disk s.beneath) (disk t.beneath) (option_map left_of o) (stored_of disk s).saved is_known true
         (is_saved_page (stored_of disk s) h n) (Err why)) (sym free) answer))
 
     module _ (home : (stored_of disk s).saved.entries ≡ 0) (same : is_saved_page (stored_of disk s) h n ≡ true) where
       pub journals : {E : Type 0} {u : DurableState D} {g : ℕ} →
-          SavesPage {E = E} disk s u n age (words_in (held_now es (stored_of disk s) n)) (Ok g) → JournalsPage disk s u es h is_known n age (Ok g)
+          SavesPage {E = E} disk s u n age (words_in (held_now es (stored_of disk s) n)) (Ok g) →
+          JournalsPage disk s u es h is_known n age (Ok g)
       journals saves = record {
         journaled = saves.stored;
         unchanged = tt;
@@ -130,7 +138,8 @@ module _ {D : Type 0} (disk : D → Disk) {s : DurableState D} (sound : is_sound
       }
 
       pub fails : {E : Type 0} {u : DurableState D} {e : E} {r : Result ℕ Refusal} → (e : Refusal) × (r ≡ Err e) × (e ≡ refusal.Fault) →
-          SavesPage {E = E} disk s u n age (words_in (held_now es (stored_of disk s) n)) (Err e) → JournalsPage disk s u es h is_known n age r
+          SavesPage {E = E} disk s u n age (words_in (held_now es (stored_of disk s) n)) (Err e) →
+          JournalsPage disk s u es h is_known n age r
       fails {u = u} why_is saves = subst (JournalsPage disk s u es h is_known n age) (sym (why_is.1 ∙ ap Err why_is.2)) (record {
         journaled = tt;
         unchanged = saves.unchanged;

@@ -15,8 +15,10 @@ running_in fs left o f is = search (arith, none-some, same_Some)
 
 module _ {D : Type 0} (disk : D → Disk) where
   module _ {d : DurableState D} {m : Memory} {all : Bool} {left count : ℕ} {order : List ℕ} {most_entries : ℕ} {s : StoreState D}
-      (view : cache_of disk d m left order most_entries ≡ s) (is : IsCache all (stored_of disk d) m left count) (f : FrozenFrames) (f_is : s.frozen ≡ Some f) where
-    found : (h : FrozenPuts) × ((stored_of disk d).frozen ≡ Some h) × (record { frames = frozen_in (stored_of disk d) m; size = h.size; left = left } ≡ f)
+      (view : cache_of disk d m left order most_entries ≡ s) (is : IsCache all (stored_of disk d) m left count) (f : FrozenFrames)
+      (f_is : s.frozen ≡ Some f) where
+    found : (h : FrozenPuts) × ((stored_of disk d).frozen ≡ Some h) × (record
+        { frames = frozen_in (stored_of disk d) m; size = h.size; left = left } ≡ f)
     found = running_in (frozen_in (stored_of disk d) m) left (stored_of disk d).frozen f (ap (λ t. t.frozen) view ∙ f_is)
 
     pub left_is : left ≡ f.left
@@ -34,7 +36,8 @@ module _ {D : Type 0} (disk : D → Disk) where
       pub turned_stands : IsCache all (stored_of disk d) m (left - 1) count
       turned_stands = search fewer_frozen
 
-  pub puts_more : (a b c : StoreState D) (f : FrozenFrames) (i k : ℕ) → a.frozen ≡ Some f → PutsBy disk a b i → PutsBy disk b c k → PutsBy disk a c (i + k)
+  pub puts_more : (a b c : StoreState D) (f : FrozenFrames) (i k : ℕ) → a.frozen ≡ Some f → PutsBy disk a b i → PutsBy disk b c k →
+      PutsBy disk a c (i + k)
   puts_more a b c f i k is_some first second = record {
     snapshots = λ g is_g.
         let mid : FrozenFrames = record { frames = g.frames; size = g.size; left = g.left - i } in
@@ -47,13 +50,14 @@ module _ {D : Type 0} (disk : D → Disk) where
           to_move = (snapshots_of disk a).to_move;
         }) (total g);
     rest = second.rest ∙ ap (λ x. on_device_frozen x c) first.rest;
-    goes_on = goes_trans (disk a.durable.beneath) (disk b.durable.beneath) (disk c.durable.beneath) a.durable.books b.durable.books c.durable.books
+    goes_on = goes_trans (disk a.durable.beneath) (disk b.durable.beneath) (disk c.durable.beneath) a.durable.books b.durable.books
+        c.durable.books
         (ap (λ x. x.saved) (first.snapshots f is_some)) first.goes_on second.goes_on;
   } where
     total : (g : FrozenFrames) → g.left - i - k ≡ g.left - (i + k)
     total g = omega arith
 
   -- the next one may be put
-  pub next_requested : (a b : StoreState D) (count i : ℕ) → ((f : FrozenFrames) × (a.frozen ≡ Some f) × (count ≤ f.left)) → PutsBy disk a b i → i < count →
-      (f : FrozenFrames) × (b.frozen ≡ Some f) × (0 < f.left)
+  pub next_requested : (a b : StoreState D) (count i : ℕ) → ((f : FrozenFrames) × (a.frozen ≡ Some f) × (count ≤ f.left)) →
+      PutsBy disk a b i → i < count → (f : FrozenFrames) × (b.frozen ≡ Some f) × (0 < f.left)
   next_requested a b count i requested so_far lt = search (arith, ap (λ x. x.frozen) (so_far.snapshots requested.0 requested.1))

@@ -38,7 +38,8 @@ same_ranges g rs = grind (arith, nat_tests)
 
 pub unsized_is_whole : UnsizedIsWhole
 unsized_is_whole p age frames text sound reported =
-    let same : reported.whole.world ≡ world_at age frames = grown_to_itself p.geometry (world_at age frames) reported.whole.world sound.sound
+    let same : reported.whole.world ≡ world_at age frames = grown_to_itself p.geometry (world_at age frames) reported.whole.world
+    sound.sound
     reported.whole.grown in
     record {
       table = reported.table;
@@ -82,7 +83,8 @@ module _ {D : Type 0} {disk : D → Disk} {device back : D} {s : SavedState} (re
         let v : World = described.0 in
         record {
           world = v;
-          grown = subst (λ (h : Geometry). IsGrown g h w v) new_is (subst (λ (h : Geometry). IsGrown h e.geometry w v) geometry_is described.1);
+          grown = subst (λ (h : Geometry). IsGrown g h w v) new_is (subst (λ (h : Geometry). IsGrown h e.geometry w v) geometry_is
+              described.1);
           describes = subst (λ (h : Geometry). Describes h v e) new_is described.2;
           brief = brief_grown d e grown.same whole.describes.numbers whole.brief;
           ranges = grown.same.ranges ∙ ap (λ (h : Geometry). grown_ranges h e.geometry d.ranges.items) geometry_is
@@ -129,10 +131,12 @@ module _ (sizes : Sizes) (d e : Description) (grown : IsGrownFrom sizes d e) whe
   grown_has_fields fields = fields_grown d e grown.same fields
 
   pub grown_has_text : MayBeLaid d.geometry d.ranges.items → CanBeSpelled d → CanBeSpelled e
-  grown_has_text may spelled = grown_spelled d e grown.same grown.limits (omega (arith, may.geometry.most_nodes, may.geometry.most_pages)) grown.pages spelled
+  grown_has_text may spelled = grown_spelled d e grown.same grown.limits (omega (arith, may.geometry.most_nodes, may.geometry.most_pages))
+      grown.pages spelled
 
   module _ (output output_left : Written) where
-    pub tells_text : (outcome : Result (Unit {0}) Fault) → TellsDescription e output output_left outcome → TellsGrown d sizes output output_left outcome
+    pub tells_text : (outcome : Result (Unit {0}) Fault) → TellsDescription e output output_left outcome →
+        TellsGrown d sizes output output_left outcome
     tells_text (Ok a) tells = (e, grown, tells)
     tells_text (Err fault.CannotWriteOutput) tells = (e, grown, tells)
     tells_text (Err (fault.Sizes why)) tells = absurd tells

@@ -7,8 +7,9 @@ use Rattle.std.proofs.Common.{◌≡◌, ◌↔◌, ◌∷◌}
 use Rattle.jobs.specs.declared.fault.Fault.TheVariants as fault
 
 -- what is told of the processes that a question is about
-pub tells_of_starts : (f : Format) (os : List Object) (named starts trusted : List ℕ) (q : ReachQuestion) (output output_left : Written) → AreStarts os named starts
-    → (outcome : Result (Unit {0}) Fault) → TellsOf f os starts trusted q output output_left outcome → TellsReach f os named trusted q output output_left outcome
+pub tells_of_starts : (f : Format) (os : List Object) (named starts trusted : List ℕ) (q : ReachQuestion) (output output_left : Written) →
+    AreStarts os named starts → (outcome : Result (Unit {0}) Fault) → TellsOf f os starts trusted q output output_left outcome →
+    TellsReach f os named trusted q output output_left outcome
 tells_of_starts f os named starts trusted q output output_left are (Err (fault.NoProcess p)) tells = absurd tells
 tells_of_starts f os named starts trusted q output output_left are (Err fault.NoMemory) tells = tells
 tells_of_starts f os named starts trusted q output output_left are outcome tells = (starts, are, tells)
@@ -23,8 +24,8 @@ named_starts os [] some are = absurd (cc)
 named_starts os (p ∷ ps) some are = (refl, are)
 
 -- if all that are named are processes, the first that is missing is one of those trusted
-pub missing_trusted : (os : List Object) (named trusted : List ℕ) (r : Option ℕ) → r ≡ find (λ n. not (is_process os n)) trusted → AreProcesses os named →
-    IfSome r (IsFirstMissing os named trusted)
+pub missing_trusted : (os : List Object) (named trusted : List ℕ) (r : Option ℕ) → r ≡ find (λ n. not (is_process os n)) trusted →
+    AreProcesses os named → IfSome r (IsFirstMissing os named trusted)
 missing_trusted os named trusted None is all = tt
 missing_trusted os named trusted (Some p) is all = inr (all, sym is)
 
@@ -34,8 +35,9 @@ module _ {D : Type 0} {disk : D → Disk} {device back : D} {s : SavedState} (re
   pub objects_sound : AreSoundObjects objects
   objects_sound = subst AreSoundObjects (sym are) (s.plan.geometry, s.header.age, reads.sound.sound)
 
-  pub reaches_image : (f : Format) (named trusted : List ℕ) (q : ReachQuestion) (output output_left : Written) (outcome : Result (Unit {0}) Fault) →
-      TellsReach f objects named trusted q output output_left outcome → ReachesImage f disk named trusted q device back output output_left outcome
+  pub reaches_image : (f : Format) (named trusted : List ℕ) (q : ReachQuestion) (output output_left : Written)
+      (outcome : Result (Unit {0}) Fault) → TellsReach f objects named trusted q output output_left outcome →
+      ReachesImage f disk named trusted q device back output output_left outcome
   reaches_image f named trusted q output output_left (Err (fault.Open why)) tells = absurd tells.2
   reaches_image f named trusted q output output_left outcome tells =
       (s, reads, subst (λ (os : List Object). TellsReach f os named trusted q output output_left outcome) are tells)

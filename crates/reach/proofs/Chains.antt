@@ -17,7 +17,8 @@ abbrev IsIn : (ℕ → Bool) → Option ℕ → Type 0
 IsIn other o = elim o [ None ↦ Unit {0} | Some m ↦ IsTrue (other m) ]
 
 -- what a capability conveys is in each set that it stays inside
-pub named_inside : (follows : Links) (other : ℕ → Bool) (c : Capability) (n : ℕ) → Conveys follows c n → StaysFor follows other c → IsTrue (other n)
+pub named_inside : (follows : Links) (other : ℕ → Bool) (c : Capability) (n : ℕ) → Conveys follows c n → StaysFor follows other c →
+    IsTrue (other n)
 named_inside follows other c n conveys stays = go follows.purpose conveys.0 stays
   where
     go : (p : Purpose) → IsFollowed p c → StaysAs p follows.trusted other c → IsTrue (other n)
@@ -39,7 +40,8 @@ void_stays follows inside = go follows.purpose
 abbrev ConveysOnly : Purpose → (ℕ → Bool) → (ℕ → Bool) → Capability → Type 0
 ConveysOnly p trusted inside c = (m : ℕ) → IsFollowed p c → (StartsOne trusted c → ⊥) → named c ≡ Some m → IsTrue (inside m)
 
-stays_to_change : (trusted inside : ℕ → Bool) (c : Capability) → ConveysOnly purpose.Change trusted inside c → StaysAs purpose.Change trusted inside c
+stays_to_change : (trusted inside : ℕ → Bool) (c : Capability) → ConveysOnly purpose.Change trusted inside c →
+    StaysAs purpose.Change trusted inside c
 stays_to_change trusted inside (Page o a) conveyed = elim (cases_eq a.0 3)
     [ inl weak ↦ inl (inl weak) | inr strong ↦ inl (inr (conveyed o strong (λ starts. starts) refl)) ]
 stays_to_change trusted inside (Node o a) conveyed = elim (cases_eq a.0 3)
@@ -56,7 +58,8 @@ stays_to_change trusted inside (Resume p) conveyed = inl (inr (conveyed p (λ we
 stays_to_change trusted inside (Bank b) conveyed = inl (inr (conveyed b (λ weak. weak) (λ starts. starts) refl))
 stays_to_change trusted inside other conveyed = inl (inl tt)
 
-stays_to_read : (trusted inside : ℕ → Bool) (c : Capability) → ConveysOnly purpose.Read trusted inside c → StaysAs purpose.Read trusted inside c
+stays_to_read : (trusted inside : ℕ → Bool) (c : Capability) → ConveysOnly purpose.Read trusted inside c →
+    StaysAs purpose.Read trusted inside c
 stays_to_read trusted inside (Page o a) conveyed = inl (conveyed o tt (λ starts. starts) refl)
 stays_to_read trusted inside (Node o a) conveyed = inl (conveyed o tt (λ starts. starts) refl)
 stays_to_read trusted inside (Space o h a) conveyed = inl (conveyed o tt (λ starts. starts) refl)
@@ -70,7 +73,8 @@ stays_to_read trusted inside (Resume p) conveyed = inl (conveyed p tt (λ starts
 stays_to_read trusted inside (Bank b) conveyed = inl (conveyed b tt (λ starts. starts) refl)
 stays_to_read trusted inside other conveyed = inl tt
 
-pub stays_inside : (follows : Links) (inside : ℕ → Bool) (c : Capability) → ((m : ℕ) → Conveys follows c m → IsTrue (inside m)) → StaysFor follows inside c
+pub stays_inside : (follows : Links) (inside : ℕ → Bool) (c : Capability) → ((m : ℕ) → Conveys follows c m → IsTrue (inside m)) →
+    StaysFor follows inside c
 stays_inside follows inside c conveyed = go follows.purpose (λ m is starts names. conveyed m (is, starts, names))
   where
     go : (p : Purpose) → ConveysOnly p follows.trusted inside c → StaysAs p follows.trusted inside c
@@ -78,8 +82,8 @@ stays_inside follows inside c conveyed = go follows.purpose (λ m is starts name
     go purpose.Read only = stays_to_read follows.trusted inside c only
 
 -- the slots of an object
-slots_inside : (os : List Object) (follows : Links) (inside : ℕ → Bool) (n i : ℕ) (x : Content Capability) → ((w : Way) (m : ℕ) → IsWay os follows n x w m → IsTrue (inside m)) →
-    StaysFor follows inside (slice_index_or (slots_in x) i Void)
+slots_inside : (os : List Object) (follows : Links) (inside : ℕ → Bool) (n i : ℕ) (x : Content Capability) →
+    ((w : Way) (m : ℕ) → IsWay os follows n x w m → IsTrue (inside m)) → StaysFor follows inside (slice_index_or (slots_in x) i Void)
 slots_inside os follows inside n i (content.Node slots) continues = stays_inside follows inside (slice_index_or slots i Void)
     (λ m conveys. continues (way.Slot i (slice_index_or slots i Void)) m (refl, conveys))
 slots_inside os follows inside n i (content.Annex slots) continues = stays_inside follows inside (slice_index_or slots i Void)
@@ -87,18 +91,20 @@ slots_inside os follows inside n i (content.Annex slots) continues = stays_insid
 slots_inside os follows inside n i x continues = void_stays follows inside
 
 -- a set that no step leaves is closed
-pub closed_by_steps : (os : List Object) (follows : Links) (inside : ℕ → Bool) → ((s : Step) → IsStep os follows s → IsTrue (inside s.from) → IsTrue (inside s.to)) →
-    IsClosedFor follows os inside
+pub closed_by_steps : (os : List Object) (follows : Links) (inside : ℕ → Bool) →
+    ((s : Step) → IsStep os follows s → IsTrue (inside s.from) → IsTrue (inside s.to)) → IsClosedFor follows os inside
 closed_by_steps os follows inside continues = record {
   annexes = λ p is root. continues (record { from = p; way = way.Annex; to = annex_at os p }) (root, refl) is;
   owned = λ b n is bank free owned. continues (record { from = b; way = way.Owner; to = n }) (bank, free, owned) is;
   slots = λ n i is. slots_inside os follows inside n i (content_at os n) (λ w m by. continues (record { from = n; way = w; to = m }) by is);
-  spaces = λ p is. stays_inside follows inside _ (λ m conveys. continues (record { from = p; way = way.Space (root_at os p).space; to = m }) (refl, conveys) is);
+  spaces = λ p is. stays_inside follows inside _ (λ m conveys. continues (record { from = p; way = way.Space (root_at os p).space; to = m })
+      (refl, conveys) is);
 }
 
 -- no step leaves a closed set
 module _ (os : List Object) (follows : Links) (inside : ℕ → Bool) (closed : IsClosedFor follows os inside) where
-  held_inside : (n i : ℕ) (x : Content Capability) → content_at os n ≡ x → IsTrue (inside n) → StaysFor follows inside (slice_index_or (held_by os x) i Void)
+  held_inside : (n i : ℕ) (x : Content Capability) → content_at os n ≡ x → IsTrue (inside n) →
+      StaysFor follows inside (slice_index_or (held_by os x) i Void)
   held_inside n i (content.Node slots) is member = rw is at (closed.slots n i member)
   held_inside n i (content.Root root) is member = grind (arith, nat_tests)
   held_inside n i (content.Annex slots) is member = rw is at (closed.slots n i member)
@@ -110,12 +116,16 @@ module _ (os : List Object) (follows : Links) (inside : ℕ → Bool) (closed : 
       go : (w : Way) (m : ℕ) → IsWay os follows s.from (content_at os s.from) w m → IsTrue (inside m)
       go way.Annex m by = subst (λ (k : ℕ). IsTrue (inside k)) by.1 (closed.annexes s.from member by.0)
       go way.Owner m by = closed.owned s.from m member by.0 by.1 by.2
-      go (way.Space c) m by = named_inside follows inside c m by.1 (subst (λ (d : Capability). StaysFor follows inside d) by.0 (closed.spaces s.from member))
+      go (way.Space c) m by = named_inside follows inside c m by.1 (subst (λ (d : Capability). StaysFor follows inside d) by.0
+          (closed.spaces s.from member))
       go (way.Slot i c) m by = named_inside follows inside c m by.1
           (subst (λ (d : Capability). StaysFor follows inside d) by.0 (held_inside s.from i (content_at os s.from) refl member))
 
 pub steps_are_authority : StepsAreAuthority
-steps_are_authority os follows inside = (λ closed. step_inside os follows inside closed, λ continues. closed_by_steps os follows inside continues)
+steps_are_authority os follows inside = (
+  λ closed. step_inside os follows inside closed,
+  λ continues. closed_by_steps os follows inside continues,
+)
 
 same_truth : (a b : Bool) → (IsTrue a → IsTrue b) → (IsTrue b → IsTrue a) → a ≡ b
 same_truth true b there back = sym (there refl)
@@ -132,7 +142,8 @@ change_stays follows inside c stays = go follows.purpose stays
     go purpose.Read (inl named) = inl (inr named)
     go purpose.Read (inr starts) = inr starts
 
-closed_to_change : (os : List Object) (follows : Links) (inside : ℕ → Bool) → IsClosedFor follows os inside → IsClosedBut follows.trusted os inside
+closed_to_change : (os : List Object) (follows : Links) (inside : ℕ → Bool) → IsClosedFor follows os inside →
+    IsClosedBut follows.trusted os inside
 closed_to_change os follows inside h = record {
   annexes = h.annexes;
   owned = h.owned;
@@ -152,7 +163,8 @@ closed_sets_are os trusted inside = (
   ),
 )
 
-pub bounds_runs : (os : List Object) (follows : Links) (inside : ℕ → Bool) → IsClosedFor follows os inside → BoundsRuns os follows.trusted inside
+pub bounds_runs : (os : List Object) (follows : Links) (inside : ℕ → Bool) → IsClosedFor follows os inside →
+    BoundsRuns os follows.trusted inside
 bounds_runs os follows inside closed g s t turns same sound run by =
     subst (λ (us : List Object). IsConfinedBut follows.trusted inside us t.now.objects) same
     (run_confined g follows.trusted inside s t turns sound
@@ -167,7 +179,8 @@ pub record IsBack (os : List Object) (follows : Links) (l : Levels) (o at : ℕ)
   pub count : (g : Found) → found_at l o ≡ Some g → found.level + length steps ≡ g.level
 
 -- All was searched.
-module _ (os : List Object) (follows : Links) (starts : List ℕ) (level : ℕ) (l : Levels) (over : l.greatest < level) (searched : IsSearched os follows starts level l) where
+module _ (os : List Object) (follows : Links) (starts : List ℕ) (level : ℕ) (l : Levels) (over : l.greatest < level)
+    (searched : IsSearched os follows starts level l) where
   continues_on : (n k : ℕ) → IsFoundIn l n k → (s : Step) → IsFrom os follows n s → IsFoundIn l s.to (k + 1)
   continues_on n k found s from = grind (arith, nat_tests)
 
@@ -188,13 +201,15 @@ module _ (os : List Object) (follows : Links) (starts : List ℕ) (level : ℕ) 
   some_found n is = some_of (found_at l n) is
 
   -- it is in each closed set that contains the first numbers
-  found_inside : (other : ℕ → Bool) → IsClosedFor follows os other → All (λ p. IsTrue (other p)) starts → (k n : ℕ) (f : Found) → found_at l n ≡ Some f → f.level < k
-      → IsTrue (other n)
+  found_inside : (other : ℕ → Bool) → IsClosedFor follows os other → All (λ p. IsTrue (other p)) starts → (k n : ℕ) (f : Found) →
+      found_at l n ≡ Some f → f.level < k → IsTrue (other n)
   found_inside other closed begins zero n f is lt = absurd (omega (arith, lt))
   found_inside other closed begins (suc k) n f is lt =
-      ⊎_elim (λ first. subst (λ (m : ℕ). IsTrue (other m)) first.1.2 (begins first.1.0 n first.1.1)) (λ after. subst (λ (m : ℕ). IsTrue (other m)) after.to
+      ⊎_elim (λ first. subst (λ (m : ℕ). IsTrue (other m)) first.1.2 (begins first.1.0 n first.1.1))
+      (λ after. subst (λ (m : ℕ). IsTrue (other m)) after.to
       (step_inside os follows other closed after.step after.step_is
-      (found_inside other closed begins k after.step.from after.before after.from (omega (arith, lt, after.level))))) (searched.linked n f is)
+      (found_inside other closed begins k after.step.from after.before after.from (omega (arith, lt, after.level)))))
+      (searched.linked n f is)
 
   -- so it is the least of them
   pub is_reach : (inside : ℕ → Bool) → ((n : ℕ) → inside n ≡ is_some (found_at l n)) → IsReach os follows starts inside
@@ -229,8 +244,8 @@ module _ (os : List Object) (follows : Links) (starts : List ℕ) (level : ℕ) 
     after_of : (step : Step) → option_and_then (λ (f : Found). f.step) (found_at l at) ≡ Some step → IsAfter os follows l at back.found
     after_of step is = grind (arith, nat_tests)
 
-    pub back_next : (step : Step) (new : List Step) → option_and_then (λ (f : Found). f.step) (found_at l at) ≡ Some step → new ≡ steps ++ step ∷ [] →
-        IsBack os follows l o step.from new
+    pub back_next : (step : Step) (new : List Step) → option_and_then (λ (f : Found). f.step) (found_at l at) ≡ Some step →
+        new ≡ steps ++ step ∷ [] → IsBack os follows l o step.from new
     back_next step new is pushed = grind (arith, nat_tests, after_of, same_Some, step_is, reverse-append, length_push)
 
     pub back_level : (step : Step) → option_and_then (λ (f : Found). f.step) (found_at l at) ≡ Some step → (level_of : Option Found → ℕ) →
@@ -248,7 +263,9 @@ module _ (os : List Object) (follows : Links) (starts : List ℕ) (level : ℕ) 
           let same : found.0 ≡ g = same_Some found.0 g (sym found.1 ∙ is) in
           let level : found.0.level ≡ g.level = ap (λ (f : Found). f.level) same in
           omega (arith, level, found.2, back.count g is, first.0.level, length-reverse steps);
-    }) (λ after. let wrong : Some after.step ≡ None = sym after.is ∙ step_is None none in absurd (cc)) (searched.linked at back.found back.is)
+    }) (λ after. let wrong : Some after.step ≡ None = sym after.is ∙ step_is None none in absurd (cc))
+        (searched.linked at back.found back.is)
 
-    pub back_shortest : option_and_then (λ (f : Found). f.step) (found_at l at) ≡ None → is_some (found_at l o) ≡ true → IsShortest os follows starts (reverse steps) o
+    pub back_shortest : option_and_then (λ (f : Found). f.step) (found_at l at) ≡ None → is_some (found_at l o) ≡ true →
+        IsShortest os follows starts (reverse steps) o
     back_shortest none some = let found = some_found o some in back_whole none found.0 found.1

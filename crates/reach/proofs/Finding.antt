@@ -31,7 +31,8 @@ module _ (old new : Levels) (number : ℕ) (f : Found) (none : found_at old numb
   found_here = ap (λ (l : List (Option Found)). slice_index_or l number None) set ∙ get_or-set_same old.found.items number (Some f) None lt
 
   found_there : (n : ℕ) → n ≢ number → found_at new n ≡ found_at old n
-  found_there n other = ap (λ (l : List (Option Found)). slice_index_or l n None) set ∙ get_or-set_other old.found.items number n (Some f) None other
+  found_there n other = ap (λ (l : List (Option Found)). slice_index_or l n None) set
+      ∙ get_or-set_other old.found.items number n (Some f) None other
 
   found_count : length new.found.items ≡ length old.found.items
   found_count = ap (λ (l : List (Option Found)). length l) set ∙ length-set old.found.items number (Some f)
@@ -80,11 +81,17 @@ pub finds_none : (By : Step → Type 0) (level : ℕ) (l : Levels) → ((s : Ste
 finds_none By level l none = grind (arith, nat_tests)
 
 found_more : (P Q : Step → Type 0) (level n : ℕ) (f : Found) → ((s : Step) → P s → Q s) → IsFoundBy P level n f → IsFoundBy Q level n f
-found_more P Q level n f more found = record { at = found.at; step = found.step; is = found.is; to = found.to; by = more found.step found.by }
+found_more P Q level n f more found = record {
+  at = found.at;
+  step = found.step;
+  is = found.is;
+  to = found.to;
+  by = more found.step found.by;
+}
 
 -- the same steps in other words
-pub finds_same : (P Q : Step → Type 0) (level : ℕ) (a b : Levels) → ((s : Step) → P s → Q s) → ((s : Step) → Q s → P s) → FindsBy P level a b →
-    FindsBy Q level a b
+pub finds_same : (P Q : Step → Type 0) (level : ℕ) (a b : Levels) → ((s : Step) → P s → Q s) → ((s : Step) → Q s → P s) →
+    FindsBy P level a b → FindsBy Q level a b
 finds_same P Q level a b there back finds = record {
   count = finds.count;
   kept = finds.kept;
@@ -96,12 +103,13 @@ finds_same P Q level a b there back finds = record {
 }
 
 -- some steps, and then others
-pub finds_both : (P Q R : Step → Type 0) (level : ℕ) (a b c : Levels) → ((s : Step) → P s → R s) → ((s : Step) → Q s → R s) → ((s : Step) → R s → P s ⊎ Q s)
-    → FindsBy P level a b → FindsBy Q level b c → FindsBy R level a c
+pub finds_both : (P Q R : Step → Type 0) (level : ℕ) (a b c : Levels) → ((s : Step) → P s → R s) → ((s : Step) → Q s → R s) →
+    ((s : Step) → R s → P s ⊎ Q s) → FindsBy P level a b → FindsBy Q level b c → FindsBy R level a c
 finds_both P Q R level a b c from_first from_next either first next = record {
   count = next.count ∙ first.count;
   kept = λ n f is. next.kept n f (first.kept n f is);
-  each = λ n f is. ⊎_elim (λ middle. ⊎_elim (λ before. inl before) (λ now. inr (found_more _ _ _ _ _ from_first now)) (first.each n f middle))
+  each = λ n f is. ⊎_elim (λ middle. ⊎_elim (λ before. inl before) (λ now. inr (found_more _ _ _ _ _ from_first now))
+      (first.each n f middle))
       (λ now. inr (found_more _ _ _ _ _ from_next now)) (next.each n f is);
   all = λ s by. ⊎_elim (λ p. let found = first.all s p in (found.0, next.kept s.to found.0 found.1)) (λ q. next.all s q) (either s by);
   later = omega (arith, first.later, next.later);
@@ -112,26 +120,35 @@ finds_both P Q R level a b c from_first from_next either first next = record {
 -- the step by a capability
 pub finds_by : (follows : Links) (from : ℕ) (by : Way) (c : Capability) (to level : ℕ) (a b : Levels) → Conveys follows c to →
     FindsBy (IsTheStep (record { from = from; way = by; to = to })) level a b → FindsBy (IsBy follows from by c) level a b
-finds_by follows from by c to level a b conveys = finds_same (IsTheStep (record { from = from; way = by; to = to })) (IsBy follows from by c) level a b
+finds_by follows from by c to level a b conveys = finds_same (IsTheStep (record { from = from; way = by; to = to }))
+    (IsBy follows from by c) level a b
     (λ s is. (is.0, is.1, rw is.2 conveys)) (λ s is. (is.0, is.1, same_Some s.to to (sym is.2.2 ∙ conveys.2)))
 
 -- one capability more of a list
-pub held_next : (follows : Links) (slots : List Capability) (i from level : ℕ) (a b c : Levels) → FindsBy (IsHeldIn follows slots i from) level a b
-    → FindsBy (IsBy follows from (way.Slot i (slice_index_or slots i Void)) (slice_index_or slots i Void)) level b c → FindsBy (IsHeldIn follows slots (i + 1) from) level a c
+pub held_next : (follows : Links) (slots : List Capability) (i from level : ℕ) (a b c : Levels) →
+    FindsBy (IsHeldIn follows slots i from) level a b → FindsBy (IsBy follows from (way.Slot i (slice_index_or slots i Void))
+    (slice_index_or slots i Void)) level b c → FindsBy (IsHeldIn follows slots (i + 1) from) level a c
 held_next follows slots i from level a b c first next = finds_both (IsHeldIn follows slots i from)
-    (IsBy follows from (way.Slot i (slice_index_or slots i Void)) (slice_index_or slots i Void)) (IsHeldIn follows slots (i + 1) from) level a b c
+    (IsBy follows from (way.Slot i (slice_index_or slots i Void)) (slice_index_or slots i Void)) (IsHeldIn follows slots (i + 1) from) level
+    a b c
     (λ s held. (held.0, omega (arith, held.1), held.2)) (λ s by. (i, omega arith, by))
     grind (arith, nat_tests) first next
 
 -- one number more that a bank may own
-pub owned_next_step : (os : List Object) (i bank level : ℕ) (step : Step) (a b c : Levels) → step.from ≡ bank → step.way ≡ way.Owner → step.to ≡ i
-    → is_free (content_at os i) ≡ false → owner_at os i ≡ bank → FindsBy (IsOwnedBelow os i bank) level a b → FindsBy (IsTheStep step) level b c →
-    FindsBy (IsOwnedBelow os (i + 1) bank) level a c
+pub owned_next_step : (os : List Object) (i bank level : ℕ) (step : Step) (a b c : Levels) → step.from ≡ bank → step.way ≡ way.Owner →
+    step.to ≡ i → is_free (content_at os i) ≡ false → owner_at os i ≡ bank → FindsBy (IsOwnedBelow os i bank) level a b →
+    FindsBy (IsTheStep step) level b c → FindsBy (IsOwnedBelow os (i + 1) bank) level a c
 owned_next_step os i bank level step a b c from by to free owner first next = finds_both (IsOwnedBelow os i bank) (IsTheStep step)
     (IsOwnedBelow os (i + 1) bank) level a b c
     (λ s owned. (owned.0, owned.1, omega (arith, owned.2), owned.3, owned.4))
-    (λ s is. let here : s.to ≡ i = is.2 ∙ to in
-    (is.0 ∙ from, is.1 ∙ by, omega (arith, here), ap (λ (n : ℕ). is_free (content_at os n)) here ∙ free, ap (λ (n : ℕ). owner_at os n) here ∙ owner))
+    (λ s is. let here : s.to ≡ i = is.2 ∙ to in (
+      is.0 ∙ from,
+      is.1 ∙ by,
+      omega (arith, here),
+      ap (λ (n : ℕ). is_free (content_at os n)) here ∙ free,
+      ap (λ (n : ℕ). owner_at os n) here
+          ∙ owner,
+    ))
     grind (arith, nat_tests) first next
 
 pub owned_skip : (os : List Object) (i bank level : ℕ) (a b : Levels) → (is_free (content_at os i) ≡ false → owner_at os i ≡ bank → ⊥)

@@ -35,4 +35,8 @@ module _ (os : List Object) (i : ℕ) (all : List ℕ) (lists : Lists os i all) 
   }
 
   pub lists_whole : length os ≤ i → (n : ℕ) → Contains all n ↔ IsTrue (is_process os n)
-  lists_whole whole n = (lists.some n, λ process. lists.each n (let there = known os n is_root refl process in omega (arith, there, whole)) process)
+  lists_whole whole n = (
+    lists.some n,
+    λ process. lists.each n (let there = known os n is_root refl process in omega (arith, there, whole))
+        process,
+  )

@@ -11,13 +11,15 @@ level_of : (o : Option Found) (f : Found) (k : ℕ) → o ≡ Some f → f.level
 level_of o f k is at = grind (arith, nat_tests)
 
 -- the numbers below one were followed where they are at the level
-module _ (os : List Object) (follows : Links) (start now : Levels) (level i : ℕ) (first : FindsBy (IsFromLevel os follows start level i) (level + 1) start now) where
+module _ (os : List Object) (follows : Links) (start now : Levels) (level i : ℕ)
+    (first : FindsBy (IsFromLevel os follows start level i) (level + 1) start now) where
   at_once : (n : ℕ) → IsAt now n level → IsAt start n level
   at_once n at = ⊎_elim (λ before. (at.0, before, at.2)) (λ found. absurd (omega (arith, found.at, at.2))) (first.each n at.0 at.1)
 
   pub level_next : (new : Levels) → has_level (found_at now i) level ≡ true → FindsBy (IsFrom os follows i) (level + 1) now new →
       FindsBy (IsFromLevel os follows start level (i + 1)) (level + 1) start new
-  level_next new test next = finds_both (IsFromLevel os follows start level i) (IsFrom os follows i) (IsFromLevel os follows start level (i + 1)) (level + 1) start now new
+  level_next new test next = finds_both (IsFromLevel os follows start level i) (IsFrom os follows i)
+      (IsFromLevel os follows start level (i + 1)) (level + 1) start now new
       (λ s from. (from.0, omega (arith, from.1), from.2)) (λ s from. (rw from.0 (at_once i (search arith)), omega (arith, from.0), from.1))
       (λ s from. elim (cases_lt s.from i) [
         | inl below ↦ inl (from.0, below, from.2)
@@ -43,19 +45,20 @@ none_found : (count n : ℕ) (f : Found) → slice_index_or (replicate count Non
 none_found (suc c) (suc n) f is = none_found c n f is
 none_found count n f is = absurd (cc)
 
-pub begun_none : (os : List Object) (starts : List ℕ) (count : ℕ) (l : Levels) → l.found.items ≡ replicate count None → count ≡ length os → l.greatest ≡ 0 →
-    Begun os starts 0 l
+pub begun_none : (os : List Object) (starts : List ℕ) (count : ℕ) (l : Levels) → l.found.items ≡ replicate count None → count ≡ length os →
+    l.greatest ≡ 0 → Begun os starts 0 l
 begun_none os starts count l is same greatest = grind (arith, nat_tests, none_found, missing_most, length-replicate)
 
-pub begun_next : (os : List Object) (starts : List ℕ) (i : ℕ) (old new : Levels) → Begun os starts i old → Begins (slice_index_or starts i 0) old new →
-    i < length starts → Begun os starts (i + 1) new
+pub begun_next : (os : List Object) (starts : List ℕ) (i : ℕ) (old new : Levels) → Begun os starts i old →
+    Begins (slice_index_or starts i 0) old new → i < length starts → Begun os starts (i + 1) new
 begun_next os starts i old new begun begins lt = record {
   count = begins.count ∙ begun.count;
   begun = λ k d below. elim (cases_lt k i) [
     | inl before ↦ let found = begun.begun k d before in (found.0, begins.kept (slice_index_or starts k d) found.0 found.1, found.2)
     | inr past ↦
         let here : i ≡ k = omega (arith, past, below) in
-        subst (λ (j : ℕ). IsFoundIn new (slice_index_or starts j d) 0) here (subst (λ (n : ℕ). IsFoundIn new n 0) (get_or_default starts i 0 d lt) found_now)
+        subst (λ (j : ℕ). IsFoundIn new (slice_index_or starts j d) 0) here
+        (subst (λ (n : ℕ). IsFoundIn new n 0) (get_or_default starts i 0 d lt) found_now)
   ];
   first = first_now;
   greatest = begins.greatest ∙ begun.greatest;
@@ -71,7 +74,8 @@ begun_next os starts i old new begun begins lt = record {
     found_now : IsFoundIn new (slice_index_or starts i 0) 0
     found_now = grind (arith, nat_tests, first_now)
 
-pub searched_first : (os : List Object) (follows : Links) (starts : List ℕ) (i : ℕ) (l : Levels) → Begun os starts i l → length starts ≤ i → IsSearched os follows starts 0 l
+pub searched_first : (os : List Object) (follows : Links) (starts : List ℕ) (i : ℕ) (l : Levels) → Begun os starts i l → length starts ≤ i →
+    IsSearched os follows starts 0 l
 searched_first os follows starts i l begun whole = grind (arith, nat_tests)
 
 -- what is found is one of the numbers
@@ -81,7 +85,8 @@ found_below (x ∷ xs) zero f is = omega arith
 found_below (x ∷ xs) (suc n) f is = let later : n < length xs = found_below xs n f is in omega (arith, later)
 
 -- one level more was followed
-module _ (os : List Object) (follows : Links) (starts : List ℕ) (level : ℕ) (old new : Levels) (searched : IsSearched os follows starts level old)
+module _ (os : List Object) (follows : Links) (starts : List ℕ) (level : ℕ) (old new : Levels)
+    (searched : IsSearched os follows starts level old)
     (finds : FindsBy (IsFromLevel os follows old level (length os)) (level + 1) old new) where
   kept_in : (n k : ℕ) → IsFoundIn old n k → IsFoundIn new n k
   kept_in n k found = (found.0, finds.kept n found.0 found.1, found.2)
@@ -95,10 +100,12 @@ module _ (os : List Object) (follows : Links) (starts : List ℕ) (level : ℕ) 
   deepest_now : (n : ℕ) (f : Found) → found_at new n ≡ Some f → f.level ≤ level + 1
   deepest_now n f is = ⊎_elim (λ before. omega (arith, searched.deepest n f before)) (λ now. omega (arith, now.at)) (finds.each n f is)
 
-  continues_here : (n : ℕ) (f : Found) → found_at old n ≡ Some f → f.level ≡ level → (s : Step) → IsFrom os follows n s → IsFoundIn new s.to (f.level + 1)
+  continues_here : (n : ℕ) (f : Found) → found_at old n ≡ Some f → f.level ≡ level → (s : Step) → IsFrom os follows n s →
+      IsFoundIn new s.to (f.level + 1)
   continues_here n f is at s from = grind (arith, nat_tests, found_below, deepest_now)
 
-  continues_now : (n : ℕ) (f : Found) → found_at new n ≡ Some f → f.level < level + 1 → (s : Step) → IsFrom os follows n s → IsFoundIn new s.to (f.level + 1)
+  continues_now : (n : ℕ) (f : Found) → found_at new n ≡ Some f → f.level < level + 1 → (s : Step) → IsFrom os follows n s →
+      IsFoundIn new s.to (f.level + 1)
   continues_now n f is lt s from = ⊎_elim (λ before. elim (cases_lt f.level level) [
     | inl below ↦ kept_in s.to _ (searched.continues n f before below s from)
     | inr past ↦ continues_here n f before (omega (arith, past, lt)) s from
@@ -109,7 +116,8 @@ module _ (os : List Object) (follows : Links) (starts : List ℕ) (level : ℕ) 
 
 -- the set of some numbers
 
-member_more : (xs : List ℕ) (i n : ℕ) → i < length xs → is_member (take (suc i) xs) n ≡ (is_member (take i xs) n || (n == slice_index_or xs i 0))
+member_more : (xs : List ℕ) (i n : ℕ) → i < length xs → is_member (take (suc i) xs) n
+    ≡ (is_member (take i xs) n || (n == slice_index_or xs i 0))
 member_more [] i n lt = absurd (omega (arith, lt))
 member_more (x ∷ xs) zero n lt = grind (arith, nat_tests)
 member_more (x ∷ xs) (suc i) n lt =
@@ -144,8 +152,8 @@ set_first numbers total set is = record {
     unmarked (suc total) zero = refl
     unmarked (suc total) (suc n) = unmarked total n
 
-pub set_next : (numbers : List ℕ) (at total : ℕ) (old : List Bool) → IsSetOf numbers at total old → All (λ n. n < total) numbers → at < length numbers
-    → IsSetOf numbers (at + 1) total (slice_set old (slice_index_or numbers at 0) true)
+pub set_next : (numbers : List ℕ) (at total : ℕ) (old : List Bool) → IsSetOf numbers at total old → All (λ n. n < total) numbers →
+    at < length numbers → IsSetOf numbers (at + 1) total (slice_set old (slice_index_or numbers at 0) true)
 set_next numbers at total old set known lt =
     let x = slice_index_or numbers at 0 in
     let there : x < length old = subst (λ (k : ℕ). x < k) (sym set.count) (known at 0 lt) in

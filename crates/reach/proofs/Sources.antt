@@ -15,7 +15,8 @@ reach_is_change os follows inside n o reach = (
 )
 
 -- fewer numbers aren't marked
-pub marked_more : (marks : List Bool) (n : ℕ) → n < length marks → is_marked marks n ≡ false → unmarked (slice_set marks n true) + 1 ≡ unmarked marks
+pub marked_more : (marks : List Bool) (n : ℕ) → n < length marks → is_marked marks n ≡ false →
+    unmarked (slice_set marks n true) + 1 ≡ unmarked marks
 marked_more [] n lt none = absurd (omega (arith, lt))
 marked_more (false ∷ marks) zero lt none = omega arith
 marked_more (true ∷ marks) zero lt none = absurd (cc)
@@ -51,22 +52,24 @@ bank_there (content.Root root) is = refl
 bank_there (content.Annex registers) is = refl
 
 -- a capability in a slot that leads into a set
-pub slots_lead : (os : List Object) (follows : Links) (n : ℕ) (slots : List Capability) (inside : ℕ → Bool) → slots_in (content_at os n) ≡ slots
-    → (i : ℕ) × ConveysInto follows inside (slice_index_or slots i Void) → LeadsInto os follows inside n
+pub slots_lead : (os : List Object) (follows : Links) (n : ℕ) (slots : List Capability) (inside : ℕ → Bool) →
+    slots_in (content_at os n) ≡ slots → (i : ℕ) × ConveysInto follows inside (slice_index_or slots i Void) → LeadsInto os follows inside n
 slots_lead os follows n slots inside is at other closed member = at.1 other
     (subst (λ (l : List Capability). StaysFor follows other (slice_index_or l at.0 Void)) is (closed.slots n at.0 member))
 
-stays_at : (follows : Links) (other : ℕ → Bool) (slots : List Capability) (i : ℕ) → All (StaysFor follows other) slots → StaysFor follows other (slice_index_or slots i Void)
+stays_at : (follows : Links) (other : ℕ → Bool) (slots : List Capability) (i : ℕ) → All (StaysFor follows other) slots →
+    StaysFor follows other (slice_index_or slots i Void)
 stays_at follows other [] i all = void_stays follows other
 stays_at follows other (c ∷ cs) zero all = all 0 Void (omega arith)
 stays_at follows other (c ∷ cs) (suc i) all = stays_at follows other cs i (λ k d lt. all (suc k) d (omega (arith, lt)))
 
 -- none does, and the object holds nothing else
-pub slots_settle : (os : List Object) (n : ℕ) (slots : List Capability) (follows : Links) (other : ℕ → Bool) → is_process os n ≡ false → slots_in (content_at os n) ≡ slots
-    → All (StaysFor follows other) slots → IsClosedAt os follows other n
+pub slots_settle : (os : List Object) (n : ℕ) (slots : List Capability) (follows : Links) (other : ℕ → Bool) → is_process os n ≡ false →
+    slots_in (content_at os n) ≡ slots → All (StaysFor follows other) slots → IsClosedAt os follows other n
 slots_settle os n slots follows other no_root is all = record {
   annexes = λ root. let both : false ≡ true = sym no_root ∙ root in absurd (cc);
-  slots = λ i. subst (λ (l : List Capability). StaysFor follows other (slice_index_or l i Void)) (sym is) (stays_at follows other slots i all);
+  slots = λ i. subst (λ (l : List Capability). StaysFor follows other (slice_index_or l i Void)) (sym is)
+      (stays_at follows other slots i all);
   space = no_space (content_at os n) no_root;
 }
   where
@@ -101,18 +104,21 @@ adds_first os number old there = record {
 }
 
 module _ (os : List Object) (number at : ℕ) (old mid : List Bool) (adds : Adds os number at old mid) where
-  pub adds_next : AreSoundObjects os → at < length mid → is_marked mid at ≡ false → Adds os number (owner_at os at) old (slice_set mid at true)
+  pub adds_next : AreSoundObjects os → at < length mid → is_marked mid at ≡ false →
+      Adds os number (owner_at os at) old (slice_set mid at true)
   adds_next sound lt none = record {
     count = length-set mid at true ∙ adds.count;
     there = bank_there (content_at os (owner_at os at)) bank;
-    change = λ follows inside closed member. adds.change follows inside closed (closed.owned (owner_at os at) at member bank adds.there refl);
+    change = λ follows inside closed member. adds.change follows inside closed
+        (closed.owned (owner_at os at) at member bank adds.there refl);
     kept = λ n is. marked_kept mid at n (adds.kept n is);
     each = λ follows n is. ⊎_elim (λ here. inr (subst (λ (m : ℕ). CanChange os follows m number) (sym here) (adds.change follows)))
         (λ before. adds.each follows n before)
         (marked_each mid at n is);
     owners = λ has n is free. ⊎_elim (λ here. inr (ap (owner_at os) here))
         (λ before. ⊎_elim (λ marked. inl (marked_kept mid at (owner_at os n) marked))
-        (λ here. inl (subst (λ (m : ℕ). IsTrue (is_marked (slice_set mid at true) m)) (sym here) (marked_here mid at lt))) (adds.owners has n before free))
+        (λ here. inl (subst (λ (m : ℕ). IsTrue (is_marked (slice_set mid at true) m)) (sym here) (marked_here mid at lt)))
+        (adds.owners has n before free))
         (marked_each mid at n is);
     begun = inr (⊎_elim (λ start. (
       subst (λ (m : ℕ). IsTrue (is_marked (slice_set mid at true) m)) start.0 (marked_here mid at lt),
@@ -132,7 +138,8 @@ module _ (os : List Object) (number at : ℕ) (old mid : List Bool) (adds : Adds
     inside = ⊎_elim (λ start. subst (λ (m : ℕ). IsTrue (is_marked mid m)) start.0 member) (λ later. later.0) adds.begun;
     kept = adds.kept;
     each = adds.each;
-    owners = λ has n is free. ⊎_elim (λ marked. marked) (λ here. subst (λ (m : ℕ). IsTrue (is_marked mid m)) (sym here) member) (adds.owners has n is free);
+    owners = λ has n is free. ⊎_elim (λ marked. marked) (λ here. subst (λ (m : ℕ). IsTrue (is_marked mid m)) (sym here) member)
+        (adds.owners has n is free);
     fewer = λ none. ⊎_elim (λ start.
         let marked : is_marked old number ≡ true = ap (λ (l : List Bool). is_marked l number) (sym start.1)
         ∙ subst (λ (m : ℕ). IsTrue (is_marked mid m)) start.0 member in
@@ -143,7 +150,8 @@ module _ (os : List Object) (number at : ℕ) (old mid : List Bool) (adds : Adds
 pub grows_none : (os : List Object) (follows : Links) (l : List Bool) → Grows os follows l l
 grows_none os follows l = record { count = refl; kept = λ n is. is; each = λ o all. all; owners = λ has. has }
 
-pub grows_both : (os : List Object) (follows : Links) (a b c : List Bool) → Grows os follows a b → Grows os follows b c → Grows os follows a c
+pub grows_both : (os : List Object) (follows : Links) (a b c : List Bool) → Grows os follows a b → Grows os follows b c →
+    Grows os follows a c
 grows_both os follows a b c first next = record {
   count = next.count ∙ first.count;
   kept = λ n is. next.kept n (first.kept n is);
@@ -151,8 +159,8 @@ grows_both os follows a b c first next = record {
   owners = λ has. next.owners (first.owners has);
 }
 
-pub grows_by : (os : List Object) (follows : Links) (i : ℕ) (old new : List Bool) → LeadsInto os follows (is_marked old) i → AddsOwners os i old new →
-    Grows os follows old new
+pub grows_by : (os : List Object) (follows : Links) (i : ℕ) (old new : List Bool) → LeadsInto os follows (is_marked old) i →
+    AddsOwners os i old new → Grows os follows old new
 grows_by os follows i old new leads adds = record {
   count = adds.count;
   kept = adds.kept;
@@ -186,7 +194,8 @@ module _ (os : List Object) (follows : Links) (i : ℕ) (grew : Bool) (old mid :
       | inl below ↦ widens.settled none n below out
       | inr past ↦
           let is : i ≡ n = omega (arith, past, lt) in
-          subst (λ (m : ℕ). IsClosedAt os follows (others (is_marked mid)) m) is (here (subst (λ (m : ℕ). is_marked mid m ≡ false) (sym is) out))
+          subst (λ (m : ℕ). IsClosedAt os follows (others (is_marked mid)) m) is
+          (here (subst (λ (m : ℕ). is_marked mid m ≡ false) (sym is) out))
     ];
   }
 
@@ -194,7 +203,8 @@ module _ (os : List Object) (follows : Links) (i : ℕ) (grew : Bool) (old mid :
   no_more true is = omega (arith, widens.fewer is)
   no_more false is = omega (arith, ap unmarked (widens.same is))
 
-  pub widens_more : (new : List Bool) → is_marked mid i ≡ false → LeadsInto os follows (is_marked mid) i → AddsOwners os i mid new → Widens os follows (i + 1) true old new
+  pub widens_more : (new : List Bool) → is_marked mid i ≡ false → LeadsInto os follows (is_marked mid) i → AddsOwners os i mid new →
+      Widens os follows (i + 1) true old new
   widens_more new none leads adds =
       let grows = grows_by os follows i mid new leads adds in
       record {
@@ -220,8 +230,8 @@ none_marked zero n is = absurd (cc)
 none_marked (suc c) zero is = absurd (cc)
 none_marked (suc c) (suc n) is = none_marked c n is
 
-pub sources_first : (os : List Object) (follows : Links) (o : ℕ) (old new : List Bool) (count : ℕ) → old ≡ replicate count false → length old ≡ length os
-    → AddsOwners os o old new → Sources os follows o true new
+pub sources_first : (os : List Object) (follows : Links) (o : ℕ) (old new : List Bool) (count : ℕ) → old ≡ replicate count false →
+    length old ≡ length os → AddsOwners os o old new → Sources os follows o true new
 sources_first os follows o old new count is long adds = record {
   count = adds.count ∙ long;
   object = adds.inside;
@@ -243,8 +253,8 @@ sources_next os follows o grew old new sources widens = record {
   settled = widens.settled;
 }
 
-pub sources_grow : (os : List Object) (follows : Links) (o : ℕ) (old new : List Bool) → Sources os follows o true old → Grows os follows old new →
-    Sources os follows o true new
+pub sources_grow : (os : List Object) (follows : Links) (o : ℕ) (old new : List Bool) → Sources os follows o true old →
+    Grows os follows old new → Sources os follows o true new
 sources_grow os follows o old new sources grows = record {
   count = grows.count ∙ sources.count;
   object = grows.kept o sources.object;
@@ -258,13 +268,18 @@ abbrev pub work : Bool → List Bool → ℕ
 work true marks = unmarked marks + 1
 work false marks = unmarked marks
 
-pub work_less : (os : List Object) (follows : Links) (count : ℕ) (grew : Bool) (old new : List Bool) → Widens os follows count grew old new → work grew new < work true old
+pub work_less : (os : List Object) (follows : Links) (count : ℕ) (grew : Bool) (old new : List Bool) →
+    Widens os follows count grew old new → work grew new < work true old
 work_less os follows count true old new widens = omega (arith, widens.fewer refl)
 work_less os follows count false old new widens = omega (arith, ap unmarked (widens.same refl))
 
 -- an object that isn't there has nothing
 past_closed : (os : List Object) (follows : Links) (inside : ℕ → Bool) (n : ℕ) → length os ≤ n → IsClosedAt os follows inside n
-past_closed [] follows inside n past = record { annexes = λ is. absurd (cc); slots = λ i. void_stays follows inside; space = void_stays follows inside }
+past_closed [] follows inside n past = record {
+  annexes = λ is. absurd (cc);
+  slots = λ i. void_stays follows inside;
+  space = void_stays follows inside;
+}
 past_closed (o ∷ os) follows inside zero past = absurd (omega (arith, past))
 past_closed (o ∷ os) follows inside (suc n) past = grind (arith, nat_tests, past_closed os follows inside n (omega (arith, past)))
 
@@ -288,8 +303,8 @@ module _ (os : List Object) (follows : Links) (o : ℕ) (marks : List Bool) (sou
     spaces = λ p out. (settled_at p out).space;
   }
     where
-      unowned : (b n : ℕ) → IsTrue (others (is_marked marks) b) → is_free (content_at os n) ≡ false → owner_at os n ≡ b → (m : Bool) → is_marked marks n ≡ m
-          → IsTrue (others (is_marked marks) n)
+      unowned : (b n : ℕ) → IsTrue (others (is_marked marks) b) → is_free (content_at os n) ≡ false → owner_at os n ≡ b → (m : Bool) →
+          is_marked marks n ≡ m → IsTrue (others (is_marked marks) n)
       unowned b n out there owned true is =
           let owner : is_marked marks b ≡ true = subst (λ (k : ℕ). IsTrue (is_marked marks k)) owned (sources.owners n is there) in
           let both : not true ≡ true = ap not (sym owner) ∙ out in absurd (cc)
@@ -309,61 +324,76 @@ module _ (os : List Object) (follows : Links) (o : ℕ) (marks : List Bool) (sou
 pub record Picks (inside : List Bool) (numbers : List ℕ) (at : ℕ) (set : List Bool) : Type 0 where
   pub count : length set ≡ length inside
   pub some : (n : ℕ) → IsTrue (is_marked set n) → Contains numbers n × IsTrue (is_marked inside n)
-  pub all : (k d : ℕ) → k < at → IsTrue (is_marked inside (slice_index_or numbers k d)) → IsTrue (is_marked set (slice_index_or numbers k d))
+  pub all : (k d : ℕ) → k < at → IsTrue (is_marked inside (slice_index_or numbers k d)) →
+      IsTrue (is_marked set (slice_index_or numbers k d))
 
-pub picks_first : (inside : List Bool) (numbers : List ℕ) (count : ℕ) (set : List Bool) → set ≡ replicate count false → length set ≡ length inside →
-    Picks inside numbers 0 set
+pub picks_first : (inside : List Bool) (numbers : List ℕ) (count : ℕ) (set : List Bool) → set ≡ replicate count false →
+    length set ≡ length inside → Picks inside numbers 0 set
 picks_first inside numbers count set is long = record {
   count = long;
   some = λ n member. absurd (none_marked count n (subst (λ (l : List Bool). IsTrue (is_marked l n)) is member));
   all = λ k d lt. absurd (omega (arith, lt));
 }
 
-module _ (inside : List Bool) (numbers : List ℕ) (i : ℕ) (set : List Bool) (picks : Picks inside numbers i set) (lt : i < length numbers) where
-  pub picks_skip : is_marked inside (slice_index_or numbers i 0) ≡ false → Picks inside numbers (i + 1) set
-  picks_skip none = record { count = picks.count; some = picks.some; all = λ k d below. grind (arith, nat_tests, cases_lt, get_or_default, picks.all) }
+module _ (inside : List Bool) (numbers : List ℕ) (i : ℕ) (set : List Bool) (picks : Picks inside numbers i set) (lt : i < length numbers)
+  where
+    pub picks_skip : is_marked inside (slice_index_or numbers i 0) ≡ false → Picks inside numbers (i + 1) set
+    picks_skip none = record {
+      count = picks.count;
+      some = picks.some;
+      all = λ k d below. grind
+          (arith, nat_tests, cases_lt, get_or_default, picks.all);
+    }
 
-  pub picks_more : IsTrue (is_marked inside (slice_index_or numbers i 0)) → slice_index_or numbers i 0 < length set →
-      Picks inside numbers (i + 1) (slice_set set (slice_index_or numbers i 0) true)
-  picks_more member known = record {
-    count = length-set set (slice_index_or numbers i 0) true ∙ picks.count;
-    some = λ n is. ⊎_elim (λ here. ((i, lt, get_or_default numbers i n 0 lt ∙ sym here), subst (λ (m : ℕ). IsTrue (is_marked inside m)) (sym here) member))
-        (λ before. picks.some n before) (marked_each set (slice_index_or numbers i 0) n is);
-    all = λ k d below is. elim (cases_lt k i) [
-      | inl before ↦ marked_kept set (slice_index_or numbers i 0) (slice_index_or numbers k d) (picks.all k d before is)
-      | inr past ↦
-          let here : i ≡ k = omega (arith, past, below) in
-          let same : slice_index_or numbers i 0 ≡ slice_index_or numbers k d =
-          get_or_default numbers i 0 d lt ∙ ap (λ (j : ℕ). slice_index_or numbers j d) here in
-          subst (λ (m : ℕ). IsTrue (is_marked (slice_set set (slice_index_or numbers i 0) true) m)) same
-          (marked_here set (slice_index_or numbers i 0) known)
-    ];
-  }
+    pub picks_more : IsTrue (is_marked inside (slice_index_or numbers i 0)) → slice_index_or numbers i 0 < length set →
+        Picks inside numbers (i + 1) (slice_set set (slice_index_or numbers i 0) true)
+    picks_more member known = record {
+      count = length-set set (slice_index_or numbers i 0) true ∙ picks.count;
+      some = λ n is. ⊎_elim (λ here. (
+        (i, lt, get_or_default numbers i n 0 lt ∙ sym here),
+        subst (λ (m : ℕ). IsTrue (is_marked inside m)) (sym here) member,
+      ))
+          (λ before. picks.some n before) (marked_each set (slice_index_or numbers i 0) n is);
+      all = λ k d below is. elim (cases_lt k i) [
+        | inl before ↦ marked_kept set (slice_index_or numbers i 0) (slice_index_or numbers k d) (picks.all k d before is)
+        | inr past ↦
+            let here : i ≡ k = omega (arith, past, below) in
+            let same : slice_index_or numbers i 0 ≡ slice_index_or numbers k d =
+            get_or_default numbers i 0 d lt ∙ ap (λ (j : ℕ). slice_index_or numbers j d) here in
+            subst (λ (m : ℕ). IsTrue (is_marked (slice_set set (slice_index_or numbers i 0) true) m)) same
+            (marked_here set (slice_index_or numbers i 0) known)
+      ];
+    }
 
-pub picks_whole : (inside : List Bool) (numbers : List ℕ) (i : ℕ) (set : List Bool) → Picks inside numbers i set → length numbers ≤ i → (n : ℕ) →
-    IsTrue (is_marked set n) ↔ (Contains numbers n × IsTrue (is_marked inside n))
+pub picks_whole : (inside : List Bool) (numbers : List ℕ) (i : ℕ) (set : List Bool) → Picks inside numbers i set → length numbers ≤ i →
+    (n : ℕ) → IsTrue (is_marked set n) ↔ (Contains numbers n × IsTrue (is_marked inside n))
 picks_whole inside numbers i set picks whole n = (
   picks.some n,
   λ both.
-      let marked = picks.all both.0.0 n (omega (arith, whole, both.0.1)) (subst (λ (m : ℕ). IsTrue (is_marked inside m)) (sym both.0.2) both.1) in
+      let marked = picks.all both.0.0 n (omega (arith, whole, both.0.1)) (subst (λ (m : ℕ). IsTrue (is_marked inside m)) (sym both.0.2)
+      both.1) in
       subst (λ (m : ℕ). IsTrue (is_marked set m)) both.0.2 marked,
 )
 
 -- and those of some numbers
-pub changers_are : (os : List Object) (follows : Links) (starts : List ℕ) (o : ℕ) (inside set : List Bool) → ((n : ℕ) → IsTrue (is_marked inside n) ↔ CanChange os follows n o)
-    → ((n : ℕ) → IsTrue (is_marked set n) ↔ (Contains starts n × IsTrue (is_marked inside n))) → AreChangers os follows starts o (is_marked set)
+pub changers_are : (os : List Object) (follows : Links) (starts : List ℕ) (o : ℕ) (inside set : List Bool) →
+    ((n : ℕ) → IsTrue (is_marked inside n) ↔ CanChange os follows n o) → ((n : ℕ) →
+    IsTrue (is_marked set n) ↔ (Contains starts n × IsTrue (is_marked inside n))) → AreChangers os follows starts o (is_marked set)
 changers_are os follows starts o inside set can each n = (
   λ member. let both = (each n).0 member in (both.0, (can n).0 both.1),
   λ both. (each n).1 (both.0, (can n).1 both.1),
 )
 
 -- a capability to a member conveys into the set, and one that conveys to none stays outside it
-pub conveys_to : (follows : Links) (inside : ℕ → Bool) (c : Capability) (n : ℕ) → Conveys follows c n → IsTrue (inside n) → ConveysInto follows inside c
+pub conveys_to : (follows : Links) (inside : ℕ → Bool) (c : Capability) (n : ℕ) → Conveys follows c n → IsTrue (inside n) →
+    ConveysInto follows inside c
 conveys_to follows inside c n conveys member = λ other stays. (n, member, named_inside follows other c n conveys stays)
 
-pub conveys_elsewhere : (follows : Links) (inside : ℕ → Bool) (c : Capability) (n : ℕ) → Conveys follows c n → inside n ≡ false → StaysFor follows (others inside) c
+pub conveys_elsewhere : (follows : Links) (inside : ℕ → Bool) (c : Capability) (n : ℕ) → Conveys follows c n → inside n ≡ false →
+    StaysFor follows (others inside) c
 conveys_elsewhere follows inside c n conveys out = stays_inside follows (others inside) c (λ m also.
     let same : n ≡ m = same_Some n m (sym conveys.2 ∙ also.2) in ap not (subst (λ (k : ℕ). inside k ≡ false) same out))
 
-pub conveys_nowhere : (follows : Links) (inside : ℕ → Bool) (c : Capability) → ((n : ℕ) → Conveys follows c n → ⊥) → StaysFor follows (others inside) c
+pub conveys_nowhere : (follows : Links) (inside : ℕ → Bool) (c : Capability) → ((n : ℕ) → Conveys follows c n → ⊥) →
+    StaysFor follows (others inside) c
 conveys_nowhere follows inside c none = stays_inside follows (others inside) c (λ m conveys. absurd (none m conveys))

@@ -7,7 +7,8 @@ module _ {A : Type 0} (line : A → List ℕ) (xs : List A) where
   pub plain_more : (i : ℕ) (d : A) → i < length xs → flat_map line (take (i + 1) xs) ≡ flat_map line (take i xs) ++ line (get_or xs i d)
   plain_more i d lt = grind (arith, common_steps, add-one, take-suc, flat_map-append, append-nil)
 
-  pub plain_split : (i : ℕ) (d : A) → i < length xs → flat_map line xs ≡ (flat_map line (take i xs) ++ line (get_or xs i d)) ++ flat_map line (drop (i + 1) xs)
+  pub plain_split : (i : ℕ) (d : A) → i < length xs → flat_map line xs ≡ (flat_map line (take i xs) ++ line (get_or xs i d)) ++ flat_map
+      line (drop (i + 1) xs)
   plain_split i d lt = ap (flat_map line) (sym (take-append-drop _ xs)) ∙ flat_map-append line (take (i + 1) xs) (drop (i + 1) xs)
       ∙ ap (λ (t : List ℕ). t ++ flat_map line (drop (i + 1) xs)) (plain_more i d lt)
 

@@ -11,7 +11,8 @@ use Rattle.reach.proofs.Members.{known}
 -- the steps from a number with a content
 module _ (os : List Object) (follows : Links) (n : ℕ) (x : Content Capability) (is : content_at os n ≡ x) (s : Step) where
   pub way_from : IsFrom os follows n s → IsWay os follows n x s.way s.to
-  way_from from = subst (λ (y : Content Capability). IsWay os follows n y s.way s.to) is (subst (λ (k : ℕ). IsWay os follows k (content_at os k) s.way s.to) from.0 from.1)
+  way_from from = subst (λ (y : Content Capability). IsWay os follows n y s.way s.to) is
+      (subst (λ (k : ℕ). IsWay os follows k (content_at os k) s.way s.to) from.0 from.1)
 
   pub from_way : s.from ≡ n → IsWay os follows n x s.way s.to → IsFrom os follows n s
   from_way same by = grind (arith, nat_tests)
@@ -20,14 +21,17 @@ module _ (os : List Object) (follows : Links) (n : ℕ) (x : Content Capability)
 conveys_within : (follows : Links) (slots : List Capability) (i m : ℕ) → Conveys follows (slice_index_or slots i Void) m → i < length slots
 conveys_within follows [] i m conveys = let none : None ≡ Some m = conveys.2 in absurd (cc)
 conveys_within follows (c ∷ cs) zero m conveys = omega arith
-conveys_within follows (c ∷ cs) (suc i) m conveys = let later : i < length cs = conveys_within follows cs i m conveys in omega (arith, later)
+conveys_within follows (c ∷ cs) (suc i) m conveys = let later : i < length cs = conveys_within follows cs i m conveys in
+    omega (arith, later)
 
 -- void conveys nothing
 void_conveys : (follows : Links) (c : Capability) (m : ℕ) → Void ≡ c → Conveys follows c m → ⊥
-void_conveys follows c m is conveys = let none : None ≡ Some m = subst (λ (d : Capability). named d ≡ Some m) (sym is) conveys.2 in absurd (cc)
+void_conveys follows c m is conveys = let none : None ≡ Some m = subst (λ (d : Capability). named d ≡ Some m) (sym is) conveys.2 in
+    absurd (cc)
 
 -- a capability of a list
-module _ (follows : Links) (slots : List Capability) (i : ℕ) (c : Capability) (m : ℕ) (is : slice_index_or slots i Void ≡ c) (conveys : Conveys follows c m) where
+module _ (follows : Links) (slots : List Capability) (i : ℕ) (c : Capability) (m : ℕ) (is : slice_index_or slots i Void ≡ c)
+    (conveys : Conveys follows c m) where
   pub held_way : (from : ℕ) (s : Step) → s.from ≡ from → s.way ≡ way.Slot i c → s.to ≡ m → IsHeldIn follows slots (length slots) from s
   held_way from s same by to =
       let conveys_it = subst (λ (d : Capability). Conveys follows d m) (sym is) conveys in (
@@ -37,21 +41,22 @@ module _ (follows : Links) (slots : List Capability) (i : ℕ) (c : Capability) 
       )
 
 -- of a list of slots
-slots_held : (os : List Object) (follows : Links) (n : ℕ) (slots : List Capability) (w : Way) (m : ℕ) → IsWay os follows n (content.Node slots) w m → (s : Step) → s.from ≡ n →
-    s.way ≡ w → s.to ≡ m → IsHeldIn follows slots (length slots) n s
+slots_held : (os : List Object) (follows : Links) (n : ℕ) (slots : List Capability) (w : Way) (m : ℕ) →
+    IsWay os follows n (content.Node slots) w m → (s : Step) → s.from ≡ n → s.way ≡ w → s.to ≡ m → IsHeldIn follows slots (length slots) n s
 slots_held os follows n slots (way.Space c) m by s same is to = absurd (void_conveys follows c m by.0 by.1)
 slots_held os follows n slots (way.Slot i c) m by s same is to = held_way follows slots i c m by.0 by.1 n s same is to
 slots_held os follows n slots w m by s same is to = let wrong = by.0 in absurd (cc)
 
-registers_held : (os : List Object) (follows : Links) (n : ℕ) (slots : List Capability) (w : Way) (m : ℕ) → IsWay os follows n (content.Annex slots) w m → (s : Step) → s.from ≡ n →
-    s.way ≡ w → s.to ≡ m → IsHeldIn follows slots (length slots) n s
+registers_held : (os : List Object) (follows : Links) (n : ℕ) (slots : List Capability) (w : Way) (m : ℕ) →
+    IsWay os follows n (content.Annex slots) w m → (s : Step) → s.from ≡ n → s.way ≡ w → s.to ≡ m →
+    IsHeldIn follows slots (length slots) n s
 registers_held os follows n slots (way.Space c) m by s same is to = absurd (void_conveys follows c m by.0 by.1)
 registers_held os follows n slots (way.Slot i c) m by s same is to = held_way follows slots i c m by.0 by.1 n s same is to
 registers_held os follows n slots w m by s same is to = let wrong = by.0 in absurd (cc)
 
 -- of a bank
-bank_owned : (os : List Object) (follows : Links) (n limit : ℕ) (w : Way) (m : ℕ) → IsWay os follows n (content.Bank limit) w m → (s : Step) → s.from ≡ n → s.way ≡ w → s.to ≡ m →
-    IsOwnedBelow os (length os) n s
+bank_owned : (os : List Object) (follows : Links) (n limit : ℕ) (w : Way) (m : ℕ) → IsWay os follows n (content.Bank limit) w m →
+    (s : Step) → s.from ≡ n → s.way ≡ w → s.to ≡ m → IsOwnedBelow os (length os) n s
 bank_owned os follows n limit w m by s same is to = grind (arith, common_steps, known)
 
 -- of a process: its annex, its space, and its registers
@@ -64,26 +69,27 @@ IsLater follows n root registers s = IsBy follows n (way.Space root.space) root.
 abbrev IsOfProcess : Links → ℕ → Root Capability → List Capability → Step → Type 0
 IsOfProcess follows n root registers s = IsTheStep (annex_step n root) s ⊎ IsLater follows n root registers s
 
-process_ways : (os : List Object) (follows : Links) (n : ℕ) (root : Root Capability) (w : Way) (m : ℕ) → IsWay os follows n (content.Root root) w m → (s : Step) → s.from ≡ n →
-    s.way ≡ w → s.to ≡ m
+process_ways : (os : List Object) (follows : Links) (n : ℕ) (root : Root Capability) (w : Way) (m : ℕ) →
+    IsWay os follows n (content.Root root) w m → (s : Step) → s.from ≡ n → s.way ≡ w → s.to ≡ m
     → IsOfProcess follows n root (slots_in (content_at os root.annex)) s
 process_ways os follows n root w m by s same is to = grind (arith, common_steps, held_way)
 
 -- All that an object has authority over was found.
 module _ (os : List Object) (follows : Links) (n level : ℕ) (a b : Levels) where
-  pub finds_of_slots : (slots : List Capability) → content_at os n ≡ content.Node slots → FindsBy (IsHeldIn follows slots (length slots) n) level a b →
-      FindsBy (IsFrom os follows n) level a b
+  pub finds_of_slots : (slots : List Capability) → content_at os n ≡ content.Node slots →
+      FindsBy (IsHeldIn follows slots (length slots) n) level a b → FindsBy (IsFrom os follows n) level a b
   finds_of_slots slots is = finds_same (IsHeldIn follows slots (length slots) n) (IsFrom os follows n) level a b
       (λ s held. from_way os follows n (content.Node slots) is s held.2.0 (search arith))
       (λ s from. slots_held os follows n slots s.way s.to (way_from os follows n (content.Node slots) is s from) s from.0 refl refl)
 
-  pub finds_of_registers : (slots : List Capability) → content_at os n ≡ content.Annex slots → FindsBy (IsHeldIn follows slots (length slots) n) level a b →
-      FindsBy (IsFrom os follows n) level a b
+  pub finds_of_registers : (slots : List Capability) → content_at os n ≡ content.Annex slots →
+      FindsBy (IsHeldIn follows slots (length slots) n) level a b → FindsBy (IsFrom os follows n) level a b
   finds_of_registers slots is = finds_same (IsHeldIn follows slots (length slots) n) (IsFrom os follows n) level a b
       (λ s held. from_way os follows n (content.Annex slots) is s held.2.0 (search arith))
       (λ s from. registers_held os follows n slots s.way s.to (way_from os follows n (content.Annex slots) is s from) s from.0 refl refl)
 
-  pub finds_of_bank : (limit : ℕ) → content_at os n ≡ content.Bank limit → FindsBy (IsOwnedBelow os (length os) n) level a b → FindsBy (IsFrom os follows n) level a b
+  pub finds_of_bank : (limit : ℕ) → content_at os n ≡ content.Bank limit → FindsBy (IsOwnedBelow os (length os) n) level a b →
+      FindsBy (IsFrom os follows n) level a b
   finds_of_bank limit is = finds_same (IsOwnedBelow os (length os) n) (IsFrom os follows n) level a b
       (λ s owned. from_way os follows n (content.Bank limit) is s owned.0 (search arith))
       (λ s from. bank_owned os follows n limit s.way s.to (way_from os follows n (content.Bank limit) is s from) s from.0 refl refl)
@@ -95,9 +101,11 @@ module _ (os : List Object) (follows : Links) (n level : ℕ) (a b : Levels) whe
       → FindsBy (IsFrom os follows n) level a b
   finds_of_process root registers c d is same first second third =
       finds_same (IsOfProcess follows n root registers) (IsFrom os follows n) level a b process_from from_process
-      (finds_both (IsTheStep (annex_step n root)) (IsLater follows n root registers) (IsOfProcess follows n root registers) level a c b (λ s by. inl by) (λ s by. inr by)
+      (finds_both (IsTheStep (annex_step n root)) (IsLater follows n root registers) (IsOfProcess follows n root registers) level a c b
+      (λ s by. inl by) (λ s by. inr by)
       (λ s by. by) first
-      (finds_both (IsBy follows n (way.Space root.space) root.space) (IsHeldIn follows registers (length registers) n) (IsLater follows n root registers) level c d b (λ s by. inl by)
+      (finds_both (IsBy follows n (way.Space root.space) root.space) (IsHeldIn follows registers (length registers) n)
+      (IsLater follows n root registers) level c d b (λ s by. inl by)
       (λ s by. inr by) (λ s by. by) second third))
     where
       from_process : (s : Step) → IsFrom os follows n s → IsOfProcess follows n root registers s

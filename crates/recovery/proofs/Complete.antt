@@ -35,7 +35,10 @@ module _ (size : ℕ) (c : Image) (fair : (reason : BadImage) → IsBad size c r
   planned p is spelt =
       let total : total_in (c 0) ≡ p.total = ap total_in spelt ∙ total_reported p is in record {
         least = elim (cases_lt size 5) [ inl less ↦ absurd (large (inl less)) | inr le ↦ le ];
-        whole = elim (cases_lt size p.total) [ inl less ↦ absurd (large (inr (subst (λ (n : ℕ). size < n) (sym total) less))) | inr le ↦ le ];
+        whole = elim (cases_lt size p.total) [
+          | inl less ↦ absurd (large (inr (subst (λ (n : ℕ). size < n) (sym total) less)))
+          | inr le ↦ le
+        ];
         fits = is;
         spelt = spelt;
       }
@@ -45,11 +48,23 @@ module _ (size : ℕ) (c : Image) (fair : (reason : BadImage) → IsBad size c r
 
   module _ (p : Plan) (plan : HasPlan c size p) where
     with_header : ((h : CheckpointHeader) → HasHeader c p h → ⊥) → ⊥
-    with_header none = first bad.BadHeader (p, plan, (λ no. first bad.NoHeader (p, plan, no)), λ h is spelt. none h (record { fits = is; spelt = spelt }))
+    with_header none = first bad.BadHeader (
+      p,
+      plan,
+      (λ no. first bad.NoHeader (p, plan, no)),
+      λ h is spelt. none h (record { fits = is; spelt = spelt }),
+    )
 
     module _ (h : CheckpointHeader) (header : HasHeader c p h) where
       with_directory : ((es : List Entry) → HasDirectory c p h es → ⊥) → ⊥
-      with_directory none = first bad.BadDirectory (p, h, plan, header, λ es is count spelt. none es (record { count = count; fits = is; spelt = spelt }))
+      with_directory none = first bad.BadDirectory (
+        p,
+        h,
+        plan,
+        header,
+        λ es is count spelt. none es
+            (record { count = count; fits = is; spelt = spelt }),
+      )
 
       with_state : (es : List Entry) → HasDirectory c p h es → ((s : SavedState) → Encodes c size s → ⊥) → ⊥
       with_state es directory none = frames_there (p.geometry.nodes + p.geometry.pages)
@@ -83,4 +98,5 @@ module _ (size : ℕ) (c : Image) (fair : (reason : BadImage) → IsBad size c r
 
 pub not_bad_denoted : NotBadIsDenoted
 not_bad_denoted size c fair none = encoded size c fair (λ s e. sound size c fair s e (λ is.
-    none s.plan.geometry (saved_of (kept_of s)) (denoted_by s.plan.geometry size c (kept_of s) (record { geometry = refl; sound = is }) (s, e, refl))))
+    none s.plan.geometry (saved_of (kept_of s)) (denoted_by s.plan.geometry size c (kept_of s) (record { geometry = refl; sound = is })
+    (s, e, refl))))

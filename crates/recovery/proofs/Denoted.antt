@@ -6,12 +6,13 @@ use Rattle.std.proofs.Common.{◌≡◌, ◌∷◌, ◌∙◌}
 use Rattle.recovery.proofs.Unsound.{inconsistent_is_unsound}
 
 -- frames that are held are denoted
-pub denoted_by : (g : Geometry) (size : ℕ) (c : Image) (fs : SavedFrames) → IsSoundSaved g fs → Holds size c fs → Denotes g size c (saved_of fs)
+pub denoted_by : (g : Geometry) (size : ℕ) (c : Image) (fs : SavedFrames) → IsSoundSaved g fs → Holds size c fs →
+    Denotes g size c (saved_of fs)
 denoted_by g size c fs sound holds = record { frames = fs; holds = holds; sound = sound; stands = refl }
 
 -- a store that is sound: a crash leaves what it saves
-pub leaves_saved : (g : Geometry) (disk : Disk) (fs : SavedFrames) → IsSoundSaved g fs → ((c : Image) → disk.may_leave c → Holds disk.sectors c fs) →
-    Leaves g disk (saved_of fs ∷ [])
+pub leaves_saved : (g : Geometry) (disk : Disk) (fs : SavedFrames) → IsSoundSaved g fs →
+    ((c : Image) → disk.may_leave c → Holds disk.sectors c fs) → Leaves g disk (saved_of fs ∷ [])
 leaves_saved g disk fs sound holds c left = inl (denoted_by g disk.sectors c fs sound (holds c left))
 
 -- sectors hold one saved state of frames
@@ -53,11 +54,13 @@ denoted_one_of g h size c ss t one denoted = grind (arith, nat_tests, one_denote
 
 -- what denotes a saved part is refused for no reason
 pub denoted_not_bad : DenotedIsNotBad
-denoted_not_bad g size c s reason denoted why = ⊎_elim (λ first. frames_not_bad c size denoted.holds.0 denoted.holds.1 reason first) (λ last.
+denoted_not_bad g size c s reason denoted why = ⊎_elim (λ first. frames_not_bad c size denoted.holds.0 denoted.holds.1 reason first)
+    (λ last.
     inconsistent_is_unsound g last.0.age last.0.frames reason last.2 (denotes_held g size c s last.0 denoted last.1).1.sound)
     why
 
-pub one_not_bad : (g : Geometry) (size : ℕ) (c : Image) (ss : List Saved) (reason : BadImage) → DenotesOne g size ss c → IsBad size c reason → ⊥
+pub one_not_bad : (g : Geometry) (size : ℕ) (c : Image) (ss : List Saved) (reason : BadImage) → DenotesOne g size ss c →
+    IsBad size c reason → ⊥
 one_not_bad g size c [] reason denoted why = absurd denoted
 one_not_bad g size c (s ∷ ss) reason denoted why = ⊎_elim (λ here. denoted_not_bad g size c s reason here why)
     (λ there. one_not_bad g size c ss reason there why) denoted

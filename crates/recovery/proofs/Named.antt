@@ -8,24 +8,28 @@ use Rattle.model.specs.declared.object.Role.TheVariants as role
 use Rattle.recovery.proofs.Tables.{frame_beyond, table_read}
 
 -- one capability, by its count
-module _ (p : Parts) (hs : List ObjectHeader) (c : Cap) (current : ℕ) (table : hs ≡ p.headers) (is : current ≡ current_count hs c.what) where
-  count_is : current ≡ current_count (headers (frames_of p)) c.what
-  count_is = is ∙ ap (λ (ks : List ObjectHeader). current_count ks c.what) (table_read p hs table)
+module _ (p : Parts) (hs : List ObjectHeader) (c : Cap) (current : ℕ) (table : hs ≡ p.headers) (is : current ≡ current_count hs c.what)
+  where
+    count_is : current ≡ current_count (headers (frames_of p)) c.what
+    count_is = is ∙ ap (λ (ks : List ObjectHeader). current_count ks c.what) (table_read p hs table)
 
-  pub named_live : (b : Bool) → c.count ≡ current → (IsTrue b ↔ NamesItsRole (frames_of p) c.what) → IsTrue b ↔ IsNamed (frames_of p) c
-  named_live b live tells = grind (arith, nat_tests, count_is)
+    pub named_live : (b : Bool) → c.count ≡ current → (IsTrue b ↔ NamesItsRole (frames_of p) c.what) → IsTrue b ↔ IsNamed (frames_of p) c
+    named_live b live tells = grind (arith, nat_tests, count_is)
 
-  pub named_stale : (c.count ≡ current → ⊥) → IsTrue (nat_lt c.count current) ↔ IsNamed (frames_of p) c
-  named_stale other = grind (arith, nat_tests, count_is)
+    pub named_stale : (c.count ≡ current → ⊥) → IsTrue (nat_lt c.count current) ↔ IsNamed (frames_of p) c
+    named_stale other = grind (arith, nat_tests, count_is)
 
 -- the capabilities of one object
 module _ (fs : List Frame) (c : Content Cap) (n : ℕ) (is : c ≡ (frame_at fs n).content) (b : Bool) where
   -- those of a list of slots
-  pub held_named : (slots : List Cap) → caps_in c ≡ slots → (IsTrue b ↔ All (IsNamed fs) slots) → IsTrue b ↔ All (IsNamed fs) (caps_in (frame_at fs n).content)
-  held_named slots all tells = subst (λ (cs : List Cap). IsTrue b ↔ All (IsNamed fs) cs) (sym all ∙ ap (λ (d : Content Cap). caps_in d) is) tells
+  pub held_named : (slots : List Cap) → caps_in c ≡ slots → (IsTrue b ↔ All (IsNamed fs) slots) →
+      IsTrue b ↔ All (IsNamed fs) (caps_in (frame_at fs n).content)
+  held_named slots all tells = subst (λ (cs : List Cap). IsTrue b ↔ All (IsNamed fs) cs) (sym all ∙ ap (λ (d : Content Cap). caps_in d) is)
+      tells
 
   -- the one of a root
-  pub space_named : (held : Cap) → caps_in c ≡ held ∷ [] → (IsTrue b ↔ IsNamed fs held) → IsTrue b ↔ All (IsNamed fs) (caps_in (frame_at fs n).content)
+  pub space_named : (held : Cap) → caps_in c ≡ held ∷ [] → (IsTrue b ↔ IsNamed fs held) →
+      IsTrue b ↔ All (IsNamed fs) (caps_in (frame_at fs n).content)
   space_named held all tells = grind (arith, nat_tests)
 
 pub holds_none : (c : Content Cap) → ((x : List Cap) → c ≡ content.Node x → ⊥) → ((x : Root Cap) → c ≡ content.Root x → ⊥) →
@@ -36,7 +40,8 @@ pub other_named : (fs : List Frame) (c : Content Cap) (n : ℕ) → c ≡ (frame
     IsTrue true ↔ All (IsNamed fs) (caps_in (frame_at fs n).content)
 other_named fs c n is none = grind (arith, nat_tests)
 
-pub role_holds_none : (c : Content Cap) (r : Role) → r ≡ role_of c → (r ≡ role.Node → ⊥) → (r ≡ role.Root → ⊥) → (r ≡ role.Annex → ⊥) → caps_in c ≡ []
+pub role_holds_none : (c : Content Cap) (r : Role) → r ≡ role_of c → (r ≡ role.Node → ⊥) → (r ≡ role.Root → ⊥) → (r ≡ role.Annex → ⊥) →
+    caps_in c ≡ []
 role_holds_none c r is node root annex = grind (arith, nat_tests)
 
 -- all objects

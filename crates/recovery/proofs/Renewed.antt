@@ -26,7 +26,8 @@ pub none_renewed : (g : Geometry) (fs : List Frame) → length fs ≡ g.nodes + 
 unfolding untouched
 none_renewed g fs count =
     let size = renewed_length fs fs in
-    ext_get_or false (renewed_since fs fs) (replicate (g.nodes + g.pages) false) (size ∙ (count ∙ sym (length-replicate {A = Bool} (g.nodes + g.pages) false)))
+    ext_get_or false (renewed_since fs fs) (replicate (g.nodes + g.pages) false)
+    (size ∙ (count ∙ sym (length-replicate {A = Bool} (g.nodes + g.pages) false)))
     (λ n inside.
     let known : n < length fs = omega (arith, inside, size) in
     renewed_at fs fs n known ∙ (ap (λ (b : Bool). not b) (eq-eqb (allocations_at fs n) (allocations_at fs n) refl)

@@ -28,7 +28,8 @@ module _ (g : Geometry) (age : ℕ) (fs : List Frame) (k : AreKeepable g age fs)
   held_each : (slots : List Cap) → All (IsKeptCap g age) slots → All (IsNamed fs) slots → (i : ℕ) →
       IsHeld (objects_of fs) (Waits (objects_of fs)) (slice_index_or (map (conveyed (headers fs)) slots) i Void)
   held_each slots kept named i =
-      subst (λ (c : Capability). IsHeld (objects_of fs) (Waits (objects_of fs)) c) (sym (get_or-map (conveyed (headers fs)) slots i void_held))
+      subst (λ (c : Capability). IsHeld (objects_of fs) (Waits (objects_of fs)) c)
+      (sym (get_or-map (conveyed (headers fs)) slots i void_held))
       (elim (cases_lt i (length slots)) [
         | inl inside ↦ grind (arith, nat_tests, held_from, held)
         | inr past ↦ grind (arith, nat_tests, get_or_past, held_void)

@@ -55,7 +55,8 @@ pub some_same : (a b : ℕ) → (let x : Option ℕ = Some a in x) ≡ Some b �
 some_same a b same = cc
 
 pub limit_is : (fs : List Frame) (n : ℕ) → limit_in (content_at (objects_of fs) n) ≡ limit_in (frame_at fs n).content
-limit_is fs n = ap (λ (c : Content Capability). limit_in c) (content_is fs n) ∙ (mapped (conveyed (headers fs)) (frame_at fs n).content).limit
+limit_is fs n = ap (λ (c : Content Capability). limit_in c) (content_is fs n)
+    ∙ (mapped (conveyed (headers fs)) (frame_at fs n).content).limit
 
 module _ (fs : List Frame) (p : ℕ) where
   annex_is : annex_in (content_at (objects_of fs) p) ≡ annex_in (frame_at fs p).content
@@ -71,7 +72,8 @@ module _ (fs : List Frame) (p : ℕ) where
   waiting_is : is_waiting_root (content_at (objects_of fs) p) ≡ is_waiting_root (frame_at fs p).content
   waiting_is = grind (arith, nat_tests, content_is)
 
-  waiting_of : IsTrue (is_waiting_root (frame_at fs p).content) → IsTrue (is_process (objects_of fs) p) × IsTrue (is_waiting (root_at (objects_of fs) p).state)
+  waiting_of : IsTrue (is_waiting_root (frame_at fs p).content) → IsTrue (is_process (objects_of fs) p)
+      × IsTrue (is_waiting (root_at (objects_of fs) p).state)
   waiting_of waits = grind (arith, nat_tests, waiting_is)
 
   waits_of : IsTrue (is_waiting (root_at (objects_of fs) p).state) → IsTrue (is_waiting_root (frame_at fs p).content)
@@ -80,7 +82,8 @@ module _ (fs : List Frame) (p : ℕ) where
 -- what the roles of frames say of objects, and the other way round
 module _ (fs : List Frame) (roles : HaveTheirRoles fs) (n : ℕ) where
   role_is : role_of (content_at (objects_of fs) n) ≡ role_at fs n
-  role_is = ap (λ (c : Content Capability). role_of c) (content_is fs n) ∙ (mapped (conveyed (headers fs)) (frame_at fs n).content).role ∙ sym (roles n)
+  role_is = ap (λ (c : Content Capability). role_of c) (content_is fs n) ∙ (mapped (conveyed (headers fs)) (frame_at fs n).content).role
+      ∙ sym (roles n)
 
   to_role : (r : Role) (b : Bool) → b ≡ is (role_of (content_at (objects_of fs) n)) r → b ≡ true → role_at fs n ≡ r
   to_role r b test passes = grind (arith, nat_tests, role_is, from_number, role_from, eqb-true)

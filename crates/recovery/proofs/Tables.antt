@@ -6,14 +6,16 @@ use Rattle.model.specs.declared.object.Role.TheVariants as role
 use Rattle.recovery.proofs.Standing.{header_is}
 
 -- a header that was read
-pub header_read : (p : Parts) (hs : List ObjectHeader) (h : ObjectHeader) (n : ℕ) → hs ≡ p.headers → h ≡ header_at hs n → h ≡ (frame_at (frames_of p) n).header
+pub header_read : (p : Parts) (hs : List ObjectHeader) (h : ObjectHeader) (n : ℕ) → hs ≡ p.headers → h ≡ header_at hs n →
+    h ≡ (frame_at (frames_of p) n).header
 header_read p hs h n table is =
     is
     ∙ ap (λ (ks : List ObjectHeader). header_at ks n) (table ∙ sym (headers_in p.headers p.contents))
     ∙ header_is (frames_of p) n
 
 -- a content that was read
-pub content_read : (p : Parts) (n : ℕ) (c : Content Cap) → n < length p.headers → c ≡ held_at p.contents n → c ≡ (frame_at (frames_of p) n).content
+pub content_read : (p : Parts) (n : ℕ) (c : Content Cap) → n < length p.headers → c ≡ held_at p.contents n →
+    c ≡ (frame_at (frames_of p) n).content
 content_read p n c known is = is ∙ sym (ap (λ (f : Frame). f.content) (frame_in p.headers p.contents n known))
 
 -- the table is that of the frames

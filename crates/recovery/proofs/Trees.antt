@@ -42,13 +42,15 @@ module _ (g : Geometry) (age : ℕ) (fs : List Frame) (k : AreKeepable g age fs)
   pub owned_tree : AreOwned fs → IsTree (objects_of fs)
   owned_tree owned = record {
     unowned = λ n free. owner_is fs n ∙ (kept_at g age fs k n).kept.unowned (free_role fs roles n free);
-    owners = λ n used. rw (owner_is fs n) (role_bank fs roles (frame_at fs n).header.owner (owned.owners n (λ free. used (role_free fs roles n free))));
+    owners = λ n used. rw (owner_is fs n) (role_bank fs roles (frame_at fs n).header.owner
+        (owned.owners n (λ free. used (role_free fs roles n free))));
     prime = (role_bank fs roles 0 owned.prime.0, owner_is fs 0 ∙ owned.prime.1);
     chains = λ b bank. owned.chains b (bank_role fs roles b bank);
   }
 
 -- limits by number, against usages
-module _ (g : Geometry) (age : ℕ) (p : Parts) (k : AreKeepable g age (frames_of p)) (hs : List ObjectHeader) (count : ℕ) (table : hs ≡ p.headers)
+module _ (g : Geometry) (age : ℕ) (p : Parts) (k : AreKeepable g age (frames_of p)) (hs : List ObjectHeader) (count : ℕ)
+    (table : hs ≡ p.headers)
     (all : count ≡ length hs) where
   pub count_all : count ≡ length p.headers
   count_all = all ∙ ap (λ (ks : List ObjectHeader). length ks) table
@@ -56,7 +58,8 @@ module _ (g : Geometry) (age : ℕ) (p : Parts) (k : AreKeepable g age (frames_o
   pub bank_counted : (b : ℕ) → IsTrue (is_bank (content_at (objects_in p) b)) → b < count
   bank_counted b bank = omega (arith, bank_known p b (bank_role (frames_of p) (keepable_roles g age (frames_of p) k) b bank), count_all)
 
-  module _ (usages limits : List ℕ) (used : (b : ℕ) → IsTrue (is_bank (content_at (objects_in p) b)) → slice_index usages b ≡ usage (objects_in p) b)
+  module _ (usages limits : List ℕ) (used : (b : ℕ) → IsTrue (is_bank (content_at (objects_in p) b)) →
+      slice_index usages b ≡ usage (objects_in p) b)
       (are : limits ≡ map (λ n. limit_in (content_at (objects_in p) n)) (range_with_len 0 count)) where
     pub limits_count : length limits ≡ count
     limits_count = ap (λ (xs : List ℕ). length xs) are ∙ length-map-range_with_len (λ n. limit_in (content_at (objects_in p) n)) 0 count

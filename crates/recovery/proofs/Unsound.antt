@@ -44,7 +44,8 @@ module _ (g : Geometry) (age : ℕ) (fs : List Frame) (h : IsSoundFrames g age f
         let process = process_of fs p a root in
         let known = h.sound.annexes p process.0 in (
           annex_role fs roles a (subst (λ (m : ℕ). IsTrue (is_annex (content_at (objects_of fs) m))) process.1 known.0),
-          sym (owner_is fs a) ∙ subst (λ (m : ℕ). owner_at (objects_of fs) m ≡ owner_at (objects_of fs) p) process.1 known.1 ∙ owner_is fs p,
+          sym (owner_is fs a) ∙ subst (λ (m : ℕ). owner_at (objects_of fs) m ≡ owner_at (objects_of fs) p) process.1 known.1
+              ∙ owner_is fs p,
         );
     one_root = grind (arith, nat_tests, process_of);
     some_root = λ a annex.

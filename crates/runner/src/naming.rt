@@ -86,7 +86,7 @@ fn lines_by(
     }
 }
 
-/// What names the lines of a job, by the file of names that it is given, if any. JSON stays as it is.
+/// What puts the names of a file into a job's lines: nothing without a file, or for JSON, which has no names.
 pub(crate) fn naming_of(
     rt: &HostRuntime,
     job: &Job<'_>,

@@ -20,7 +20,8 @@ AnswersBy s o r a after = elim r [
   | None ↦ (a ≡ o.answer) × (after ≡ Up o.after)
 ]
 
-answers_agree : (s : Running) (o : Outcome) (r : Option Refusal) (x y : Answer) (a b : Machine) → AnswersBy s o r x a → AnswersBy s o r y b → Agree x y a b
+answers_agree : (s : Running) (o : Outcome) (r : Option Refusal) (x y : Answer) (a b : Machine) → AnswersBy s o r x a →
+    AnswersBy s o r y b → Agree x y a b
 answers_agree s o r x y a b p q = search (arith, nat_tests)
 
 -- an answer to a line for which neither the device failed nor memory that its command takes ran out
@@ -53,7 +54,8 @@ same_head : (x y : List ℕ) (xs ys : List (List ℕ)) → x ∷ xs ≡ y ∷ ys
 same_head x y xs ys same = (cc, cc)
 
 output_cons : (t : Turn) (ts : List Turn) → output_of (t ∷ ts) ≡ reply_text t.reply ++ output_of ts
-output_cons t ts = flat_map-append (λ (u : Turn). reply_text u.reply) (t ∷ []) ts ∙ ap (λ (xs : List ℕ). xs ++ output_of ts) (append-nil (reply_text t.reply))
+output_cons t ts = flat_map-append (λ (u : Turn). reply_text u.reply) (t ∷ []) ts
+    ∙ ap (λ (xs : List ℕ). xs ++ output_of ts) (append-nil (reply_text t.reply))
 
 pub runs_agree : SteadyRunsAgree
 runs_agree g s [] [] a b run_a run_b same steady_a steady_b = (refl, run_a ∙ sym run_b)
@@ -63,16 +65,21 @@ runs_agree g s (t ∷ ts) (u ∷ us) a b run_a run_b same steady_a steady_b =
     let heads = same_head t.line u.line (lines_in ts) (lines_in us) same in
     let turn_t = run_a.1 in
     let turn_u = run_b.1 in
-    let one : turn_u.0 ≡ turn_t.0 = says_one u.line turn_u.0 turn_t.0 turn_u.1 (subst (λ (text : List ℕ). Says text turn_t.0) heads.0 turn_t.1) in
-    let first : Replies g turn_t.0 (Up s) t.reply t.after = subst (λ (m : Machine). Replies g turn_t.0 m t.reply t.after) run_a.0 turn_t.2 in
+    let one : turn_u.0 ≡ turn_t.0 = says_one u.line turn_u.0 turn_t.0 turn_u.1
+    (subst (λ (text : List ℕ). Says text turn_t.0) heads.0 turn_t.1) in
+    let first : Replies g turn_t.0 (Up s) t.reply t.after = subst (λ (m : Machine). Replies g turn_t.0 m t.reply t.after) run_a.0 turn_t.2
+    in
     let second : Replies g turn_t.0 (Up s) u.reply u.after =
-    subst (λ (l : Line). Replies g l (Up s) u.reply u.after) one (subst (λ (m : Machine). Replies g turn_u.0 m u.reply u.after) run_b.0 turn_u.2) in
+    subst (λ (l : Line). Replies g l (Up s) u.reply u.after) one (subst (λ (m : Machine). Replies g turn_u.0 m u.reply u.after) run_b.0
+    turn_u.2) in
     let reported = replies_agree g s turn_t.0 t.reply u.reply t.after u.after first second
     (fine t turn_t.0 steady_a.0 turn_t.1) (fine u turn_t.0 steady_b.0 (subst (Says u.line) one turn_u.1)) in
     let rest = runs_agree g reported.then_up ts us a b
-    (subst (λ (m : Machine). IsRun g m ts a) reported.first run_a.2) (subst (λ (m : Machine). IsRun g m us b) reported.second run_b.2) heads.1 steady_a.1
+    (subst (λ (m : Machine). IsRun g m ts a) reported.first run_a.2) (subst (λ (m : Machine). IsRun g m us b) reported.second run_b.2)
+    heads.1 steady_a.1
     steady_b.1 in (
-      output_cons t ts ∙ ap (λ (r : Reply). reply_text r ++ output_of ts) reported.replies ∙ ap (λ (xs : List ℕ). reply_text u.reply ++ xs) rest.0 ∙
+      output_cons t ts ∙ ap (λ (r : Reply). reply_text r ++ output_of ts) reported.replies
+          ∙ ap (λ (xs : List ℕ). reply_text u.reply ++ xs) rest.0 ∙
           sym (output_cons u us),
       rest.1,
     )

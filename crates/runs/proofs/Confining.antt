@@ -32,8 +32,12 @@ lines_read : (turns : List Turn) (input left : Option (List ℕ)) (output writte
     (text : List ℕ) × Consumes input left text × AreOf text (lines_in turns)
 lines_read turns input left output written (Ok a) does = (does.0, does.1, all_of does.0 (lines_in turns) does.3)
 lines_read turns input left output written (Err fault.Read) does = (does.0, does.2, with_rest does.0 (lines_in turns) does.1 does.3)
-lines_read turns input left output written (Err fault.Write) does =
-    (does.0, does.1, ⊎_elim (λ first. first_of does.0 left (lines_in turns) first.0) (λ whole. all_or_with_rest does.0 left (lines_in turns) whole.0) does.2)
+lines_read turns input left output written (Err fault.Write) does = (
+  does.0,
+  does.1,
+  ⊎_elim (λ first. first_of does.0 left (lines_in turns) first.0)
+      (λ whole. all_or_with_rest does.0 left (lines_in turns) whole.0) does.2,
+)
 lines_read turns input left output written (Err fault.Stopped) does = (does.0, does.1, first_of does.0 left (lines_in turns) does.2)
 
 -- and so its turns are by whom its lines are by
@@ -51,15 +55,17 @@ turns_by inside (t ∷ ts) more by =
 
 module _ {D S : Type 0} (disk : D → Disk) (view : S → View D) (parts : S → Parts) where
   -- a kernel that is up stands for one machine
-  pub one_machine : (g : Geometry) (p : Power D S) (m : Machine) (t : Running) → Stands disk view parts g p m → Stands disk view parts g p (Up t) → m ≡ Up t
+  pub one_machine : (g : Geometry) (p : Power D S) (m : Machine) (t : Running) → Stands disk view parts g p m →
+      Stands disk view parts g p (Up t) → m ≡ Up t
   one_machine g p m t first second = search (arith, nat_tests)
 
   -- and its world is sound
   pub sound_world : (g : Geometry) (p : Power D S) (s : Running) → Stands disk view parts g p (Up s) → IsSound g s.now
   sound_world g p s up = search (arith, nat_tests)
 
-  pub run_is_confined : (old new : Power D S) (input left : Option (List ℕ)) (output written : Written) (result : Result (Unit {0}) RunFault) →
-      RunsOver disk view parts old new input left output written result → IsConfined disk view parts old new input left
+  pub run_is_confined : (old new : Power D S) (input left : Option (List ℕ)) (output written : Written)
+      (result : Result (Unit {0}) RunFault) → RunsOver disk view parts old new input left output written result →
+      IsConfined disk view parts old new input left
   run_is_confined old new input left output written result runs g s t first last =
       let made = runs g (Up s) first in
       let turns = made.0 in

@@ -16,5 +16,6 @@ pub line_ends : (bytes : List ℕ) (r : Option ℕ) → IsFirstByte (is_byte 10)
 line_ends bytes r first = search (arith, nat_tests, one_line)
 
 pub no_line_ends : (bytes : List ℕ) (r : Option ℕ) → IsFirstByte (is_byte 10) bytes r → IfNone r (IsOneLine bytes)
-no_line_ends bytes None first = subst (λ (text : List ℕ). IsOneLine text) (take_all (length bytes) bytes (omega arith)) (one_line bytes (length bytes) first)
+no_line_ends bytes None first = subst (λ (text : List ℕ). IsOneLine text) (take_all (length bytes) bytes (omega arith))
+    (one_line bytes (length bytes) first)
 no_line_ends bytes (Some end) first = tt

@@ -27,7 +27,8 @@ module _ {D S O : Type 0} (disk : D → Disk) (view : S → View D) (parts : S �
         passes t.on _ t.writes,
       )
 
-pub passed : (a b c : Written) (ran on : Bool) (reply : List ℕ) → Wrote b c [] → IsWritten a b (Ok ran) on reply → IsWritten a c (Ok ran) on reply
+pub passed : (a b c : Written) (ran on : Bool) (reply : List ℕ) → Wrote b c [] → IsWritten a b (Ok ran) on reply →
+    IsWritten a c (Ok ran) on reply
 passed a b c ran on reply kept is = (is.0, wrote_kept a b c reply is.1 kept)
 
 pub not_passed : (a b c : Written) (ran on : Bool) (reply : List ℕ) (e : RunFault) → e ≡ fault.Write → WroteFront b c [] →

@@ -13,8 +13,9 @@ module _ {D S : Type 0} (disk : D → Disk) (view : S → View D) (parts : S →
   IsResult a (Ok b) = (b ≡ a) × ((why : Refusal) → a ≢ answer.Refused why)
   IsResult a (Err why) = a ≡ answer.Refused why
 
-  pub carried_out : (c : Command) (a : Answer) (old new : Power D S) (r : Result Answer Refusal) → Fits c → Serves disk view parts old c a new →
-      IsCaused (disk_of disk view parts old) (disk_of disk view parts new) a → IsResult a r → CarriesOut disk view parts old c new r
+  pub carried_out : (c : Command) (a : Answer) (old new : Power D S) (r : Result Answer Refusal) → Fits c →
+      Serves disk view parts old c a new → IsCaused (disk_of disk view parts old) (disk_of disk view parts new) a → IsResult a r →
+      CarriesOut disk view parts old c new r
   carried_out c a old new r fits serves caused is g m stands =
       let s = serves g m stands in
       let before = disk_of disk view parts old in
@@ -28,7 +29,12 @@ module _ {D S : Type 0} (disk : D → Disk) (view : S → View D) (parts : S →
         faults = answer_reported before after a caused;
       } in (
         turn,
-        record { after = s.after; run = (refl, (line.Command c, (fits, refl), (a, refl, s.step)), refl); stands = s.stands; each = (new, link, refl) },
+        record {
+          after = s.after;
+          run = (refl, (line.Command c, (fits, refl), (a, refl, s.step)), refl);
+          stands = s.stands;
+          each = (new, link, refl);
+        },
         stage turn refl refl r is,
       )
     where

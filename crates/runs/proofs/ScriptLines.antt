@@ -20,7 +20,8 @@ last_line (b ∷ c ∷ bs) one some =
     let other : (b == 10) ≡ false = let ne : b ≢ 10 = one 0 0 (omega arith) in grind (arith, nat_tests) in
     rw (other, last_line (c ∷ bs) (λ k d lt. one (suc k) d (omega arith)) (λ is. cc)) refl
 
-pub lines_before : (lines : List (List ℕ)) (more : List ℕ) → All IsOneLine lines → lines_of (flat_map line_of lines ++ more) ≡ lines ++ lines_of more
+pub lines_before : (lines : List (List ℕ)) (more : List ℕ) → All IsOneLine lines →
+    lines_of (flat_map line_of lines ++ more) ≡ lines ++ lines_of more
 lines_before [] more each = refl
 lines_before (l ∷ ls) more each =
     ap lines_of (append_assoc (line_of l) (flat_map line_of ls) more)
@@ -41,7 +42,8 @@ bytes_more text lines rest bytes are more = record {
 }
 
 -- and a newline
-pub line_more : (text : List ℕ) (lines : List (List ℕ)) (rest : List ℕ) → AreLines text lines rest → AreLines (text ++ 10 ∷ []) (lines ++ rest ∷ []) []
+pub line_more : (text : List ℕ) (lines : List (List ℕ)) (rest : List ℕ) → AreLines text lines rest →
+    AreLines (text ++ 10 ∷ []) (lines ++ rest ∷ []) []
 line_more text lines rest are = record {
   whole = ap (λ (l : List ℕ). l ++ 10 ∷ []) are.whole ∙ sym (simp (flat_map-append line_of lines (rest ∷ []), append-nil, append_assoc));
   each = All-append IsOneLine lines (rest ∷ []) are.each (All-cons IsOneLine rest [] are.none (All-nil IsOneLine));
@@ -53,14 +55,16 @@ pub begins_with : (text : List ℕ) (lines : List (List ℕ)) (more : List ℕ) 
 begins_with text lines more are = search (arith, nat_tests, append-nil)
 
 -- they are its first lines, whatever follows
-lines_first : (text : List ℕ) (lines : List (List ℕ)) (more : List ℕ) → AreLines text lines [] → lines_of (text ++ more) ≡ lines ++ lines_of more
+lines_first : (text : List ℕ) (lines : List (List ℕ)) (more : List ℕ) → AreLines text lines [] →
+    lines_of (text ++ more) ≡ lines ++ lines_of more
 lines_first text lines more are = search (arith, nat_tests, append-nil, lines_before)
 
 -- and all of them, where nothing is left, or with what is left
 pub lines_whole : (text : List ℕ) (lines : List (List ℕ)) → AreLines text lines [] → lines_of text ≡ lines
 lines_whole text lines are = ap lines_of (sym (append-nil text)) ∙ lines_first text lines [] are ∙ append-nil lines
 
-pub lines_with_rest : (text : List ℕ) (lines : List (List ℕ)) (rest : List ℕ) → AreLines text lines rest → (rest ≡ [] → ⊥) → lines_of text ≡ lines ++ rest ∷ []
+pub lines_with_rest : (text : List ℕ) (lines : List (List ℕ)) (rest : List ℕ) → AreLines text lines rest → (rest ≡ [] → ⊥) →
+    lines_of text ≡ lines ++ rest ∷ []
 lines_with_rest text lines rest are some = search (arith, nat_tests, lines_before, last_line)
 
 -- ---- a piece of a text

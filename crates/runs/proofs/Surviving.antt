@@ -21,7 +21,8 @@ module _ {D S : Type 0} (disk : D → Disk) (view : S → View D) (parts : S →
   of p = disk_of disk view parts p
 
   -- before the first turn
-  before_turns : (g : Geometry) (m : Machine) (p : Power D S) → Stands disk view parts g p m → LeavesOnly (of p) (of p) (LeavesSaved g (of p).sectors m [])
+  before_turns : (g : Geometry) (m : Machine) (p : Power D S) → Stands disk view parts g p m →
+      LeavesOnly (of p) (of p) (LeavesSaved g (of p).sectors m [])
   before_turns g (Up r) (power.Up l) stands = search (arith, nat_tests, started, candidate)
   before_turns g (Down saved) (power.Down d) stands = search (arith, nat_tests, started, candidate)
   before_turns g (Down saved) (power.Up l) stands = absurd stands
@@ -29,8 +30,9 @@ module _ {D S : Type 0} (disk : D → Disk) (view : S → View D) (parts : S →
   before_turns g m power.Between stands = absurd stands
 
   -- turn after turn
-  turns_leave : (g : Geometry) (turns : List Turn) (m last : Machine) (old new : Power D S) → Stands disk view parts g old m → IsRun g m turns last →
-      AreTurnsOf disk view parts g old new turns → LeavesOnly (of old) (of new) (LeavesSaved g (of old).sectors m turns)
+  turns_leave : (g : Geometry) (turns : List Turn) (m last : Machine) (old new : Power D S) → Stands disk view parts g old m →
+      IsRun g m turns last → AreTurnsOf disk view parts g old new turns → LeavesOnly (of old) (of new)
+      (LeavesSaved g (of old).sectors m turns)
   turns_leave g [] m last old new stands run same = search (arith, nat_tests, before_turns)
   turns_leave g (t ∷ ts) m last old new stands run goes =
       let turn = goes.1 in
@@ -39,7 +41,8 @@ module _ {D S : Type 0} (disk : D → Disk) (view : S → View D) (parts : S →
       subst (λ (n : ℕ). LeavesOnly (of goes.0) (of new) (LeavesSaved g n t.after ts)) turn.size
       (turns_leave g ts t.after last goes.0 new turn.stands run.2 goes.2) in
       leaves_on {old = of old} {mid = of goes.0} {new = of new} {P = LeavesSaved g size m (t ∷ ts)}
-      (leaves_weaker {old = of old} {new = of goes.0} {P = IsLeftIn g size t} (LeavesSaved g size m (t ∷ ts)) (λ c is. (is.0, inl is.1, is.2)) turn.any_moment)
+      (leaves_weaker {old = of old} {new = of goes.0} {P = IsLeftIn g size t} (LeavesSaved g size m (t ∷ ts))
+      (λ c is. (is.0, inl is.1, is.2)) turn.any_moment)
       (leaves_weaker {old = of goes.0} {new = of new} {P = LeavesSaved g size t.after ts} (LeavesSaved g size m (t ∷ ts))
       (λ c is. (is.0, inr is.1, is.2)) rest)
 
@@ -50,20 +53,23 @@ module _ {D S : Type 0} (disk : D → Disk) (view : S → View D) (parts : S →
       subst (λ (n : ℕ). Denotes g n (disk d).seen s) (sym size_is) (subst (λ (x : Image). Denotes g size x s) (sym seen_is) denoted) in
       (opens d held, refuses d held)
     where
-      opens : (d : D) → Denotes g (disk d).sectors (disk d).seen s → (k : Power D S) → Opens disk view parts d k → Stands disk view parts g k (Up (opened g s))
+      opens : (d : D) → Denotes g (disk d).sectors (disk d).seen s → (k : Power D S) → Opens disk view parts d k →
+          Stands disk view parts g k (Up (opened g s))
       opens d held k is =
           let one = denotes_one is.geometry g (disk d).sectors (disk d).seen is.saved s is.denoted held in
           subst (λ (x : Saved). Stands disk view parts g k (Up (opened g x))) one.1
           (subst (λ (h : Geometry). Stands disk view parts h k (Up (opened h is.saved))) one.0 is.stands)
 
-      refuses : (d : D) → Denotes g (disk d).sectors (disk d).seen s → (back : D) (why : OpenFault) → RefusesToOpen disk d back why → IsNoReason why
+      refuses : (d : D) → Denotes g (disk d).sectors (disk d).seen s → (back : D) (why : OpenFault) → RefusesToOpen disk d back why →
+          IsNoReason why
       refuses d held back fault.Failed is = tt
       refuses d held back fault.NoMemory is = tt
       refuses d held back (fault.Bad reason) is = denoted_not_bad g (disk d).sectors (disk d).seen s reason held is.is_why.1
 
   -- and so all that a crash leaves
   survived : (g : Geometry) (old new : Power D S) (MayBeLeft : Saved → Type 0) →
-      LeavesOnly (of old) (of new) (λ c. (s : Saved) × MayBeLeft s × Denotes g (of old).sectors c s) → IsSurvived disk view parts g old new MayBeLeft
+      LeavesOnly (of old) (of new) (λ c. (s : Saved) × MayBeLeft s × Denotes g (of old).sectors c s) →
+      IsSurvived disk view parts g old new MayBeLeft
   survived g old new MayBeLeft leaves =
       let size = (of old).sectors in
       leaves_weaker {old = of old} {new = of new} {P = λ c. (s : Saved) × MayBeLeft s × Denotes g size c s}
@@ -74,4 +80,5 @@ module _ {D S : Type 0} (disk : D → Disk) (view : S → View D) (parts : S →
   crashes_survived g old new t turn = survived g old new (MaySaveIn t) turn.any_moment
 
   pub in_runs_survived : CrashesInRunsAreSurvived disk view parts
-  in_runs_survived g m old new turns stands run = survived g old new (MaySave m turns) (turns_leave g turns m run.after old new stands run.run run.each)
+  in_runs_survived g m old new turns stands run = survived g old new (MaySave m turns)
+      (turns_leave g turns m run.after old new stands run.run run.each)

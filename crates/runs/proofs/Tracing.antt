@@ -8,21 +8,24 @@ use Rattle.runs.specs.declared.cause.Cause.TheVariants as cause
 
 -- ---- where a strict run ends
 
-ended : (g : Geometry) (t : Turn) (strict : Bool) (why : Option Cause) (place : ℕ) (on : Bool) (stop : Option Stop) → EndsIf strict why place on stop →
-    IfSome why (IsCauseOf g t) → IfNone why ((w : Cause) → IsCauseOf g t w → ⊥) → Ends g place t strict on stop
+ended : (g : Geometry) (t : Turn) (strict : Bool) (why : Option Cause) (place : ℕ) (on : Bool) (stop : Option Stop) →
+    EndsIf strict why place on stop → IfSome why (IsCauseOf g t) → IfNone why ((w : Cause) → IsCauseOf g t w → ⊥) →
+    Ends g place t strict on stop
 ended g t strict why place on stop ends some none = search (arith, nat_tests)
 
 -- ---- what is seen of a turn
 
 module _ {V : Type 0} (written : V → Written) (g : Geometry) (t : Turn) (old new : Tracer V) (on : Bool) where
-  module _ (place : ℕ) (text : List ℕ) (why : Option Cause) (noted : Notes written place text why old new on) (next : place ≡ min (old.line + 1) (2 ^ 64 - 1))
+  module _ (place : ℕ) (text : List ℕ) (why : Option Cause) (noted : Notes written place text why old new on)
+      (next : place ≡ min (old.line + 1) (2 ^ 64 - 1))
     where
       seen : IsTrace g place t t.reply (line_of text) → IfSome why (IsCauseOf g t) → IfNone why ((w : Cause) → IsCauseOf g t w → ⊥) →
           Sees written g t old new on
       seen trace some none = search (arith, nat_tests, ended)
 
       -- a command
-      module _ (c : Command) (a : Answer) (reported : Option ResultCode) (says : Says t.line (line.Command c)) (reply : t.reply ≡ Reported a)
+      module _ (c : Command) (a : Answer) (reported : Option ResultCode) (says : Says t.line (line.Command c))
+          (reply : t.reply ≡ Reported a)
           (coded : reported_code g t.before c a ≡ reported) where
         causes : (w : Cause) → IsCauseIn a reported w → IsCauseOf g t w
         causes w is = search (arith, nat_tests)
@@ -48,12 +51,14 @@ module _ {V : Type 0} (written : V → Written) (g : Geometry) (t : Turn) (old n
         no_causes : (w : Option Cause) → IfNone w ((v : Cause) → IsCauseIn a reported v → ⊥) → IfNone w ((v : Cause) → IsCauseOf g t v → ⊥)
         no_causes w none = search (arith, nat_tests, is_cause_in)
 
-        pub answer_seen : (outcome : List ℕ) → IsOutcome reported a outcome → text ≡ spaced (place_text place ∷ (command_name c ++ codes ":") ∷ outcome ∷ []) →
-            IfSome why (IsCauseIn a reported) → IfNone why ((w : Cause) → IsCauseIn a reported w → ⊥) → Sees written g t old new on
+        pub answer_seen : (outcome : List ℕ) → IsOutcome reported a outcome →
+            text ≡ spaced (place_text place ∷ (command_name c ++ codes ":") ∷ outcome ∷ []) → IfSome why (IsCauseIn a reported) →
+            IfNone why ((w : Cause) → IsCauseIn a reported w → ⊥) → Sees written g t old new on
         answer_seen outcome is spelt some none = search (arith, nat_tests, seen, some_causes, no_causes)
 
   -- a bad line
   pub bad_seen : (place : ℕ) (text : List ℕ) (fault : LineFault) → Notes written place text (Some (cause.BadLine fault)) old new on →
       place ≡ min (old.line + 1) (2 ^ 64 - 1) →
-      t.reply ≡ BadLine → IsFaultOf t.line fault → text ≡ spaced (place_text place ∷ cause_text (cause.BadLine fault) ∷ []) → Sees written g t old new on
+      t.reply ≡ BadLine → IsFaultOf t.line fault → text ≡ spaced (place_text place ∷ cause_text (cause.BadLine fault) ∷ []) →
+      Sees written g t old new on
   bad_seen place text fault noted next reply is spelt = search (arith, nat_tests, seen)

@@ -17,13 +17,15 @@ use Rattle.runs.proofs.TurnLists.{lines_more, output_more, run_more, wrote_and_f
 -- ---- what a crash leaves
 
 -- one of two lists is one of the first or of the second
-split_one : (g : Geometry) (size : ℕ) (c : Image) (ss ts : List Saved) → DenotesOne g size (ss ++ ts) c → DenotesOne g size ss c ⊎ DenotesOne g size ts c
+split_one : (g : Geometry) (size : ℕ) (c : Image) (ss ts : List Saved) → DenotesOne g size (ss ++ ts) c →
+    DenotesOne g size ss c ⊎ DenotesOne g size ts c
 split_one g size c [] ts one = inr one
 split_one g size c (s ∷ ss) ts one = ⊎_elim (λ here. inl (inl here))
     (λ there. ⊎_elim (λ first. inl (inr first)) (λ last. inr last) (split_one g size c ss ts there)) one
 
 -- what denotes one of several denotes this one
-pub denotes_this : (g : Geometry) (size : ℕ) (c : Image) (ss : List Saved) → DenotesOne g size ss c → (s : Saved) × Contains ss s × Denotes g size c s
+pub denotes_this : (g : Geometry) (size : ℕ) (c : Image) (ss : List Saved) → DenotesOne g size ss c →
+    (s : Saved) × Contains ss s × Denotes g size c s
 denotes_this g size c [] one = absurd one
 denotes_this g size c (s ∷ ss) one = ⊎_elim
     (λ here. (s, (zero, omega arith, refl), here))
@@ -59,7 +61,8 @@ pub seen_more : {O : Type 0} (sees : Turn → O → O → Bool → Type 0) (old 
 seen_more sees old mid new [] t true same seen = inl (new, subst (λ x. sees t x new true) same.0 seen, (refl, refl))
 seen_more sees old mid new [] t false same seen = inr (refl, refl, subst (λ x. sees t x new false) same.0 seen)
 seen_more sees old mid new (u ∷ us) t on are seen =
-    ⊎_elim (λ goes. inl (goes.0, goes.1, seen_more sees goes.0 mid new us t on goes.2 seen)) (λ ends. let never : true ≡ false = ends.1 in cc) are
+    ⊎_elim (λ goes. inl (goes.0, goes.1, seen_more sees goes.0 mid new us t on goes.2 seen))
+    (λ ends. let never : true ≡ false = ends.1 in cc) are
 
 -- a fault of the writer is none of the reader
 pub not_read : (e : RunFault) → e ≡ fault.Write → e ≢ fault.Read
@@ -88,20 +91,22 @@ module _ {D S O : Type 0} (disk : D → Disk) (view : S → View D) (parts : S �
       (result : Result Bool RunFault) (reply : Reply) (on : Bool) →
       Stands disk view parts g p m → Replies g says m reply m → tells_fault reply ≡ false →
       sees g (record { line = text; before = m; reply = reply; after = m }) before seen on →
-      IsWritten written wrote result on (reply_text reply) → TakesTurn disk view parts sees g m text says p p before seen written wrote result
+      IsWritten written wrote result on (reply_text reply) → TakesTurn disk view parts sees g m text says p p before seen written wrote
+      result
   no_command g m text says p before seen written wrote result reply on stands replies fine is_seen writes =
       search (arith, nat_tests, leaves_weaker, here, left_before, none_reported)
 
-  pub skipped : (g : Geometry) (m : Machine) (text : List ℕ) (says : Line) (p : Power D S) (before seen : O) (on : Bool) (written : Written) →
-      says ≡ line.Skip → Stands disk view parts g p m →
-      ((t : Turn) → t.reply ≡ Nothing → sees g t before seen on) → TakesTurn disk view parts sees g m text says p p before seen written written (Ok on)
+  pub skipped : (g : Geometry) (m : Machine) (text : List ℕ) (says : Line) (p : Power D S) (before seen : O) (on : Bool) (written : Written)
+      → says ≡ line.Skip → Stands disk view parts g p m →
+      ((t : Turn) → t.reply ≡ Nothing → sees g t before seen on) → TakesTurn disk view parts sees g m text says p p before seen written
+      written (Ok on)
   skipped g m text says p before seen on written is stands saw =
       no_command g m text says p before seen written written (Ok on) Nothing on stands
       (subst (λ (l : Line). Replies g l m Nothing m) (sym is) (refl, refl)) refl
       (saw (record { line = text; before = m; reply = Nothing; after = m }) refl) (refl, wrote_none written)
 
-  pub is_bad : (g : Geometry) (m : Machine) (text : List ℕ) (says : Line) (p : Power D S) (before seen : O) (on : Bool) (written wrote : Written)
-      (result : Result Bool RunFault) →
+  pub is_bad : (g : Geometry) (m : Machine) (text : List ℕ) (says : Line) (p : Power D S) (before seen : O) (on : Bool)
+      (written wrote : Written) (result : Result Bool RunFault) →
       says ≡ line.Bad → Stands disk view parts g p m → ((t : Turn) → t.line ≡ text → t.reply ≡ BadLine → sees g t before seen on) →
       IsWritten written wrote result on bad_line → TakesTurn disk view parts sees g m text says p p before seen written wrote result
   is_bad g m text says p before seen on written wrote result is stands saw writes =
@@ -109,13 +114,14 @@ module _ {D S O : Type 0} (disk : D → Disk) (view : S → View D) (parts : S �
       (subst (λ (l : Line). Replies g l m BadLine m) (sym is) (refl, refl)) refl
       (saw (record { line = text; before = m; reply = BadLine; after = m }) refl refl) writes
 
-  pub answered : (g : Geometry) (m : Machine) (text : List ℕ) (says : Line) (c : Command) (a : Answer) (code : Option ResultCode) (p q : Power D S)
-      (before seen : O) (on : Bool)
+  pub answered : (g : Geometry) (m : Machine) (text : List ℕ) (says : Line) (c : Command) (a : Answer) (code : Option ResultCode)
+      (p q : Power D S) (before seen : O) (on : Bool)
       (written wrote : Written) (result : Result Bool RunFault) → says ≡ line.Command c → Says text says →
       Stands disk view parts g p m → Serves disk view parts p c a q → IsCaused (disk_of disk view parts p) (disk_of disk view parts q) a →
       code ≡ reported_code g m c a →
       ((t : Turn) → Says t.line (line.Command c) → t.reply ≡ Reported a → reported_code g t.before c a ≡ code → sees g t before seen on) →
-      IsWritten written wrote result on (reply_text (Reported a)) → TakesTurn disk view parts sees g m text says p q before seen written wrote result
+      IsWritten written wrote result on (reply_text (Reported a)) → TakesTurn disk view parts sees g m text says p q before seen written
+      wrote result
   answered g m text says c a code p q before seen on written wrote result is said stands serves caused coded saw writes =
       let s = serves g m stands in
       let old = disk_of disk view parts p in
@@ -170,7 +176,8 @@ module _ {D S O : Type 0} (disk : D → Disk) (view : S → View D) (parts : S �
       (output written wrote : Written)
       (so_far : SoFar disk view parts sees g m old mid first before begins held output written) (text rest : List ℕ)
       (lines : AreLines text (lines_in so_far.turns) rest) (empty : Holds next [])
-      (result : Result Bool RunFault) (taken : TakesLine disk view parts sees g so_far.run.after rest mid new before seen written wrote result) where
+      (result : Result Bool RunFault) (taken : TakesLine disk view parts sees g so_far.run.after rest mid new before seen written wrote
+      result) where
     abbrev turn : TakesTurn disk view parts sees g so_far.run.after rest taken.0 mid new before seen written wrote result
     turn = taken.2
 
@@ -206,12 +213,20 @@ module _ {D S O : Type 0} (disk : D → Disk) (view : S → View D) (parts : S �
     whole_lines = search (arith, nat_tests, lines_more, line_more)
 
     -- by its newline
-    pub goes_on : true ≡ turn.on → Wrote written wrote (reply_text turn.reply) → SoFar disk view parts sees g m old new first seen (text ++ 10 ∷ []) next
-        output wrote
-    goes_on on all = record { turns = turns_on; rest = []; run = more_run; are_seen = seen_on on; lines = whole_lines; held = empty; written = all_written all }
+    pub goes_on : true ≡ turn.on → Wrote written wrote (reply_text turn.reply) →
+        SoFar disk view parts sees g m old new first seen (text ++ 10 ∷ []) next output wrote
+    goes_on on all = record {
+      turns = turns_on;
+      rest = [];
+      run = more_run;
+      are_seen = seen_on on;
+      lines = whole_lines;
+      held = empty;
+      written = all_written all;
+    }
 
-    pub stopped : (more : List ℕ) (e : RunFault) → Ending result e → Stopped disk view parts sees (BeginsWith ((text ++ 10 ∷ []) ++ more)) e g m old new first
-        seen output wrote
+    pub stopped : (more : List ℕ) (e : RunFault) → Ending result e → Stopped disk view parts sees (BeginsWith ((text ++ 10 ∷ []) ++ more)) e
+        g m old new first seen output wrote
     stopped more e ending = search (arith, nat_tests, more_run, all_seen, begins_with, whole_lines, stops_by)
 
     -- by the end of the input
@@ -220,15 +235,21 @@ module _ {D S O : Type 0} (disk : D → Disk) (view : S → View D) (parts : S �
 
     pub ended_by_rest : (rest ≡ [] → ⊥) → true ≡ turn.on → Wrote written wrote (reply_text turn.reply) →
         Ended disk view parts sees g m old new first seen text output wrote
-    ended_by_rest some on all = record { turns = turns_on; run = more_run; are_seen = seen_on on; lines = last_lines some; written = all_written all }
+    ended_by_rest some on all = record {
+      turns = turns_on;
+      run = more_run;
+      are_seen = seen_on on;
+      lines = last_lines some;
+      written = all_written all;
+    }
 
-    pub stopped_at_rest : (rest ≡ [] → ⊥) → (e : RunFault) → Ending result e → Stopped disk view parts sees (λ lines. lines_of text ≡ lines) e g m old new first
-        seen output wrote
+    pub stopped_at_rest : (rest ≡ [] → ⊥) → (e : RunFault) → Ending result e →
+        Stopped disk view parts sees (λ lines. lines_of text ≡ lines) e g m old new first seen output wrote
     stopped_at_rest some e ending = search (arith, nat_tests, more_run, all_seen, last_lines, stops_by)
 
   -- nothing is left of the input
-  pub ended : (g : Geometry) (m : Machine) (old new : Power D S) (first seen : O) (text : List ℕ) (line : LineBuffer) (output written : Written)
-      (so_far : SoFar disk view parts sees g m old new first seen text line output written) → so_far.rest ≡ [] →
+  pub ended : (g : Geometry) (m : Machine) (old new : Power D S) (first seen : O) (text : List ℕ) (line : LineBuffer)
+      (output written : Written) (so_far : SoFar disk view parts sees g m old new first seen text line output written) → so_far.rest ≡ [] →
       Ended disk view parts sees g m old new first seen text output written
   ended g m old new first seen text line output written so_far none = search (arith, nat_tests, lines_whole)
 
@@ -238,7 +259,8 @@ module _ {D S O : Type 0} (disk : D → Disk) (view : S → View D) (parts : S �
   module _ (first : Power D S) (saw : O) (begun_line : LineBuffer) (had : Written) where
     abbrev pub Goes : List ℕ → Power D S → O → LineBuffer → Written → Type 0
     Goes read k seen line written = (g : Geometry) (m : Machine) (start : Power D S) (begins : O) (text : List ℕ) (output : Written) →
-        SoFar disk view parts sees g m start first begins saw text begun_line output had → SoFar disk view parts sees g m start k begins seen (text ++ read)
+        SoFar disk view parts sees g m start first begins saw text begun_line output had →
+        SoFar disk view parts sees g m start k begins seen (text ++ read)
         line output written
 
     pub none_read : Goes [] first saw begun_line had
@@ -248,8 +270,10 @@ module _ {D S O : Type 0} (disk : D → Disk) (view : S → View D) (parts : S �
         Goes read k seen line written → IsOneLine bytes →
         ((l : List ℕ) → Holds line l → Holds longer_line (l ++ bytes)) → Goes (read ++ bytes) k seen longer_line written
     goes_longer read k seen line longer_line written bytes goes one extended g m start begins text output so_far =
-        subst (λ (t : List ℕ). SoFar disk view parts sees g m start k begins seen t longer_line output written) (append_assoc text read bytes)
-        (longer g m start k begins seen (text ++ read) line longer_line output written bytes (goes g m start begins text output so_far) one extended)
+        subst (λ (t : List ℕ). SoFar disk view parts sees g m start k begins seen t longer_line output written)
+        (append_assoc text read bytes)
+        (longer g m start k begins seen (text ++ read) line longer_line output written bytes (goes g m start begins text output so_far) one
+        extended)
 
     -- so were the first bytes of a piece, and these are left
     abbrev pub GoesTo : List ℕ → List ℕ → Power D S → O → LineBuffer → Written → Type 0
@@ -277,16 +301,20 @@ module _ {D S O : Type 0} (disk : D → Disk) (view : S → View D) (parts : S �
             SoFar disk view parts sees g m start new begins seen (text ++ ((read ++ bytes) ++ 10 ∷ [])) next output wrote
         on_by_newline on all =
             subst (λ (t : List ℕ). SoFar disk view parts sees g m start new begins seen t next output wrote) (text_is text)
-            (goes_on g m start k new begins before seen (text ++ read) line next output written wrote now ((text ++ read) ++ bytes) (now.rest ++ bytes)
+            (goes_on g m start k new begins before seen (text ++ read) line next output written wrote now ((text ++ read) ++ bytes)
+            (now.rest ++ bytes)
             (bytes_more (text ++ read) (lines_in now.turns) now.rest bytes now.lines one) (empty now.rest now.held) result taken on all)
 
         stopped_by_newline : (e : RunFault) → Ending result e → (more whole : List ℕ) → whole ≡ ((read ++ bytes) ++ 10 ∷ []) ++ more →
             Stopped disk view parts sees (BeginsWith (text ++ whole)) e g m start new begins seen output wrote
         stopped_by_newline e ending more whole is =
             subst (λ (t : List ℕ). Stopped disk view parts sees (BeginsWith t) e g m start new begins seen output wrote)
-            (ap (λ (t : List ℕ). t ++ more) (text_is text) ∙ append_assoc text ((read ++ bytes) ++ 10 ∷ []) more ∙ ap (λ (t : List ℕ). text ++ t) (sym is))
-            (stopped g m start k new begins before seen (text ++ read) line next output written wrote now ((text ++ read) ++ bytes) (now.rest ++ bytes)
-            (bytes_more (text ++ read) (lines_in now.turns) now.rest bytes now.lines one) (empty now.rest now.held) result taken more e ending)
+            (ap (λ (t : List ℕ). t ++ more) (text_is text) ∙ append_assoc text ((read ++ bytes) ++ 10 ∷ []) more
+            ∙ ap (λ (t : List ℕ). text ++ t) (sym is))
+            (stopped g m start k new begins before seen (text ++ read) line next output written wrote now ((text ++ read) ++ bytes)
+            (now.rest ++ bytes)
+            (bytes_more (text ++ read) (lines_in now.turns) now.rest bytes now.lines one) (empty now.rest now.held) result taken more e
+            ending)
 
     -- what is left of a piece begins with the end of a line, which was taken
     module _ (piece rest : List ℕ) (k new : Power D S) (before seen : O) (line next : LineBuffer) (written wrote : Written)
@@ -300,9 +328,11 @@ module _ {D S O : Type 0} (disk : D → Disk) (view : S → View D) (parts : S �
         (goes.0 ++ take end rest) ++ 10 ∷ [],
         line_taken piece goes.0 rest end goes.1 within newline,
         λ g m start begins text output so_far.
-            let writes = (taken goes.0 k new before seen line next written wrote goes.2 (take end rest) one empty (Ok true) turn g m start begins text output
+            let writes = (taken goes.0 k new before seen line next written wrote goes.2 (take end rest) one empty (Ok true) turn g m start
+            begins text output
             so_far).2.writes in
-            on_by_newline goes.0 k new before seen line next written wrote goes.2 (take end rest) one empty (Ok true) turn g m start begins text output so_far
+            on_by_newline goes.0 k new before seen line next written wrote goes.2 (take end rest) one empty (Ok true) turn g m start begins
+            text output so_far
             writes.0 writes.1,
       )
 
@@ -313,7 +343,8 @@ module _ {D S O : Type 0} (disk : D → Disk) (view : S → View D) (parts : S �
           SoFar disk view parts sees g m start first begins saw text begun_line output had →
           Stopped disk view parts sees (BeginsWith (text ++ piece)) e g m start new begins seen output wrote
       stops_in_piece result e ending turn g m start begins text output so_far =
-          stopped_by_newline goes.0 k new before seen line next written wrote goes.2 (take end rest) one empty result turn g m start begins text output so_far e
+          stopped_by_newline goes.0 k new before seen line next written wrote goes.2 (take end rest) one empty result turn g m start begins
+          text output so_far e
           ending (drop (suc end) rest) piece
           (line_taken piece goes.0 rest end goes.1 within newline)
 
@@ -341,9 +372,10 @@ module _ {D S O : Type 0} (disk : D → Disk) (view : S → View D) (parts : S �
       (text : List ℕ) × Consumes input input_left text × RunsSoFar old new first seen text line output output_left
 
   -- what was written stays so
-  kept_so_far : (g : Geometry) (m : Machine) (old new : Power D S) (first seen : O) (text : List ℕ) (line : LineBuffer) (output written kept : Written)
-      → Wrote written kept [] →
-      SoFar disk view parts sees g m old new first seen text line output written → SoFar disk view parts sees g m old new first seen text line output kept
+  kept_so_far : (g : Geometry) (m : Machine) (old new : Power D S) (first seen : O) (text : List ℕ) (line : LineBuffer)
+      (output written kept : Written) → Wrote written kept [] →
+      SoFar disk view parts sees g m old new first seen text line output written →
+      SoFar disk view parts sees g m old new first seen text line output kept
   kept_so_far g m old new first seen text line output written kept keeps so_far = search (arith, nat_tests, wrote_kept)
 
   pub nothing_read : (k : Power D S) (seen : O) (line : LineBuffer) (input : Option (List ℕ)) (output : Written) → Holds line [] →
@@ -355,11 +387,17 @@ module _ {D S O : Type 0} (disk : D → Disk) (view : S → View D) (parts : S �
     -- what was written was passed on, or wasn't
     module _ (passed : Written) (kept : Wrote written passed []) where
       pub passed_on : HasRead old mid first before line input read output passed
-      passed_on = (so_far.0, so_far.1, λ g m stands. kept_so_far g m old mid first before so_far.0 line output written passed kept (so_far.2 g m stands))
+      passed_on = (
+        so_far.0,
+        so_far.1,
+        λ g m stands. kept_so_far g m old mid first before so_far.0 line output written passed kept
+            (so_far.2 g m stands),
+      )
 
     pub not_passed_on : (passed : Written) (e : RunFault) → Writes written passed (Err e) [] →
         RunsSeen disk view parts sees old mid first before input read output passed (Err e)
-    not_passed_on passed e failed = subst (λ (f : RunFault). RunsSeen disk view parts sees old mid first before input read output passed (Err f)) (sym failed.0)
+    not_passed_on passed e failed = subst (λ (f : RunFault). RunsSeen disk view parts sees old mid first before input read output passed
+        (Err f)) (sym failed.0)
         (λ g m stands.
         let s = so_far.2 g m stands in
         let wrote = wrote_and_failed output written passed (output_of s.turns) s.written failed.1 in
@@ -372,7 +410,8 @@ module _ {D S O : Type 0} (disk : D → Disk) (view : S → View D) (parts : S �
 
     module _ (bytes : List ℕ) (new : Power D S) (seen : O) (wrote : Written) (more : Consumes read left bytes) where
       pub piece_on : (next : LineBuffer) → ((g : Geometry) (m : Machine) (start : Power D S) (begins : O) (text : List ℕ) (out : Written) →
-          SoFar disk view parts sees g m start mid begins before text line out written → SoFar disk view parts sees g m start new begins seen (text ++ bytes)
+          SoFar disk view parts sees g m start mid begins before text line out written →
+          SoFar disk view parts sees g m start new begins seen (text ++ bytes)
           next out wrote) →
           HasRead old new first seen next input left output wrote
       piece_on next goes = (
@@ -391,12 +430,14 @@ module _ {D S O : Type 0} (disk : D → Disk) (view : S → View D) (parts : S �
       does_stop AreTaken text consumed are fault.Stopped g m s = ((text, consumed, are (lines_in s.turns) s.lines, s.stops.1), s.stops.0)
 
       pub piece_stops : (e : RunFault) → ((g : Geometry) (m : Machine) (start : Power D S) (begins : O) (text : List ℕ) (out : Written) →
-          SoFar disk view parts sees g m start mid begins before text line out written → Stopped disk view parts sees (BeginsWith (text ++ bytes)) e g m start
+          SoFar disk view parts sees g m start mid begins before text line out written →
+          Stopped disk view parts sees (BeginsWith (text ++ bytes)) e g m start
           new begins seen out wrote) →
           RunsSeen disk view parts sees old new first seen input left output wrote (Err e)
       piece_stops e stops g m stands =
           let s = stops g m old first so_far.0 output (so_far.2 g m stands) in
-          let does = does_stop (BeginsWith (so_far.0 ++ bytes)) (so_far.0 ++ bytes) (Consumes-trans input read left so_far.0 bytes so_far.1 more)
+          let does = does_stop (BeginsWith (so_far.0 ++ bytes)) (so_far.0 ++ bytes)
+          (Consumes-trans input read left so_far.0 bytes so_far.1 more)
           (λ lines begin. inl begin) e g m s in
           (s.turns, s.run, does.0, s.on, s.are_seen, does.1)
 
@@ -406,19 +447,22 @@ module _ {D S O : Type 0} (disk : D → Disk) (view : S → View D) (parts : S �
       all_read = subst (Consumes input left) (append-nil so_far.0) (Consumes-trans input read left so_far.0 [] so_far.1 none)
 
       pub rest_stops_run : (e : RunFault) → ((g : Geometry) (m : Machine) (start : Power D S) (begins : O) (text : List ℕ) (out : Written) →
-          SoFar disk view parts sees g m start mid begins before text line out written → Stopped disk view parts sees (λ lines. lines_of text ≡ lines) e g m
+          SoFar disk view parts sees g m start mid begins before text line out written →
+          Stopped disk view parts sees (λ lines. lines_of text ≡ lines) e g m
           start new begins seen out wrote) →
           RunsSeen disk view parts sees old new first seen input left output wrote (Err e)
       rest_stops_run e stops g m stands =
           let s = stops g m old first so_far.0 output (so_far.2 g m stands) in
-          let does = does_stop [] new seen wrote none (λ lines. lines_of so_far.0 ≡ lines) so_far.0 all_read (λ lines whole. inr (end, whole)) e g m s in
+          let does = does_stop [] new seen wrote none (λ lines. lines_of so_far.0 ≡ lines) so_far.0 all_read
+          (λ lines whole. inr (end, whole)) e g m s in
           (s.turns, s.run, does.0, s.on, s.are_seen, does.1)
 
       -- and the answers were passed on, or weren't
       pub end_passed_on : (passed : Written) →
           ((g : Geometry) (m : Machine) (start : Power D S) (begins : O) (text : List ℕ) (out : Written) →
-          SoFar disk view parts sees g m start mid begins before text line out written → Ended disk view parts sees g m start new begins seen text out wrote) →
-          (result : Result (Unit {0}) RunFault) → Writes wrote passed result [] → RunsSeen disk view parts sees old new first seen input left output
+          SoFar disk view parts sees g m start mid begins before text line out written →
+          Ended disk view parts sees g m start new begins seen text out wrote) → (result : Result (Unit {0}) RunFault) →
+          Writes wrote passed result [] → RunsSeen disk view parts sees old new first seen input left output
           passed result
       end_passed_on passed ends (Ok a) kept g m stands = search (arith, nat_tests, all_read, wrote_kept)
       end_passed_on passed ends (Err d) failed g m stands =
@@ -436,31 +480,38 @@ module _ {D S O : Type 0} (disk : D → Disk) (view : S → View D) (parts : S �
   -- ---- the rest at the end
 
   module _ (k new : Power D S) (before seen : O) (line : LineBuffer) (next : LineBuffer) (written wrote : Written) (empty : Holds next [])
-      (is_empty : Bool) (tells : (l : List ℕ) → Holds line l → (IsTrue is_empty ↔ (l ≡ []))) (some : is_empty ≡ false) (result : Result Bool RunFault)
+      (is_empty : Bool) (tells : (l : List ℕ) → Holds line l → (IsTrue is_empty ↔ (l ≡ []))) (some : is_empty ≡ false)
+      (result : Result Bool RunFault)
       (turn : (g : Geometry) (m : Machine) (held : List ℕ) → Stands disk view parts g k m → Holds line held →
       TakesLine disk view parts sees g m held k new before seen written wrote result) where
     not_none : (l : List ℕ) → Holds line l → l ≡ [] → ⊥
     not_none l held none = let reported : IsTrue is_empty = (tells l held).1 none in cc
 
     pub rest_ends : result ≡ Ok true → (g : Geometry) (m : Machine) (start : Power D S) (begins : O) (text : List ℕ) (output : Written) →
-        SoFar disk view parts sees g m start k begins before text line output written → Ended disk view parts sees g m start new begins seen text output wrote
+        SoFar disk view parts sees g m start k begins before text line output written →
+        Ended disk view parts sees g m start new begins seen text output wrote
     rest_ends ok g m start begins text output so_far =
         let taken = turn g so_far.run.after so_far.rest so_far.run.stands so_far.held in
-        let writes = subst (λ (r : Result Bool RunFault). IsWritten written wrote r taken.2.on (reply_text taken.2.reply)) ok taken.2.writes in
-        ended_by_rest g m start k new begins before seen text line next output written wrote so_far text so_far.rest so_far.lines empty result taken
+        let writes = subst (λ (r : Result Bool RunFault). IsWritten written wrote r taken.2.on (reply_text taken.2.reply)) ok taken.2.writes
+        in
+        ended_by_rest g m start k new begins before seen text line next output written wrote so_far text so_far.rest so_far.lines empty
+        result taken
         (not_none so_far.rest so_far.held) writes.0 writes.1
 
-    pub rest_stops : (e : RunFault) → Ending result e → (g : Geometry) (m : Machine) (start : Power D S) (begins : O) (text : List ℕ) (output : Written)
-        →
-        SoFar disk view parts sees g m start k begins before text line output written → Stopped disk view parts sees (λ lines. lines_of text ≡ lines) e g m
+    pub rest_stops : (e : RunFault) → Ending result e → (g : Geometry) (m : Machine) (start : Power D S) (begins : O) (text : List ℕ)
+        (output : Written) →
+        SoFar disk view parts sees g m start k begins before text line output written →
+        Stopped disk view parts sees (λ lines. lines_of text ≡ lines) e g m
         start new begins seen output wrote
     rest_stops e ending g m start begins text output so_far =
         let taken = turn g so_far.run.after so_far.rest so_far.run.stands so_far.held in
-        stopped_at_rest g m start k new begins before seen text line next output written wrote so_far text so_far.rest so_far.lines empty result taken
+        stopped_at_rest g m start k new begins before seen text line next output written wrote so_far text so_far.rest so_far.lines empty
+        result taken
         (not_none so_far.rest so_far.held) e ending
 
   -- ---- what the observer adds is left out
 
-  pub run_of_seen : (old new : Power D S) (first seen : O) (input left : Option (List ℕ)) (output wrote : Written) (result : Result (Unit {0}) RunFault) →
-      RunsSeen disk view parts sees old new first seen input left output wrote result → RunsOver disk view parts old new input left output wrote result
+  pub run_of_seen : (old new : Power D S) (first seen : O) (input left : Option (List ℕ)) (output wrote : Written)
+      (result : Result (Unit {0}) RunFault) → RunsSeen disk view parts sees old new first seen input left output wrote result →
+      RunsOver disk view parts old new input left output wrote result
   run_of_seen old new first seen input left output wrote result runs g m stands = let r = runs g m stands in (r.0, r.1, r.2)

@@ -11,8 +11,10 @@ use Rattle.script.proofs.Texts.{spaced_more}
 access_is : (a : Access) → flat_map (λ w. 32 ∷ w) (access_words a) ≡ access_text a
 access_is a = grind (arith, nat_tests)
 
-restricted : (word : List ℕ) (words : List (List ℕ)) (a : Access) → spaced (word ∷ words) ++ access_text a ≡ spaced (word ∷ (words ++ access_words a))
-restricted word words a = ap (λ (t : List ℕ). spaced (word ∷ words) ++ t) (sym (access_is a)) ∙ sym (spaced_more word words (access_words a))
+restricted : (word : List ℕ) (words : List (List ℕ)) (a : Access) → spaced (word ∷ words) ++ access_text a
+    ≡ spaced (word ∷ (words ++ access_words a))
+restricted word words a = ap (λ (t : List ℕ). spaced (word ∷ words) ++ t) (sym (access_is a))
+    ∙ sym (spaced_more word words (access_words a))
 
 -- the text is the words, with one space between each two
 text_is : (c : Capability) → capability_text c ≡ spaced (capability_words c)
@@ -37,8 +39,10 @@ name_is text test = All-weaker (λ b. not (b == 32) ≡ true) (λ b. (b == 32) �
 alone : (word : List ℕ) → IsSpaceless word → AreWords (word ∷ [])
 alone word is = All-cons IsSpaceless word [] is (All-nil IsSpaceless)
 
-named : (word : List ℕ) (n : ℕ) (words : List (List ℕ)) → IsSpaceless word → n < 2 ^ 64 → AreWords words → AreWords (word ∷ decimal n ∷ words)
-named word n words is small more = All-cons IsSpaceless word (decimal n ∷ words) is (All-cons IsSpaceless (decimal n) words (decimal_is_word n small).0 more)
+named : (word : List ℕ) (n : ℕ) (words : List (List ℕ)) → IsSpaceless word → n < 2 ^ 64 → AreWords words →
+    AreWords (word ∷ decimal n ∷ words)
+named word n words is small more = All-cons IsSpaceless word (decimal n ∷ words) is
+    (All-cons IsSpaceless (decimal n) words (decimal_is_word n small).0 more)
 
 access_are : (a : Access) → AreWords (access_words a)
 access_are a = grind (arith, nat_tests)

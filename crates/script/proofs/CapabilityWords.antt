@@ -43,8 +43,16 @@ pub capability_again : (c : Capability) → HasText c
     → (words : Words) × (capability_words c ≡ kind_name (kind_for c) ∷ words) × (capability_at (kind_for c) words ≡ Some (c, []))
 unfolding capability_words capability_at kind_for
 capability_again (capability.Number n) has = (decimal n ∷ [], refl, rw (number_again n [] has.0) refl)
-capability_again (capability.Page o a) has = (decimal o ∷ access_words a, refl, rw (number_again o (access_words a) has.1, access_again a has.0) refl)
-capability_again (capability.Node o a) has = (decimal o ∷ access_words a, refl, rw (number_again o (access_words a) has.1, access_again a has.0) refl)
+capability_again (capability.Page o a) has = (
+  decimal o ∷ access_words a,
+  refl,
+  rw (number_again o (access_words a) has.1, access_again a has.0) refl,
+)
+capability_again (capability.Node o a) has = (
+  decimal o ∷ access_words a,
+  refl,
+  rw (number_again o (access_words a) has.1, access_again a has.0) refl,
+)
 capability_again (capability.Space o h a) has = (
   decimal o ∷ decimal h ∷ access_words a,
   refl,
@@ -69,7 +77,8 @@ access_takes [] p e = subst (λ (q : Access × Words). IsAccess q.0 × ([] ≡ a
 access_takes (word ∷ words) p e =
     let b = bind_some (access_in word) (λ (a : Access). Some (a, words)) p e in
     let f = access_in_some word b.0 b.1 in
-    subst (λ (q : Access × Words). IsAccess q.0 × (word ∷ words ≡ access_words q.0 ++ q.1)) (some_is _ _ b.2) (f.0, ap (λ (w : Words). w ++ words) f.1)
+    subst (λ (q : Access × Words). IsAccess q.0 × (word ∷ words ≡ access_words q.0 ++ q.1)) (some_is _ _ b.2)
+    (f.0, ap (λ (w : Words). w ++ words) f.1)
 
 height_takes : (words : Words) (p : ℕ × Words) → height_at words ≡ Some p → (1 ≤ p.0) × (p.0 ≤ 4) × (words ≡ decimal p.0 ∷ p.1)
 unfolding height_at
@@ -92,8 +101,8 @@ object_takes make words p e =
     let u = access_takes one.0.1 two.0 two.1 in
     grind (arith, nat_tests, some_is)
 
-one_read : (k : Kind) (words : Words) (p : Capability × Words) (c : Capability) → p.0 ≡ c → HasText c → kind_name k ∷ words ≡ capability_words c ++ p.1 →
-    IsReadFrom k words p
+one_read : (k : Kind) (words : Words) (p : Capability × Words) (c : Capability) → p.0 ≡ c → HasText c →
+    kind_name k ∷ words ≡ capability_words c ++ p.1 → IsReadFrom k words p
 one_read k words p c is has whole = rw is (has, whole)
 
 capability_takes : (k : Kind) (words : Words) (p : Capability × Words) → capability_at k words ≡ Some p → IsReadFrom k words p
@@ -128,22 +137,25 @@ kind_at_name k = grind (arith, nat_tests)
 -- ---- what the words of a text name
 
 -- what was read is any capability with these words
-pub arguments_are : (words rest : Words) (word : List ℕ) (k : Kind) (c : Capability) → words ≡ word ∷ rest → word ≡ kind_name k → HasText c →
-    words ≡ capability_words c
+pub arguments_are : (words rest : Words) (word : List ℕ) (k : Kind) (c : Capability) → words ≡ word ∷ rest → word ≡ kind_name k →
+    HasText c → words ≡ capability_words c
     → capability_at k rest ≡ Some (c, [])
 arguments_are words rest word k c split is has whole = grind (arith, nat_tests, capability_again, kind_for, some_is, kind_at_name)
 
 pub capability_found : (words rest left : Words) (word : List ℕ) (k : Kind) (c : Capability) → words ≡ word ∷ rest → word ≡ kind_name k
     → capability_at k rest ≡ Some (c, left) → left ≡ [] → HasText c × (words ≡ capability_words c)
 capability_found words rest left word k c split is read none =
-    let taken = capability_takes k rest (c, left) read in
-    (taken.0, split ∙ ap (λ (w : List ℕ). w ∷ rest) is ∙ taken.1 ∙ ap (λ (w : Words). capability_words c ++ w) none ∙ append-nil (capability_words c))
+    let taken = capability_takes k rest (c, left) read in (
+      taken.0,
+      split ∙ ap (λ (w : List ℕ). w ∷ rest) is ∙ taken.1 ∙ ap (λ (w : Words). capability_words c ++ w) none
+          ∙ append-nil (capability_words c),
+    )
 
 pub no_words : (c : Capability) → HasText c → [] ≢ capability_words c
 no_words c has e = let again = capability_again c has in absurd (cc (again.1))
 
-pub no_kind : (words rest : Words) (word : List ℕ) → words ≡ word ∷ rest → ((k : Kind) → word ≢ kind_name k) → (c : Capability) → HasText c →
-    words ≢ capability_words c
+pub no_kind : (words rest : Words) (word : List ℕ) → words ≡ word ∷ rest → ((k : Kind) → word ≢ kind_name k) → (c : Capability) →
+    HasText c → words ≢ capability_words c
 no_kind words rest word split none c has whole = grind (arith, nat_tests, capability_again, kind_for)
 
 pub no_arguments : (words rest : Words) (word : List ℕ) (k : Kind) → words ≡ word ∷ rest → word ≡ kind_name k → capability_at k rest ≡ None

@@ -57,7 +57,8 @@ register_again n rest small = rw (number_again n rest (omega arith), lt-ltb n 32
 
 -- four numbers, one after the other
 abbrev four_at : (Words → Option (ℕ × Words)) → Words → Option (List ℕ × Words)
-four_at read words = read words >>= (λ (a : ℕ × Words). read a.1 >>= (λ (b : ℕ × Words). read b.1 >>= (λ (c : ℕ × Words). read c.1 >>= (λ (d : ℕ × Words).
+four_at read words = read words >>= (λ (a : ℕ × Words). read a.1 >>= (λ (b : ℕ × Words). read b.1 >>=
+    (λ (c : ℕ × Words). read c.1 >>= (λ (d : ℕ × Words).
     Some (a.0 ∷ b.0 ∷ c.0 ∷ d.0 ∷ [], d.1)))))
 
 abbrev ReadsAgain : (Words → Option (ℕ × Words)) → ℕ → Type 0
@@ -83,8 +84,9 @@ all_four limit a b c d pa pb pc pd is e lt = grind (arith, nat_tests)
 pub some_is : {A : Type 0} (x y : A) → Some x ≡ Some y → x ≡ y
 some_is x y e = cc
 
-four_end : (read : Words → Option (ℕ × Words)) (limit : ℕ) → TakesOne read limit → (words : Words) (a b c d : ℕ × Words) (p : List ℕ × Words)
-    → read words ≡ Some a → read a.1 ≡ Some b → read b.1 ≡ Some c → read c.1 ≡ Some d → Some (a.0 ∷ b.0 ∷ c.0 ∷ d.0 ∷ [], d.1) ≡ Some p
+four_end : (read : Words → Option (ℕ × Words)) (limit : ℕ) → TakesOne read limit →
+    (words : Words) (a b c d : ℕ × Words) (p : List ℕ × Words) → read words ≡ Some a → read a.1 ≡ Some b → read b.1 ≡ Some c →
+    read c.1 ≡ Some d → Some (a.0 ∷ b.0 ∷ c.0 ∷ d.0 ∷ [], d.1) ≡ Some p
     → (length p.0 ≡ 4) × All (λ n. n < limit) p.0 × (words ≡ map decimal p.0 ++ p.1)
 four_end read limit takes words a b c d p one two three four is =
     let ta = takes words a one in
@@ -94,11 +96,12 @@ four_end read limit takes words a b c d p one two three four is =
     subst (λ (q : List ℕ × Words). (length q.0 ≡ 4) × All (λ n. n < limit) q.0 × (words ≡ map decimal q.0 ++ q.1)) (some_is _ _ is) (
       refl,
       all_four limit a.0 b.0 c.0 d.0 ta.0 tb.0 tc.0 td.0,
-      ta.1 ∙ ap (λ (w : Words). decimal a.0 ∷ w) (tb.1 ∙ ap (λ (w : Words). decimal b.0 ∷ w) (tc.1 ∙ ap (λ (w : Words). decimal c.0 ∷ w) td.1)),
+      ta.1 ∙ ap (λ (w : Words). decimal a.0 ∷ w) (tb.1 ∙ ap (λ (w : Words). decimal b.0 ∷ w)
+          (tc.1 ∙ ap (λ (w : Words). decimal c.0 ∷ w) td.1)),
     )
 
-four_takes : (read : Words → Option (ℕ × Words)) (limit : ℕ) → TakesOne read limit → (words : Words) (p : List ℕ × Words) → four_at read words ≡ Some p
-    → (length p.0 ≡ 4) × All (λ n. n < limit) p.0 × (words ≡ map decimal p.0 ++ p.1)
+four_takes : (read : Words → Option (ℕ × Words)) (limit : ℕ) → TakesOne read limit → (words : Words) (p : List ℕ × Words) →
+    four_at read words ≡ Some p → (length p.0 ≡ 4) × All (λ n. n < limit) p.0 × (words ≡ map decimal p.0 ++ p.1)
 four_takes read limit takes words p e =
     let one = bind_some (read words) _ p e in
     let two = bind_some (read one.0.1) _ p one.2 in
@@ -112,7 +115,8 @@ number_takes [] p e = absurd cc
 number_takes (word ∷ words) p e =
     let b = bind_some (number_in word) (λ (n : ℕ). Some (n, words)) p e in
     let f = number_in_some word b.0 b.1 in
-    subst (λ (q : ℕ × Words). (q.0 < 2 ^ 64) × (word ∷ words ≡ decimal q.0 ∷ q.1)) (some_is _ _ b.2) (f.0, ap (λ (w : List ℕ). w ∷ words) f.1)
+    subst (λ (q : ℕ × Words). (q.0 < 2 ^ 64) × (word ∷ words ≡ decimal q.0 ∷ q.1)) (some_is _ _ b.2)
+    (f.0, ap (λ (w : List ℕ). w ∷ words) f.1)
 
 register_takes : TakesOne register_at 32
 unfolding register_at
@@ -149,7 +153,12 @@ command_again (command.Invoke i) fits =
         sent,
       ) refl,
     )
-command_again (command.Load p a) fits = (decimal p ∷ decimal a ∷ [], refl, rw (number_again p (decimal a ∷ []) fits.0, number_again a [] fits.1) refl)
+command_again (command.Load p a) fits = (
+  decimal p ∷ decimal a ∷ [],
+  refl,
+  rw
+      (number_again p (decimal a ∷ []) fits.0, number_again a [] fits.1) refl,
+)
 command_again (command.Store p a v) fits = (
   decimal p ∷ decimal a ∷ decimal v ∷ [],
   refl,
@@ -164,8 +173,9 @@ command_again c fits = ([], refl, refl)
 
 -- ---- the words of what was read
 
-pub one_takes : {A : Type 0} (make : ℕ → A) (words : Words) (p : A × Words) → (number_at words >>= (λ (n : ℕ × Words). Some (make n.0, n.1))) ≡ Some p
-    → (n : ℕ) × (n < 2 ^ 64) × (p.0 ≡ make n) × (words ≡ decimal n ∷ p.1)
+pub one_takes : {A : Type 0} (make : ℕ → A) (words : Words) (p : A × Words) →
+    (number_at words >>= (λ (n : ℕ × Words). Some (make n.0, n.1))) ≡ Some p →
+    (n : ℕ) × (n < 2 ^ 64) × (p.0 ≡ make n) × (words ≡ decimal n ∷ p.1)
 one_takes {A} make words p e =
     let b = bind_some (number_at words) (λ (n : ℕ × Words). Some (make n.0, n.1)) p e in
     let t = number_takes words b.0 b.1 in
@@ -175,8 +185,9 @@ one_takes {A} make words p e =
 abbrev IsReadFrom : Keyword → Words → Command × Words → Type 0
 IsReadFrom k words p = Fits p.0 × (keyword_name k ∷ words ≡ command_words p.0 ++ p.1)
 
-invocation_words : (name process register : List ℕ) (sent_words sent words one two three four : Words) → words ≡ process ∷ one → one ≡ register ∷ two
-    → two ≡ sent_words ++ three → three ≡ sent ++ four → name ∷ words ≡ name ∷ process ∷ register ∷ ((sent_words ++ sent) ++ four)
+invocation_words : (name process register : List ℕ) (sent_words sent words one two three four : Words) → words ≡ process ∷ one →
+    one ≡ register ∷ two → two ≡ sent_words ++ three → three ≡ sent ++ four →
+    name ∷ words ≡ name ∷ process ∷ register ∷ ((sent_words ++ sent) ++ four)
 invocation_words name process register sent_words sent words one two three four a b c d = grind (arith, nat_tests, append_assoc)
 
 invocation_end : (o : Operation) (words : Words) (a b : ℕ × Words) (c d : List ℕ × Words) (p : Command × Words)
@@ -191,7 +202,8 @@ invocation_end o words a b c d p one two three four is =
     let td = four_takes register_at 32 register_takes c.1 d four in
     grind (arith, nat_tests, some_is, invocation_words)
 
-invocation_takes : (o : Operation) (words : Words) (p : Command × Words) → invocation_at o words ≡ Some p → IsReadFrom (keyword.Invoke o) words p
+invocation_takes : (o : Operation) (words : Words) (p : Command × Words) → invocation_at o words ≡ Some p →
+    IsReadFrom (keyword.Invoke o) words p
 unfolding invocation_at numbers_at registers_at
 invocation_takes o words p e =
     let one = bind_some (number_at words) _ p e in
@@ -200,8 +212,8 @@ invocation_takes o words p e =
     let four = bind_some (four_at register_at three.0.1) _ p three.2 in
     invocation_end o words one.0 two.0 three.0 four.0 p one.1 two.1 three.1 four.1 four.2
 
-one_read : (k : Keyword) (words : Words) (p : Command × Words) (c : Command) → p.0 ≡ c → Fits c → keyword_name k ∷ words ≡ command_words c ++ p.1 →
-    IsReadFrom k words p
+one_read : (k : Keyword) (words : Words) (p : Command × Words) (c : Command) → p.0 ≡ c → Fits c →
+    keyword_name k ∷ words ≡ command_words c ++ p.1 → IsReadFrom k words p
 one_read k words p c is fits whole = rw is (fits, whole)
 
 arguments_takes : (k : Keyword) (words : Words) (p : Command × Words) → arguments_at k words ≡ Some p → IsReadFrom k words p
@@ -243,15 +255,20 @@ arguments_are words rest word k c split named fits whole = grind (arith, nat_tes
 pub command_found : (words rest left : Words) (word : List ℕ) (k : Keyword) (c : Command) → words ≡ word ∷ rest → word ≡ keyword_name k
     → arguments_at k rest ≡ Some (c, left) → left ≡ [] → Fits c × (words ≡ command_words c)
 command_found words rest left word k c split named read none =
-    let taken = arguments_takes k rest (c, left) read in
-    (taken.0, split ∙ ap (λ (w : List ℕ). w ∷ rest) named ∙ taken.1 ∙ ap (λ (w : Words). command_words c ++ w) none ∙ append-nil (command_words c))
+    let taken = arguments_takes k rest (c, left) read in (
+      taken.0,
+      split ∙ ap (λ (w : List ℕ). w ∷ rest) named ∙ taken.1 ∙ ap (λ (w : Words). command_words c ++ w) none
+          ∙ append-nil (command_words c),
+    )
 
-pub no_keyword : (words : Words) (c : Command) → Fits c → ((k : Keyword) (rest : Words) → words ≢ keyword_name k ∷ rest) → words ≢ command_words c
+pub no_keyword : (words : Words) (c : Command) → Fits c → ((k : Keyword) (rest : Words) → words ≢ keyword_name k ∷ rest) →
+    words ≢ command_words c
 no_keyword words c fits none whole = let again = command_again c fits in none (keyword_for c) again.0 (whole ∙ again.1)
 
-pub no_arguments : (words rest : Words) (word : List ℕ) (k : Keyword) → words ≡ word ∷ rest → word ≡ keyword_name k → arguments_at k rest ≡ None
-    → (c : Command) → Fits c → words ≢ command_words c
-no_arguments words rest word k split named none c fits whole = let read = arguments_are words rest word k c split named fits whole in absurd cc
+pub no_arguments : (words rest : Words) (word : List ℕ) (k : Keyword) → words ≡ word ∷ rest → word ≡ keyword_name k →
+    arguments_at k rest ≡ None → (c : Command) → Fits c → words ≢ command_words c
+no_arguments words rest word k split named none c fits whole = let read = arguments_are words rest word k c split named fits whole in
+    absurd cc
 
 pub words_left_over : (words rest left : Words) (word : List ℕ) (k : Keyword) (d : Command) → words ≡ word ∷ rest → word ≡ keyword_name k →
     arguments_at k rest ≡ Some (d, left)

@@ -14,23 +14,35 @@ module _ (word : List ℕ) (more : ℕ) (line : List ℕ) (begins : BeginsWith w
 
 -- the first bytes of a line that names an operation
 abbrev pub HasName : Operation → List ℕ → Type 0
-HasName Call line = (get_or line 0 0 ≡ 99) × (get_or line 1 0 ≡ 97) × (get_or line 2 0 ≡ 108) × (get_or line 3 0 ≡ 108) × (get_or line 4 0 ≡ 32)
-HasName Return line = (25 < length line) × (get_or line 0 0 ≡ 114) × (get_or line 1 0 ≡ 101) × (get_or line 2 0 ≡ 116) × (get_or line 3 0 ≡ 117)
+HasName Call line = (get_or line 0 0 ≡ 99) × (get_or line 1 0 ≡ 97) × (get_or line 2 0 ≡ 108) × (get_or line 3 0 ≡ 108)
+    × (get_or line 4 0 ≡ 32)
+HasName Return line = (25 < length line) × (get_or line 0 0 ≡ 114) × (get_or line 1 0 ≡ 101) × (get_or line 2 0 ≡ 116)
+    × (get_or line 3 0 ≡ 117)
     × (get_or line 4 0 ≡ 114) × (get_or line 5 0 ≡ 110) × (get_or line 6 0 ≡ 32)
-HasName Send line = (get_or line 0 0 ≡ 115) × (get_or line 1 0 ≡ 101) × (get_or line 2 0 ≡ 110) × (get_or line 3 0 ≡ 100) × (get_or line 4 0 ≡ 32)
+HasName Send line = (get_or line 0 0 ≡ 115) × (get_or line 1 0 ≡ 101) × (get_or line 2 0 ≡ 110) × (get_or line 3 0 ≡ 100)
+    × (get_or line 4 0 ≡ 32)
 
 pub load_bytes : (line : List ℕ) → BeginsWith (codes "load") 3 line →
-    (get_or line 0 0 ≡ 108) × (get_or line 1 0 ≡ 111) × (get_or line 2 0 ≡ 97) × (get_or line 3 0 ≡ 100) × (get_or line 4 0 ≡ 32) × (7 < length line)
+    (get_or line 0 0 ≡ 108) × (get_or line 1 0 ≡ 111) × (get_or line 2 0 ≡ 97) × (get_or line 3 0 ≡ 100) × (get_or line 4 0 ≡ 32)
+    × (7 < length line)
 load_bytes line begins =
     let at = byte_is (codes "load") 3 line begins in
     (at 0 (omega arith), at 1 (omega arith), at 2 (omega arith), at 3 (omega arith), at 4 (omega arith), omega (arith, begins.room))
 
 pub store_bytes : (line : List ℕ) → BeginsWith (codes "store") 5 line →
-    (get_or line 0 0 ≡ 115) × (get_or line 1 0 ≡ 116) × (get_or line 2 0 ≡ 111) × (get_or line 3 0 ≡ 114) × (get_or line 4 0 ≡ 101) × (get_or line 5 0 ≡ 32)
+    (get_or line 0 0 ≡ 115) × (get_or line 1 0 ≡ 116) × (get_or line 2 0 ≡ 111) × (get_or line 3 0 ≡ 114) × (get_or line 4 0 ≡ 101)
+    × (get_or line 5 0 ≡ 32)
     × (10 < length line)
 store_bytes line begins =
-    let at = byte_is (codes "store") 5 line begins in
-    (at 0 (omega arith), at 1 (omega arith), at 2 (omega arith), at 3 (omega arith), at 4 (omega arith), at 5 (omega arith), omega (arith, begins.room))
+    let at = byte_is (codes "store") 5 line begins in (
+      at 0 (omega arith),
+      at 1 (omega arith),
+      at 2 (omega arith),
+      at 3 (omega arith),
+      at 4 (omega arith),
+      at 5 (omega arith),
+      omega (arith, begins.room),
+    )
 
 -- a line that names an operation is as long
 pub operation_bytes : (line : List ℕ) (o : Operation) → BeginsWith (operation_name o) 19 line → (23 < length line) × HasName o line
@@ -39,8 +51,19 @@ operation_bytes line Call begins =
     (omega (arith, begins.room), (at 0 (omega arith), at 1 (omega arith), at 2 (omega arith), at 3 (omega arith), at 4 (omega arith)))
 operation_bytes line Return begins =
     let at = byte_is (codes "return") 19 line begins in
-    let long : 25 < length line = omega (arith, begins.room) in
-    (omega (arith, long), (long, at 0 (omega arith), at 1 (omega arith), at 2 (omega arith), at 3 (omega arith), at 4 (omega arith), at 5 (omega arith), at 6 (omega arith)))
+    let long : 25 < length line = omega (arith, begins.room) in (
+      omega (arith, long),
+      (
+        long,
+        at 0 (omega arith),
+        at 1 (omega arith),
+        at 2 (omega arith),
+        at 3 (omega arith),
+        at 4 (omega arith),
+        at 5 (omega arith),
+        at 6 (omega arith),
+      ),
+    )
 operation_bytes line Send begins =
     let at = byte_is (codes "send") 19 line begins in
     (omega (arith, begins.room), (at 0 (omega arith), at 1 (omega arith), at 2 (omega arith), at 3 (omega arith), at 4 (omega arith)))
@@ -53,12 +76,16 @@ moved : (word : List ℕ) (m n : ℕ) (a b : List ℕ) → m ≡ n → a ≡ b �
 moved word m n a b more same begins = subst (λ (l : List ℕ). BeginsWith word n l) same (subst (λ (k : ℕ). BeginsWith word k a) more begins)
 
 -- a line from which no such word is taken begins with none
-pub none_common : (rest line : List ℕ) (k : Keyword) (least : ℕ) → (BeginsWith (codes "load") 3 rest → ⊥) → (BeginsWith (codes "store") 5 rest → ⊥)
-    → ((o : Operation) → BeginsWith (operation_name o) 19 rest → ⊥) → words_of rest ≡ words_of line → IsCommon k least
+pub none_common : (rest line : List ℕ) (k : Keyword) (least : ℕ) → (BeginsWith (codes "load") 3 rest → ⊥) →
+    (BeginsWith (codes "store") 5 rest → ⊥) → ((o : Operation) → BeginsWith (operation_name o) 19 rest → ⊥) →
+    words_of rest ≡ words_of line → IsCommon k least
     → BeginsWith (keyword_name k) least line → ⊥
-none_common rest line (keyword.Invoke o) least load store order same common begins = order o (moved (operation_name o) least 19 line rest common (one_line line rest (sym same)) begins)
-none_common rest line keyword.Load least load store order same common begins = load (moved (codes "load") least 3 line rest common (one_line line rest (sym same)) begins)
-none_common rest line keyword.Store least load store order same common begins = store (moved (codes "store") least 5 line rest common (one_line line rest (sym same)) begins)
+none_common rest line (keyword.Invoke o) least load store order same common begins =
+    order o (moved (operation_name o) least 19 line rest common (one_line line rest (sym same)) begins)
+none_common rest line keyword.Load least load store order same common begins =
+    load (moved (codes "load") least 3 line rest common (one_line line rest (sym same)) begins)
+none_common rest line keyword.Store least load store order same common begins =
+    store (moved (codes "store") least 5 line rest common (one_line line rest (sym same)) begins)
 none_common rest line keyword.Show least load store order same common begins = absurd common
 none_common rest line keyword.Evict least load store order same common begins = absurd common
 none_common rest line keyword.Checkpoint least load store order same common begins = absurd common
@@ -70,9 +97,11 @@ none_common rest line keyword.Restart least load store order same common begins 
 none_common rest line keyword.Cut least load store order same common begins = absurd common
 
 -- from the words that are left of a line, where there are some
-pub none_taken : {A : Type 0} (result : Option A) (words : List (List ℕ)) (rest : List ℕ) → words ≡ words_of rest → (BeginsWith (codes "load") 3 rest → ⊥)
-    → (BeginsWith (codes "store") 5 rest → ⊥) → ((o : Operation) → BeginsWith (operation_name o) 19 rest → ⊥)
-    → IfNone result ((line : List ℕ) (k : Keyword) (least : ℕ) → words ≡ words_of line → IsCommon k least → BeginsWith (keyword_name k) least line → ⊥)
+pub none_taken : {A : Type 0} (result : Option A) (words : List (List ℕ)) (rest : List ℕ) → words ≡ words_of rest →
+    (BeginsWith (codes "load") 3 rest → ⊥) → (BeginsWith (codes "store") 5 rest → ⊥) →
+    ((o : Operation) → BeginsWith (operation_name o) 19 rest → ⊥)
+    → IfNone result ((line : List ℕ) (k : Keyword) (least : ℕ) → words ≡ words_of line → IsCommon k least →
+    BeginsWith (keyword_name k) least line → ⊥)
 none_taken (Some x) words rest is load store order = tt
 none_taken None words rest is load store order = λ line k least same common begins.
     none_common rest line k least load store order (sym is ∙ same) common begins

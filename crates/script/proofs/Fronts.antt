@@ -37,7 +37,11 @@ writes_after a b c (Err e) first second h w = (w.0, second_front a b c first sec
 -- a step failed that began the second text, and a third was to follow
 pub writes_fail : (a b c : Written) (e : RunFault) (first second third text : List ℕ) → text ≡ (first ++ second) ++ third
     → Wrote a b first → Writes b c (Err e) second → Writes a c (Err e) text
-writes_fail a b c e first second third text is h w = (w.0, subst (WroteFront a c) (sym is) (first_front a c _ third (second_front a b c first _ h w.1)))
+writes_fail a b c e first second third text is h w = (
+  w.0,
+  subst (WroteFront a c) (sym is)
+      (first_front a c _ third (second_front a b c first _ h w.1)),
+)
 
 -- the first text failed
 pub text_fails : (a b : Written) (e : RunFault) (first second text : List ℕ) → text ≡ first ++ second → Writes a b (Err e) first →
@@ -47,7 +51,11 @@ text_fails a b e first second text is w = (w.0, subst (WroteFront a b) (sym is) 
 -- the first line failed
 pub line_fails : (a b : Written) (e : RunFault) (line spelled second text : List ℕ) → line ≡ spelled → text ≡ line_of spelled ++ second
     → Writes a b (Err e) (line_of line) → Writes a b (Err e) text
-line_fails a b e line spelled second text same is w = (w.0, rw (← ap (λ (t : List ℕ). line_of t ++ second) same ∙ sym is) (first_front a b _ _ w.1))
+line_fails a b e line spelled second text same is w = (
+  w.0,
+  rw (← ap (λ (t : List ℕ). line_of t ++ second) same ∙ sym is)
+      (first_front a b _ _ w.1),
+)
 
 -- the first line was written, and then the second text or a beginning of it
 pub line_and : (a b c : Written) (r : Result (Unit {0}) RunFault) (line spelled second text : List ℕ) → line ≡ spelled →
@@ -55,7 +63,8 @@ pub line_and : (a b c : Written) (r : Result (Unit {0}) RunFault) (line spelled 
     → Wrote a b (line_of line) → Writes b c r second → Writes a c r text
 line_and a b c r line spelled second text same is h w = grind (arith, nat_tests, writes_after)
 
-pub writes_same : (a b : Written) (r : Result (Unit {0}) RunFault) (text other : List ℕ) → text ≡ other → Writes a b r text → Writes a b r other
+pub writes_same : (a b : Written) (r : Result (Unit {0}) RunFault) (text other : List ℕ) → text ≡ other → Writes a b r text →
+    Writes a b r other
 writes_same a b r text other same w = subst (Writes a b r) same w
 
 -- a call failed after the first n bytes were taken
@@ -71,7 +80,8 @@ taken_all a b bytes n all h = subst (Appends a b) (take_all n bytes (omega arith
 pub rest_written : (a b c : Written) (r : Result (Unit {0}) RunFault) (bytes : List ℕ) (n : ℕ) → Wrote a b (take n bytes)
     → Writes b c r (take (length bytes - n) (drop n bytes)) → Writes a c r bytes
 rest_written a b c r bytes n h w =
-    let whole : take (length bytes - n) (drop n bytes) ≡ drop n bytes = take_all (length bytes - n) (drop n bytes) (omega (arith, length-drop n bytes)) in
+    let whole : take (length bytes - n) (drop n bytes) ≡ drop n bytes = take_all (length bytes - n) (drop n bytes)
+    (omega (arith, length-drop n bytes)) in
     subst (Writes a c r) (take-append-drop n bytes) (writes_after a b c r (take n bytes) (drop n bytes) h (subst (Writes b c r) whole w))
 
 -- some was written, and no call failed

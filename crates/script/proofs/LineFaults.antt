@@ -13,8 +13,8 @@ use Rattle.script.proofs.Numbers.{digits_are_decimal}
 
 -- ---- a word
 
-pub too_great : (word : List ℕ) → ((n : ℕ) → n < 2 ^ 64 → word ≢ decimal n) → AllDigits 10 word → 0 < length word → (get_or word 0 0 ≡ 48 → length word ≡ 1) →
-    2 ^ 64 ≤ digits_value 10 word
+pub too_great : (word : List ℕ) → ((n : ℕ) → n < 2 ^ 64 → word ≢ decimal n) → AllDigits 10 word → 0 < length word →
+    (get_or word 0 0 ≡ 48 → length word ≡ 1) → 2 ^ 64 ≤ digits_value 10 word
 too_great word none digits some first = grind (arith, nat_tests, digits_are_decimal)
 
 -- a zero that isn't alone
@@ -24,22 +24,23 @@ zero_longer (b ∷ []) none some first = absurd (none 0 (omega arith) (ap (λ (x
 zero_longer (b ∷ c ∷ bs) none some first = omega arith
 
 -- one digit more, or a byte that is none
-pub digits_on : (ds : List ℕ) (i : ℕ) → i < length ds → AllDigits 10 (take i ds) → IsInRange 48 57 (get_or ds i 0) → AllDigits 10 (take (i + 1) ds)
+pub digits_on : (ds : List ℕ) (i : ℕ) → i < length ds → AllDigits 10 (take i ds) → IsInRange 48 57 (get_or ds i 0) →
+    AllDigits 10 (take (i + 1) ds)
 digits_on ds i lt so_far digit = digits_more 10 ds i lt so_far (omega (arith, digit_value_digit (get_or ds i 0) digit, digit.1))
 
 pub no_number : (old rest : Words) (word : List ℕ) → old ≡ word ∷ rest → number_at old ≡ None → (n : ℕ) → n < 2 ^ 64 → word ≢ decimal n
 no_number old rest word is none n small spelt = grind (arith, nat_tests, number_again)
 
 -- a number that is too great for its place stands where a register has to
-pub register_fault : (is_register : Bool) (old left : Words) (n most : ℕ) → number_at old ≡ Some (n, left) → most + 1 ≡ (if is_register then 32 else 2 ^ 64) →
-    most < n →
+pub register_fault : (is_register : Bool) (old left : Words) (n most : ℕ) → number_at old ≡ Some (n, left) →
+    most + 1 ≡ (if is_register then 32 else 2 ^ 64) → most < n →
     (place : ℕ) → (word : List ℕ) × (rest : Words) × (old ≡ word ∷ rest) × IsWordFault word place is_register (fault.NoRegister n)
 register_fault true old left n most read is great place = let t = number_takes old (n, left) read in
     (decimal n, left, t.1, (refl, refl, omega (arith, is, great)))
 register_fault false old left n most read is great place = let t = number_takes old (n, left) read in absurd (omega (arith, is, great, t.0))
 
-pub operand_here : (is_register : Bool) (old left : Words) (n most : ℕ) → number_at old ≡ Some (n, left) → most + 1 ≡ (if is_register then 32 else 2 ^ 64) →
-    n ≤ most →
+pub operand_here : (is_register : Bool) (old left : Words) (n most : ℕ) → number_at old ≡ Some (n, left) →
+    most + 1 ≡ (if is_register then 32 else 2 ^ 64) → n ≤ most →
     (word : List ℕ) × (old ≡ word ∷ left) × IsOperand is_register word
 operand_here is_register old left n most read is small =
     let t = number_takes old (n, left) read in
@@ -56,13 +57,18 @@ empty_list word none = grind (arith, nat_tests, nil_from_length)
 -- ---- words, one after another
 
 abbrev pub Taken : List Bool → Words → ℕ → Words → Type 0
-Taken registers all count left = (before : Words) × (all ≡ before ++ left) × (length before ≡ count) × AreOperands (take count registers) before
+Taken registers all count left = (before : Words) × (all ≡ before ++ left) × (length before ≡ count)
+    × AreOperands (take count registers) before
 
 operands_more : (registers : List Bool) (before : Words) (count : ℕ) (word : List ℕ) → count < length registers → length before ≡ count →
     AreOperands (take count registers) before →
     IsOperand (get_or registers count false) word → AreOperands (take (suc count) registers) (before ++ word ∷ [])
 operands_more (r ∷ rs) [] zero word lt long are is = (is, tt)
-operands_more (r ∷ rs) (w ∷ ws) (suc count) word lt long are is = (are.0, operands_more rs ws count word (omega (arith, lt)) (omega (arith, long)) are.1 is)
+operands_more (r ∷ rs) (w ∷ ws) (suc count) word lt long are is = (
+  are.0,
+  operands_more rs ws count word (omega (arith, lt))
+      (omega (arith, long)) are.1 is,
+)
 operands_more registers before count word lt long are is = absurd (grind (arith, nat_tests))
 
 pub one_taken : (registers : List Bool) (all : Words) (count : ℕ) (left next : Words) (word : List ℕ) → count < length registers →
@@ -97,15 +103,16 @@ at_length : {A : Type 0} (before : List A) (x : A) (after : List A) → slice_ge
 at_length [] x after = refl
 at_length (b ∷ bs) x after = at_length bs x after
 
-register_at : (registers : List Bool) (count : ℕ) → count < length registers → get_or registers count false ≡ true → slice_get registers count ≡ Some true
+register_at : (registers : List Bool) (count : ℕ) → count < length registers → get_or registers count false ≡ true →
+    slice_get registers count ≡ Some true
 register_at [] count lt is = absurd (omega (arith, lt))
 register_at (r ∷ rs) zero lt is = ap Some is
 register_at (r ∷ rs) (suc count) lt is = register_at rs count (omega (arith, lt)) is
 
-pub word_is_fault : (k : Keyword) (all left rest : Words) (count place : ℕ) (word : List ℕ) (why : LineFault) → count < length (are_registers k) →
-    Taken (are_registers k) all count left →
-    left ≡ word ∷ rest → place ≡ count + 2 → IsWordFault word place (get_or (are_registers k) count false) why → (line : List ℕ) → Names line k all →
-    IsFaultOf line why
+pub word_is_fault : (k : Keyword) (all left rest : Words) (count place : ℕ) (word : List ℕ) (why : LineFault) →
+    count < length (are_registers k) → Taken (are_registers k) all count left →
+    left ≡ word ∷ rest → place ≡ count + 2 → IsWordFault word place (get_or (are_registers k) count false) why → (line : List ℕ) →
+    Names line k all → IsFaultOf line why
 word_is_fault k all left rest count place word why lt taken is at faulty line names = go why faulty where
   split : all ≡ taken.0 ++ word ∷ rest
   split = taken.1 ∙ ap (λ (l : Words). taken.0 ++ l) is
@@ -114,7 +121,8 @@ word_is_fault k all left rest count place word why lt taken is at faulty line na
   here = has_word line k taken.0 rest word place (names ∙ ap (λ (l : Words). keyword_name k ∷ l) split) (omega (arith, at, taken.2))
 
   found : slice_get all count ≡ Some word
-  found = ap (λ (l : Words). slice_get l count) split ∙ subst (λ (i : ℕ). slice_get (taken.0 ++ word ∷ rest) i ≡ Some word) taken.2 (at_length taken.0 word rest)
+  found = ap (λ (l : Words). slice_get l count) split ∙ subst (λ (i : ℕ). slice_get (taken.0 ++ word ∷ rest) i ≡ Some word) taken.2
+      (at_length taken.0 word rest)
 
   operand : (p : ℕ) → p ≡ place → HasOperand line p word
   operand p same = (k, all, names, count, same ∙ at, lt, found)
@@ -136,7 +144,8 @@ word_is_fault k all left rest count place word why lt taken is at faulty line na
   go other is = absurd is
 
 -- no word is wanting
-module _ (k : Keyword) (all left : Words) (count : ℕ) (end : length (are_registers k) ≤ count) (taken : Taken (are_registers k) all count left) where
+module _ (k : Keyword) (all left : Words) (count : ℕ) (end : length (are_registers k) ≤ count)
+    (taken : Taken (are_registers k) all count left) where
   operands : AreOperands (are_registers k) taken.0
   operands = subst (λ (rs : List Bool). AreOperands rs taken.0) (take_all count (are_registers k) end) taken.3
 
@@ -144,20 +153,24 @@ module _ (k : Keyword) (all left : Words) (count : ℕ) (end : length (are_regis
       (line : List ℕ) → Names line k all → IsFaultOf line (fault.EmptyWord place)
   empty_word word rest place is at none line names =
       let split : all ≡ taken.0 ++ word ∷ rest = taken.1 ∙ ap (λ (l : Words). taken.0 ++ l) is in
-      rw (← none) (has_word line k _ rest word place (names ∙ ap (λ (l : Words). keyword_name k ∷ l) split) (omega (arith, at, operands_length _ _ operands)))
+      rw (← none) (has_word line k _ rest word place (names ∙ ap (λ (l : Words). keyword_name k ∷ l) split)
+      (omega (arith, at, operands_length _ _ operands)))
 
 -- the same of a table
-module _ (registers : List Bool) (k : Keyword) (same : registers ≡ are_registers k) (all left : Words) (count : ℕ) (taken : Taken registers all count left)
+module _ (registers : List Bool) (k : Keyword) (same : registers ≡ are_registers k) (all left : Words) (count : ℕ)
+    (taken : Taken registers all count left)
   where
     taken_of : Taken (are_registers k) all count left
     taken_of = subst (λ (rs : List Bool). Taken rs all count left) same taken
 
-    pub fault_in_table : (rest : Words) (place : ℕ) (word : List ℕ) (why : LineFault) → count < length registers → left ≡ word ∷ rest → place ≡ count + 2 →
-        IsWordFault word place (get_or registers count false) why → (line : List ℕ) → Names line k all → IsFaultOf line why
-    fault_in_table rest place word why lt is at faulty = word_is_fault k all left rest count place word why (rw (← same) lt) taken_of is at (rw (← same) faulty)
+    pub fault_in_table : (rest : Words) (place : ℕ) (word : List ℕ) (why : LineFault) → count < length registers → left ≡ word ∷ rest →
+        place ≡ count + 2 → IsWordFault word place (get_or registers count false) why → (line : List ℕ) → Names line k all →
+        IsFaultOf line why
+    fault_in_table rest place word why lt is at faulty = word_is_fault k all left rest count place word why (rw (← same) lt) taken_of is at
+        (rw (← same) faulty)
 
-    pub empty_behind_table : length registers ≤ count → (word : List ℕ) (rest : Words) (place : ℕ) → left ≡ word ∷ rest → place ≡ length registers + 1 + 1 →
-        (length word == 0) ≡ true →
+    pub empty_behind_table : length registers ≤ count → (word : List ℕ) (rest : Words) (place : ℕ) → left ≡ word ∷ rest →
+        place ≡ length registers + 1 + 1 → (length word == 0) ≡ true →
         (line : List ℕ) → Names line k all → IsFaultOf line (fault.EmptyWord place)
     empty_behind_table end word rest place is at none = empty_word k all left count (rw (← same) end) taken_of word rest place is
         (rw (← same) at) (empty_list word none)
@@ -172,7 +185,8 @@ none : (ws : Words) → AreOperands [] ws → ws ≡ []
 none ws are = grind (arith, nat_tests)
 
 four : (b : Bool) (bs : List Bool) (ws : Words) → AreOperands (b ∷ b ∷ b ∷ b ∷ bs) ws →
-    (ns : List ℕ) × (rest : Words) × (length ns ≡ 4) × All (λ n. n < (if b then 32 else 2 ^ 64)) ns × (ws ≡ map decimal ns ++ rest) × AreOperands bs rest
+    (ns : List ℕ) × (rest : Words) × (length ns ≡ 4) × All (λ n. n < (if b then 32 else 2 ^ 64)) ns × (ws ≡ map decimal ns ++ rest)
+    × AreOperands bs rest
 four b bs ws are =
     let p = first b (b ∷ b ∷ b ∷ bs) ws are in
     let q = first b (b ∷ b ∷ bs) p.1 p.4 in
@@ -189,8 +203,8 @@ four b bs ws are =
 abbrev Spells : Keyword → Words → Type 0
 Spells k ws = (c : Command) × Fits c × (command_words c ≡ keyword_name k ∷ ws)
 
-one_spells : (k : Keyword) (make : ℕ → Command) → ((n : ℕ) → n < 2 ^ 64 → Fits (make n)) → ((n : ℕ) → command_words (make n) ≡ keyword_name k ∷ decimal n ∷ [])
-    →
+one_spells : (k : Keyword) (make : ℕ → Command) → ((n : ℕ) → n < 2 ^ 64 → Fits (make n)) →
+    ((n : ℕ) → command_words (make n) ≡ keyword_name k ∷ decimal n ∷ []) →
     (ws : Words) → AreOperands (false ∷ []) ws → Spells k ws
 one_spells k make fits words ws are = grind (arith, nat_tests)
 
@@ -210,7 +224,8 @@ spells keyword.Load ws are =
     let a = first false [] p.1 p.4 in (
       command.Load p.0 a.0,
       (p.2, a.2),
-      ap (λ (w : Words). codes "load" ∷ w) (sym (p.3 ∙ ap (λ (w : Words). decimal p.0 ∷ w) (a.3 ∙ ap (λ (w : Words). decimal a.0 ∷ w) (none a.1 a.4)))),
+      ap (λ (w : Words). codes "load" ∷ w) (sym (p.3 ∙ ap (λ (w : Words). decimal p.0 ∷ w)
+          (a.3 ∙ ap (λ (w : Words). decimal a.0 ∷ w) (none a.1 a.4)))),
     )
 spells keyword.Store ws are =
     let p = first false (false ∷ false ∷ []) ws are in
@@ -230,5 +245,6 @@ spells keyword.Commit ws are = (command.Commit, tt, ap (λ (w : Words). codes "c
 spells keyword.Restart ws are = (command.Restart, tt, ap (λ (w : Words). codes "restart" ∷ w) (sym (none ws are)))
 spells keyword.Cut ws are = (command.Cut, tt, ap (λ (w : Words). codes "cut" ∷ w) (sym (none ws are)))
 
-pub not_bad : (text : List ℕ) (k : Keyword) (ws : Words) → Names text k ws → AreOperands (are_registers k) ws → length text ≤ 256 → Says text line.Bad → ⊥
+pub not_bad : (text : List ℕ) (k : Keyword) (ws : Words) → Names text k ws → AreOperands (are_registers k) ws → length text ≤ 256 →
+    Says text line.Bad → ⊥
 not_bad text k ws names are short bad = grind (arith, nat_tests, spells, spelling_from_words)

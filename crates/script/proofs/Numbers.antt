@@ -23,8 +23,8 @@ pub digits_are_decimal : (word : List ℕ) → AllDigits 10 word → 0 < length 
 digits_are_decimal word digits some first small = sym (decimal-digits_value own word digits some first small)
 
 -- one digit more
-pub value_more : (digits : List ℕ) (i value : ℕ) → i < length digits → AllDigits 10 (take i digits) → value ≡ digits_value 10 (take i digits)
-    → IsInRange 48 57 (get_or digits i 0)
+pub value_more : (digits : List ℕ) (i value : ℕ) → i < length digits → AllDigits 10 (take i digits) →
+    value ≡ digits_value 10 (take i digits) → IsInRange 48 57 (get_or digits i 0)
     → AllDigits 10 (take (i + 1) digits) × (value * 10 + (get_or digits i 0 - 48) ≡ digits_value 10 (take (i + 1) digits))
 value_more digits i value lt so_far is digit = grind (arith, nat_tests, digit_value_digit, digits_more, digits_value_more)
 
@@ -32,7 +32,13 @@ value_more digits i value lt so_far is digit = grind (arith, nat_tests, digit_va
 pub value_great : (digits : List ℕ) (i value : ℕ) → i < length digits → value ≡ digits_value 10 (take i digits)
     → IsInRange 48 57 (get_or digits i 0) → (value * 10 + (get_or digits i 0 - 48) < 2 ^ 64 → ⊥) → 2 ^ 64 ≤ digits_value 10 digits
 value_great digits i value lt is digit great =
-    omega (arith, digits_value_more 10 digits i lt, digit_value_digit (get_or digits i 0) digit, digits_value-take-le 10 digits (i + 1) (omega arith), great)
+    omega (
+      arith,
+      digits_value_more 10 digits i lt,
+      digit_value_digit (get_or digits i 0) digit,
+      digits_value-take-le 10 digits (i + 1) (omega arith),
+      great,
+    )
 
 -- of the first word of a text
 pub word_great : (text : List ℕ) (i value : ℕ) → i < first_end text → value ≡ digits_value 10 (take i text)
@@ -40,7 +46,8 @@ pub word_great : (text : List ℕ) (i value : ℕ) → i < first_end text → va
 word_great text i value lt is digit great =
     let reads = word_reads text i lt in
     value_great (first_word text) i value reads.0 (is ∙ ap (λ (w : List ℕ). digits_value 10 w) (sym reads.2))
-    (subst (λ (d : ℕ). IsInRange 48 57 d) (sym reads.1) digit) (λ small. great (subst (λ (d : ℕ). value * 10 + (d - 48) < 2 ^ 64) reads.1 small))
+    (subst (λ (d : ℕ). IsInRange 48 57 d) (sym reads.1) digit) (λ small. great
+    (subst (λ (d : ℕ). value * 10 + (d - 48) < 2 ^ 64) reads.1 small))
 
 -- what the value of its digits says of a word with no leading zero
 pub number_found : (word : List ℕ) (r : Option ℕ) → 0 < length word → (get_or word 0 0 ≡ 48 → length word ≡ 1)

@@ -12,13 +12,14 @@ pub register_reads : (words left : Words) (n : ℕ) → number_at words ≡ Some
 unfolding register_at
 register_reads words left n reads small = rw (reads, lt-ltb n 32 small) refl
 
-pub last_register_reads : (words : Words) (n : ℕ) (r : Option ℕ) → number_at words ≡ Some (n, []) → IfSome r (λ x. x ≡ n) → (IsSome r → n < 32)
-    → IfSome r (λ x. register_at words ≡ Some (x, []))
+pub last_register_reads : (words : Words) (n : ℕ) (r : Option ℕ) → number_at words ≡ Some (n, []) → IfSome r (λ x. x ≡ n) →
+    (IsSome r → n < 32) → IfSome r (λ x. register_at words ≡ Some (x, []))
 last_register_reads words n r reads is small = grind (arith, nat_tests, register_reads)
 
 pub registers_read : (words one two three : Words) (first second third fourth : ℕ) → register_at words ≡ Some (first, one) →
     register_at one ≡ Some (second, two)
-    → register_at two ≡ Some (third, three) → register_at three ≡ Some (fourth, []) → registers_at words ≡ Some (first ∷ second ∷ third ∷ fourth ∷ [], [])
+    → register_at two ≡ Some (third, three) → register_at three ≡ Some (fourth, []) →
+    registers_at words ≡ Some (first ∷ second ∷ third ∷ fourth ∷ [], [])
 unfolding registers_at
 registers_read words one two three first second third fourth a b c d = rw (a, b, c, d) refl
 
@@ -65,13 +66,15 @@ pub void_read : (text : List ℕ) (at : ℕ) → length text ≡ at + 7 → ((i 
 void_read text at whole bytes begins ends =
     let a = void_begins _ _ _ _ (bytes at) (bytes (at + 1)) (bytes (at + 2)) (bytes (at + 3)) begins in
     let b = void_ends _ _ _ _ (bytes (at + 3)) (bytes (at + 3 + 1)) (bytes (at + 3 + 2)) (bytes (at + 3 + 3)) ends in
-    let moved : (i j d : ℕ) → i ≡ j → get_or text j 0 ≡ d → get_or text i 0 ≡ d = λ i j d same is. ap (λ (k : ℕ). get_or text k 0) same ∙ is in
+    let moved : (i j d : ℕ) → i ≡ j → get_or text j 0 ≡ d → get_or text i 0 ≡ d = λ i j d same is. ap (λ (k : ℕ). get_or text k 0) same
+    ∙ is in
     let first = one_digit text at 0 (omega (arith, whole)) ((omega (arith, a.0), omega (arith, a.0)), omega (arith, a.0)) a.1 in
     let third_space = moved (at + 2 + 1) (at + 3) 32 (omega arith) a.3 in
     let second = one_digit text _ 0 (omega (arith, whole)) ((omega (arith, a.2), omega (arith, a.2)), omega (arith, a.2)) third_space in
     let fifth = moved (at + 2 + 2) (at + 3 + 1) 48 (omega arith) b.1 in
     let fifth_space = moved (at + 2 + 2 + 1) (at + 3 + 2) 32 (omega arith) b.2 in
-    let third = one_digit text _ 0 (omega (arith, whole)) ((omega (arith, fifth), omega (arith, fifth)), omega (arith, fifth)) fifth_space in
+    let third = one_digit text _ 0 (omega (arith, whole)) ((omega (arith, fifth), omega (arith, fifth)), omega (arith, fifth)) fifth_space
+    in
     let seventh = moved (at + 2 + 2 + 2) (at + 3 + 3) 48 (omega arith) b.3 in
     let fourth = last_one text _ 0 (omega (arith, whole)) ((omega (arith, seventh), omega (arith, seventh)), omega (arith, seventh)) in
     registers_read _ _ _ _ 0 0 0 0 (register_reads _ _ 0 first (omega arith)) (register_reads _ _ 0 second (omega arith))
@@ -82,7 +85,8 @@ pub load_said : (line : List ℕ) (one two : Words) (process address : ℕ) → 
     → number_at one ≡ Some (process, two) → number_at two ≡ Some (address, [])
     → Fits (command.Load process address) × (words_of line ≡ command_words (command.Load process address))
 unfolding arguments_at
-load_said line one two process address named a b = command_found _ one [] (keyword_name keyword.Load) keyword.Load _ named refl (rw (a, b) refl) refl
+load_said line one two process address named a b = command_found _ one [] (keyword_name keyword.Load) keyword.Load _ named refl
+    (rw (a, b) refl) refl
 
 -- a line that names a store and three numbers
 pub store_said : (line : List ℕ) (one two three : Words) (process address value : ℕ) → words_of line ≡ keyword_name keyword.Store ∷ one
@@ -90,4 +94,5 @@ pub store_said : (line : List ℕ) (one two three : Words) (process address valu
     → Fits (command.Store process address value) × (words_of line ≡ command_words (command.Store process address value))
 unfolding arguments_at
 store_said line one two three process address value named a b c =
-    command_found (words_of line) one [] (keyword_name keyword.Store) keyword.Store (command.Store process address value) named refl (rw (a, b, c) refl) refl
+    command_found (words_of line) one [] (keyword_name keyword.Store) keyword.Store (command.Store process address value) named refl
+    (rw (a, b, c) refl) refl

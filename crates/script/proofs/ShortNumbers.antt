@@ -10,7 +10,8 @@ use Rattle.script.proofs.Split.{word_alone, word_and_more}
 -- a text that begins with a number of digits, up to a space or the end
 abbrev Begins : List ℕ → ℕ → ℕ → Type 0
 Begins text size n =
-    (0 < size) × (size ≤ length text) × AllDigits 10 (take size text) × (get_or text 0 0 ≡ 48 → size ≡ 1) × (n ≡ digits_value 10 (take size text)) ×
+    (0 < size) × (size ≤ length text) × AllDigits 10 (take size text) × (get_or text 0 0 ≡ 48 → size ≡ 1)
+    × (n ≡ digits_value 10 (take size text)) ×
     (n < 2 ^ 64)
 
 word_ends : (text : List ℕ) (size n : ℕ) → Begins text size n → (size < length text → get_or text size 0 ≡ 32) → first_end text ≡ size
@@ -26,7 +27,8 @@ digits_first : (text : List ℕ) (size n : ℕ) → Begins text size n → size 
     → number_at (words_of text) ≡ Some (n, words_of (drop (size + 1) text))
 digits_first text size n begins within space =
     let ends = word_ends text size n begins (λ _. space) in
-    let left : take (length text - (size + 1)) (drop (size + 1) text) ≡ drop (size + 1) text = grind (arith, nat_tests, take_all, length-drop) in
+    let left : take (length text - (size + 1)) (drop (size + 1) text) ≡ drop (size + 1) text =
+    grind (arith, nat_tests, take_all, length-drop) in
     rw (← left) (number_gives (Some n) (first_word text) (words_of text) (words_of (take (length text - (size + 1)) (drop (size + 1) text)))
     (word_and_more text size (sym ends) within) (begins.5, word_is text size n begins ends) tt)
 
@@ -43,8 +45,8 @@ Values text at size n = AllDigits 10 (take size (drop at text)) × (n ≡ digits
 abbrev IsDigit : List ℕ → ℕ → ℕ → Type 0
 IsDigit text at digit = IsInRange 48 57 (get_or text at 0) × (digit ≡ get_or text at 0 - 48)
 
-digit_more : (text : List ℕ) (at size value digit : ℕ) → at + size < length text → Values text at size value → IsDigit text (at + size) digit
-    → Values text at (size + 1) (value * 10 + digit)
+digit_more : (text : List ℕ) (at size value digit : ℕ) → at + size < length text → Values text at size value →
+    IsDigit text (at + size) digit → Values text at (size + 1) (value * 10 + digit)
 digit_more text at size value digit within so_far is = grind (arith, nat_tests, get_or-drop, value_more, length-drop)
 
 values_one : (text : List ℕ) (at one : ℕ) → at < length text → IsDigit text at one → Values text at 1 one
@@ -53,11 +55,13 @@ values_one text at one within first =
     let more = digit_more text at 0 0 one (omega (arith, within)) (tt, refl) (subst (λ (k : ℕ). IsDigit text k one) here first) in
     (more.0, omega (arith, more.1))
 
-values_two : (text : List ℕ) (at one two : ℕ) → at + 1 < length text → IsDigit text at one → IsDigit text (at + 1) two → Values text at 2 (one * 10 + two)
-values_two text at one two within first second = digit_more text at 1 one two within (values_one text at one (omega (arith, within)) first) second
+values_two : (text : List ℕ) (at one two : ℕ) → at + 1 < length text → IsDigit text at one → IsDigit text (at + 1) two →
+    Values text at 2 (one * 10 + two)
+values_two text at one two within first second = digit_more text at 1 one two within (values_one text at one (omega (arith, within)) first)
+    second
 
-values_three : (text : List ℕ) (at one two three : ℕ) → at + 2 < length text → IsDigit text at one → IsDigit text (at + 1) two → IsDigit text (at + 2) three
-    → Values text at 3 ((one * 10 + two) * 10 + three)
+values_three : (text : List ℕ) (at one two three : ℕ) → at + 2 < length text → IsDigit text at one → IsDigit text (at + 1) two →
+    IsDigit text (at + 2) three → Values text at 3 ((one * 10 + two) * 10 + three)
 values_three text at one two three within first second third =
     digit_more text at 2 (one * 10 + two) three within (values_two text at one two (omega (arith, within)) first second) third
 
@@ -66,26 +70,31 @@ pub values_up_to_three : (text : List ℕ) (at one two three : ℕ) → at + 2 <
     IsDigit text (at + 2) three → Values text at (at + 3 - at) ((one * 10 + two) * 10 + three)
 values_up_to_three text at one two three within first second third =
     let same : 3 ≡ at + 3 - at = omega arith in
-    subst (λ (size : ℕ). Values text at size ((one * 10 + two) * 10 + three)) same (values_three text at one two three within first second third)
+    subst (λ (size : ℕ). Values text at size ((one * 10 + two) * 10 + three)) same
+    (values_three text at one two three within first second third)
 
-begins_behind : (text : List ℕ) (at size n : ℕ) → at + size ≤ length text → 0 < size → Values text at size n → (get_or text at 0 ≡ 48 → size ≡ 1) → n < 2 ^ 64
-    → Begins (drop at text) size n
+begins_behind : (text : List ℕ) (at size n : ℕ) → at + size ≤ length text → 0 < size → Values text at size n →
+    (get_or text at 0 ≡ 48 → size ≡ 1) → n < 2 ^ 64 → Begins (drop at text) size n
 begins_behind text at size n within some values first small = grind (arith, nat_tests, length-drop, get_or-drop)
 
 number_read : (text : List ℕ) (at size next n : ℕ) → next ≡ at + size + 1 → at + size < length text → get_or text (at + size) 0 ≡ 32 →
     Begins (drop at text) size n
     → number_at (words_of (drop at text)) ≡ Some (n, words_of (drop next text))
 number_read text at size next n behind within space begins =
-    let rest : drop (size + 1) (drop at text) ≡ drop next text = drop-drop (size + 1) at text ∙ ap (λ (k : ℕ). drop k text) (omega (arith, behind)) in
-    rw (← rest) (digits_first (drop at text) size n begins (omega (arith, within, length-drop at text)) (get_or-drop at text size 0 ∙ space))
+    let rest : drop (size + 1) (drop at text) ≡ drop next text = drop-drop (size + 1) at text
+    ∙ ap (λ (k : ℕ). drop k text) (omega (arith, behind)) in
+    rw (← rest) (digits_first (drop at text) size n begins (omega (arith, within, length-drop at text))
+    (get_or-drop at text size 0 ∙ space))
 
 pub one_digit : (text : List ℕ) (at n : ℕ) → at + 1 < length text → IsDigit text at n → get_or text (at + 1) 0 ≡ 32
     → number_at (words_of (drop at text)) ≡ Some (n, words_of (drop (at + 2) text))
 one_digit text at n within first space = number_read text at 1 _ n (omega arith) within space
-    (begins_behind text at 1 n (omega (arith, within)) (omega arith) (values_one text at n (omega (arith, within)) first) (λ _. refl) (omega (arith, first)))
+    (begins_behind text at 1 n (omega (arith, within)) (omega arith) (values_one text at n (omega (arith, within)) first) (λ _. refl)
+    (omega (arith, first)))
 
-pub two_digits : (text : List ℕ) (at one two n : ℕ) → at + 2 < length text → IsDigit text at one → (get_or text at 0 ≡ 48 → ⊥) → IsDigit text (at + 1) two
-    → get_or text (at + 2) 0 ≡ 32 → n ≡ one * 10 + two → number_at (words_of (drop at text)) ≡ Some (n, words_of (drop (at + 3) text))
+pub two_digits : (text : List ℕ) (at one two n : ℕ) → at + 2 < length text → IsDigit text at one → (get_or text at 0 ≡ 48 → ⊥) →
+    IsDigit text (at + 1) two → get_or text (at + 2) 0 ≡ 32 → n ≡ one * 10 + two →
+    number_at (words_of (drop at text)) ≡ Some (n, words_of (drop (at + 3) text))
 two_digits text at one two n within first some second space is = rw is (number_read text at 2 _ _ (omega arith) within space
     (begins_behind text at 2 _ (omega (arith, within)) (omega arith) (values_two text at one two (omega (arith, within)) first second)
     (λ zero. absurd (some zero)) (omega (arith, first, second))))
@@ -95,7 +104,8 @@ pub three_digits : (text : List ℕ) (at one two three n : ℕ) → at + 3 < len
     → IsDigit text (at + 2) three → get_or text (at + 3) 0 ≡ 32 → n ≡ (one * 10 + two) * 10 + three
     → number_at (words_of (drop at text)) ≡ Some (n, words_of (drop (at + 4) text))
 three_digits text at one two three n within first some second third space is = rw is (number_read text at 3 _ _ (omega arith) within space
-    (begins_behind text at 3 _ (omega (arith, within)) (omega arith) (values_three text at one two three (omega (arith, within)) first second third)
+    (begins_behind text at 3 _ (omega (arith, within)) (omega arith) (values_three text at one two three (omega (arith, within)) first
+    second third)
     (λ zero. absurd (some zero)) (omega (arith, first, second, third))))
 
 -- the value of few digits
@@ -119,8 +129,10 @@ pub digits_read : (text : List ℕ) (at place n : ℕ) → at < place → place 
 digits_read text at place n begun within few space some values =
     let here : place ≡ at + (place - at) = omega (arith, begun) in
     let below : n < 10 ^ 19 = value_below text at (place - at) 19 n (omega (arith, begun, within)) (omega (arith, few)) values in
-    number_read text at (place - at) (place + 1) n (omega (arith, begun)) (omega (arith, begun, within)) (ap (λ (k : ℕ). get_or text k 0) (sym here) ∙ space)
-    (begins_behind text at (place - at) n (omega (arith, begun, within)) (omega (arith, begun)) values (λ zero. absurd (some zero)) (omega (arith, below)))
+    number_read text at (place - at) (place + 1) n (omega (arith, begun)) (omega (arith, begun, within))
+    (ap (λ (k : ℕ). get_or text k 0) (sym here) ∙ space)
+    (begins_behind text at (place - at) n (omega (arith, begun, within)) (omega (arith, begun)) values (λ zero. absurd (some zero))
+    (omega (arith, below)))
 
 -- digits up to the end
 pub digits_last : (text : List ℕ) (at place n : ℕ) → at < place → place ≡ length text → place ≤ at + 19 → (get_or text at 0 ≡ 48 → ⊥) →
@@ -128,7 +140,8 @@ pub digits_last : (text : List ℕ) (at place n : ℕ) → at < place → place 
 digits_last text at place n begun whole few some values =
     let below : n < 10 ^ 19 = value_below text at (place - at) 19 n (omega (arith, begun, whole)) (omega (arith, few)) values in
     digits_alone (drop at text) (place - at) n
-    (begins_behind text at (place - at) n (omega (arith, begun, whole)) (omega (arith, begun)) values (λ zero. absurd (some zero)) (omega (arith, below)))
+    (begins_behind text at (place - at) n (omega (arith, begun, whole)) (omega (arith, begun)) values (λ zero. absurd (some zero))
+    (omega (arith, below)))
     (omega (arith, begun, whole, length-drop at text))
 
 pub last_one : (text : List ℕ) (at n : ℕ) → length text ≡ at + 1 → IsDigit text at n → number_at (words_of (drop at text)) ≡ Some (n, [])
@@ -139,15 +152,18 @@ pub last_one_found : (text : List ℕ) (at : ℕ) (r : Option ℕ) → length te
     → IfSome r (λ n. number_at (words_of (drop at text)) ≡ Some (n, []))
 last_one_found text at r whole found = grind (arith, nat_tests, last_one)
 
-pub last_two : (text : List ℕ) (at one two n : ℕ) → length text ≡ at + 2 → IsDigit text at one → (get_or text at 0 ≡ 48 → ⊥) → IsDigit text (at + 1) two →
-    n ≡ one * 10 + two
+pub last_two : (text : List ℕ) (at one two n : ℕ) → length text ≡ at + 2 → IsDigit text at one → (get_or text at 0 ≡ 48 → ⊥) →
+    IsDigit text (at + 1) two → n ≡ one * 10 + two
     → number_at (words_of (drop at text)) ≡ Some (n, [])
 last_two text at one two n whole first some second is = rw is (digits_alone _ 2 _
     (begins_behind text at 2 _ (omega (arith, whole)) (omega arith) (values_two text at one two (omega (arith, whole)) first second)
     (λ zero. absurd (some zero)) (omega (arith, first, second))) (omega (arith, whole, length-drop at text)))
 
-pub last_three : (text : List ℕ) (at one two three n : ℕ) → length text ≡ at + 3 → IsDigit text at one → (get_or text at 0 ≡ 48 → ⊥) → IsDigit text (at + 1) two
-    → IsDigit text (at + 2) three → n ≡ (one * 10 + two) * 10 + three → number_at (words_of (drop at text)) ≡ Some (n, [])
-last_three text at one two three n whole first some second third is = rw is (digits_alone _ 3 _ (begins_behind text at 3 _ (omega (arith, whole)) (omega arith)
-    (values_three text at one two three (omega (arith, whole)) first second third) (λ zero. absurd (some zero)) (omega (arith, first, second, third)))
+pub last_three : (text : List ℕ) (at one two three n : ℕ) → length text ≡ at + 3 → IsDigit text at one → (get_or text at 0 ≡ 48 → ⊥) →
+    IsDigit text (at + 1) two → IsDigit text (at + 2) three → n ≡ (one * 10 + two) * 10 + three →
+    number_at (words_of (drop at text)) ≡ Some (n, [])
+last_three text at one two three n whole first some second third is = rw is
+    (digits_alone _ 3 _ (begins_behind text at 3 _ (omega (arith, whole)) (omega arith)
+    (values_three text at one two three (omega (arith, whole)) first second third) (λ zero. absurd (some zero))
+    (omega (arith, first, second, third)))
     (omega (arith, whole, length-drop at text)))

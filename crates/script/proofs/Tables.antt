@@ -12,14 +12,32 @@ first_named name word (x ∷ xs) = if bytes_eq word (name x) then Some x else fi
 
 abbrev pub every_keyword : List Keyword
 every_keyword =
-    keyword.Show ∷ keyword.Journal ∷ keyword.Evict ∷ keyword.Checkpoint ∷ keyword.Stabilize ∷ keyword.Commit ∷ keyword.Migrate ∷ keyword.Restart ∷ keyword.Cut
+    keyword.Show ∷ keyword.Journal ∷ keyword.Evict ∷ keyword.Checkpoint ∷ keyword.Stabilize ∷ keyword.Commit ∷ keyword.Migrate ∷
+    keyword.Restart ∷ keyword.Cut
     ∷ keyword.Load ∷ keyword.Store ∷ keyword.Invoke Call ∷ keyword.Invoke Return ∷ keyword.Invoke Send ∷ []
 
 -- a word that is the name of none in the table is the name of none
-pub no_keyword_left : (word : List ℕ) → ((i : ℕ) → i < 14 → word ≢ keyword_name (get_or every_keyword i (keyword.Invoke Send))) → (k : Keyword) →
-    word ≢ keyword_name k
+pub no_keyword_left : (word : List ℕ) → ((i : ℕ) → i < 14 → word ≢ keyword_name (get_or every_keyword i (keyword.Invoke Send))) →
+    (k : Keyword) → word ≢ keyword_name k
 no_keyword_left word none k =
-    grind (arith, nat_tests, none 0, none 1, none 2, none 3, none 4, none 5, none 6, none 7, none 8, none 9, none 10, none 11, none 12, none 13)
+    grind (
+      arith,
+      nat_tests,
+      none 0,
+      none 1,
+      none 2,
+      none 3,
+      none 4,
+      none 5,
+      none 6,
+      none 7,
+      none 8,
+      none 9,
+      none 10,
+      none 11,
+      none 12,
+      none 13,
+    )
 
 abbrev pub every_kind : List Kind
 every_kind = Void ∷ Number ∷ Page ∷ Node ∷ Space ∷ Process ∷ Start ∷ Resume ∷ Bank ∷ Discrim ∷ []
@@ -30,5 +48,6 @@ no_kind_left word none k = grind (arith, nat_tests, none 0, none 1, none 2, none
 abbrev pub every_state : List State
 every_state = Available ∷ Running ∷ Waiting ∷ []
 
-pub no_state_left : (word : List ℕ) → ((i : ℕ) → i < 3 → state_text (get_or every_state i Waiting) ≢ word) → (s : State) → state_text s ≢ word
+pub no_state_left : (word : List ℕ) → ((i : ℕ) → i < 3 → state_text (get_or every_state i Waiting) ≢ word) → (s : State) →
+    state_text s ≢ word
 no_state_left word none s = grind (arith, nat_tests)

@@ -31,7 +31,8 @@ weighted_most weight bound (h ∷ hs) small =
 few_weights : (weights one 1024 ≤ 2 ^ 28) × (weights place 1024 ≤ 2 ^ 28) × (weights triangle 1024 ≤ 2 ^ 28)
 few_weights = (lit≤ tt, lit≤ tt, lit≤ tt)
 
-fits : (weight : ℕ → ℕ) (n : ℕ) (hs : List ℕ) → weights weight n ≤ 2 ^ 28 → length hs ≤ n → AreBelow (2 ^ 32 - 1) hs → weighted weight hs < 2 ^ 60
+fits : (weight : ℕ → ℕ) (n : ℕ) (hs : List ℕ) → weights weight n ≤ 2 ^ 28 → length hs ≤ n → AreBelow (2 ^ 32 - 1) hs →
+    weighted weight hs < 2 ^ 60
 fits weight n hs few short small = omega (arith, weighted_most weight (2 ^ 32 - 1) hs small, weights_rise weight (length hs) n short, few)
 
 pub sums_fit : (hs : List ℕ) → length hs ≤ 1024 → AreBelow (2 ^ 32 - 1) hs → Fit (sums hs)

@@ -21,7 +21,8 @@ bit_in_byte row q j lt =
 pub same_byte : (x y : List ℕ) (q : ℕ) → AreBytes x → AreBytes y → ((j : ℕ) → j < 8 → row_bit x (8 * q + j) ≡ row_bit y (8 * q + j)) →
     get_or x q 0 ≡ get_or y q 0
 same_byte x y q bx by same =
-    same_from_bits_below 8 (get_or x q 0) (get_or y q 0) (bx q) (by q) (λ j lt. sym (bit_in_byte x q j lt) ∙ same j lt ∙ bit_in_byte y q j lt)
+    same_from_bits_below 8 (get_or x q 0) (get_or y q 0) (bx q) (by q) (λ j lt. sym (bit_in_byte x q j lt) ∙ same j lt
+    ∙ bit_in_byte y q j lt)
 
 -- the same bytes, but for the twelve of three numbers from number w on
 pub record IsNear (w : ℕ) (x y : List ℕ) : Type 0 where
@@ -42,14 +43,17 @@ few_differ n w [] (y ∷ ys) len before after = absurd (omega (arith, len))
 few_differ n w (x ∷ xs) [] len before after = absurd (omega (arith, len))
 few_differ zero zero (x ∷ xs) (y ∷ ys) len before after =
     let heads : x ≡ y = after 0 (omega arith) in
-    let rest = few_differ zero zero xs ys (omega (arith, len)) (λ k lt. absurd (omega (arith, lt))) (λ k ge. after (suc k) (omega (arith, ge))) in
+    let rest = few_differ zero zero xs ys (omega (arith, len)) (λ k lt. absurd (omega (arith, lt)))
+    (λ k ge. after (suc k) (omega (arith, ge))) in
     omega (arith, same_heads x y xs ys heads, rest)
 few_differ (suc n) zero (x ∷ xs) (y ∷ ys) len before after =
-    let rest = few_differ n zero xs ys (omega (arith, len)) (λ k lt. absurd (omega (arith, lt))) (λ k ge. after (suc k) (omega (arith, ge))) in
+    let rest = few_differ n zero xs ys (omega (arith, len)) (λ k lt. absurd (omega (arith, lt))) (λ k ge. after (suc k) (omega (arith, ge)))
+    in
     omega (arith, head_counts x y xs ys, rest)
 few_differ n (suc w) (x ∷ xs) (y ∷ ys) len before after =
     let heads : x ≡ y = before 0 (omega arith) in
-    let rest = few_differ n w xs ys (omega (arith, len)) (λ k lt. before (suc k) (omega (arith, lt))) (λ k ge. after (suc k) (omega (arith, ge))) in
+    let rest = few_differ n w xs ys (omega (arith, len)) (λ k lt. before (suc k) (omega (arith, lt)))
+    (λ k ge. after (suc k) (omega (arith, ge))) in
     omega (arith, same_heads x y xs ys heads, rest)
 
 module _ (w : ℕ) (x y : List ℕ) (len : length x ≡ length y) (is : IsNear w x y) where
@@ -65,7 +69,8 @@ same_count x y len = length_numbers x ∙ ap (λ (n : ℕ). n / 4) len ∙ sym (
 pub few_changes : FewChangesChangeSums
 unfolding sums_of
 few_changes x y rx ry len few same =
-    same_rows x y (are_bytes x rx.bytes) (are_bytes y ry.bytes) rx.whole len (three_told (numbers x) (numbers y) (same_count x y len) few same)
+    same_rows x y (are_bytes x rx.bytes) (are_bytes y ry.bytes) rx.whole len
+    (three_told (numbers x) (numbers y) (same_count x y len) few same)
 
 pub near_changes : (w : ℕ) (x y : List ℕ) → IsRow x → IsRow y → length x ≡ length y → IsNear w x y → sums_of x ≡ sums_of y → x ≡ y
 near_changes w x y rx ry len is same =

@@ -72,7 +72,8 @@ body_near w x y len is = record {
 
 -- ---- where the burst lies
 
-module _ (w : ℕ) (x y : List ℕ) (rx : IsRow x) (ry : IsRow y) (len : length x ≡ length y) (is : IsNear w x y) (sx : IsSealed x) (sy : IsSealed y) where
+module _ (w : ℕ) (x y : List ℕ) (rx : IsRow x) (ry : IsRow y) (len : length x ≡ length y) (is : IsNear w x y) (sx : IsSealed x)
+    (sy : IsSealed y) where
   row_x : IsRow (body_of x)
   row_x = body_row x (sealed_room x sx) rx
 
@@ -85,7 +86,8 @@ module _ (w : ℕ) (x y : List ℕ) (rx : IsRow x) (ry : IsRow y) (len : length 
       let tails : seal_of x ≡ seal_of y =
       tail_same (length x - 24) x y len (λ q ge. is.after q (omega (arith, ge, clear))) ∙ ap (λ (n : ℕ). drop (n - 24) y) len in
       let sums : sums_of (body_of x) ≡ sums_of (body_of y) =
-      one_spelling (sums_of (body_of x)) (sums_of (body_of y)) (row_words (body_of x) row_x) (row_words (body_of y) row_y) (sym sx ∙ tails ∙ sy) in
+      one_spelling (sums_of (body_of x)) (sums_of (body_of y)) (row_words (body_of x) row_x) (row_words (body_of y) row_y)
+      (sym sx ∙ tails ∙ sy) in
       near_changes w (body_of x) (body_of y) row_x row_y (same_length x y len) (body_near w x y len is) sums
 
   -- in the seal: the bodies are the same
@@ -103,10 +105,12 @@ module _ (w : ℕ) (x y : List ℕ) (rx : IsRow x) (ry : IsRow y) (len : length 
       let n : ℕ = length x - 24 in
       let whole : n % 4 ≡ 0 = omega (arith, rx.whole, sealed_room x sx) in
       let behind : drop (n + 8) x ≡ drop (n + 8) y = tail_same (n + 8) x y len (λ q ge. is.after q (omega (arith, ge, early, whole))) in
-      let tails : drop 8 (seal_of x) ≡ drop 8 (seal_of y) = drop-drop 8 n x ∙ behind ∙ sym (drop-drop 8 n y) ∙ ap (λ (m : ℕ). drop 8 (drop (m - 24) y)) len in
+      let tails : drop 8 (seal_of x) ≡ drop 8 (seal_of y) = drop-drop 8 n x ∙ behind ∙ sym (drop-drop 8 n y)
+      ∙ ap (λ (m : ℕ). drop 8 (drop (m - 24) y)) len in
       let spelled : drop 8 (sums_bytes (sums_of (body_of x))) ≡ drop 8 (sums_bytes (sums_of (body_of y))) =
       ap (drop 8) (sym sx) ∙ tails ∙ ap (drop 8) sy in
-      let bc = tail_spelling (sums_of (body_of x)) (sums_of (body_of y)) (row_words (body_of x) row_x) (row_words (body_of y) row_y) spelled in
+      let bc = tail_spelling (sums_of (body_of x)) (sums_of (body_of y)) (row_words (body_of x) row_x) (row_words (body_of y) row_y) spelled
+      in
       let lens = same_length x y len in
       let counts = same_count (body_of x) (body_of y) lens in
       let short : length (numbers (body_of x)) ≤ w + 2 = omega (arith, length_numbers (body_of x), length_body x, late, whole) in
@@ -139,7 +143,8 @@ bursts_break i x y rx ry burst sx sy = near_breaks (i / 32) x y rx ry burst.size
 weighted_zero : (weight : ℕ → ℕ) (hs : List ℕ) → ((k : ℕ) → get_or hs k 0 ≡ 0) → weighted weight hs ≡ 0
 weighted_zero weight [] zeros = refl
 weighted_zero weight (h ∷ hs) zeros =
-    let first : weight (suc (length hs)) * h ≡ 0 = ap (λ (n : ℕ). weight (suc (length hs)) * n) (zeros 0) ∙ mul-zero (weight (suc (length hs))) in
+    let first : weight (suc (length hs)) * h ≡ 0 = ap (λ (n : ℕ). weight (suc (length hs)) * n) (zeros 0)
+    ∙ mul-zero (weight (suc (length hs))) in
     omega (arith, first, weighted_zero weight hs (λ k. zeros (suc k)))
 
 zero_sums : (n : ℕ) → sums_of (replicate n 0) ≡ record { a = 0; b = 0; c = 0 }
@@ -154,8 +159,10 @@ zeros_from : (n : ℕ) → 24 ≤ n → drop (n - 24) (replicate n 0) ≡ sums_b
 zeros_from n room =
     let seal : n - (n - 24) ≡ 24 = omega (arith, room) in
     drop-replicate (n - 24) n 0 ∙ ap (λ (m : ℕ). replicate m 0) seal ∙ sym zero_bytes
-    ∙ ap sums_bytes (sym (zero_sums (n - 24))) ∙ ap (λ (row : List ℕ). sums_bytes (sums_of row)) (sym (take-replicate (n - 24) n 0 (omega arith)))
+    ∙ ap sums_bytes (sym (zero_sums (n - 24))) ∙ ap (λ (row : List ℕ). sums_bytes (sums_of row))
+    (sym (take-replicate (n - 24) n 0 (omega arith)))
 
 pub zeros_sealed : ZerosAreSealed
 zeros_sealed n room =
-    subst (λ (m : ℕ). drop (m - 24) (replicate n 0) ≡ sums_bytes (sums_of (take (m - 24) (replicate n 0)))) (sym (length-replicate n 0)) (zeros_from n room)
+    subst (λ (m : ℕ). drop (m - 24) (replicate n 0) ≡ sums_bytes (sums_of (take (m - 24) (replicate n 0)))) (sym (length-replicate n 0))
+    (zeros_from n room)

@@ -70,12 +70,14 @@ one_of_four f g a b c d (suc (suc zero)) lt = c
 one_of_four f g a b c d (suc (suc (suc zero))) lt = d
 one_of_four f g a b c d (suc (suc (suc (suc j)))) lt = absurd (omega (arith, lt))
 
-byte_back : (x y : List ℕ) (at : ℕ) → AreBytes x → AreBytes y → little_number 4 (drop at x) ≡ little_number 4 (drop at y) → (j : ℕ) → j < 4 →
-    get_or x (at + j) 0 ≡ get_or y (at + j) 0
+byte_back : (x y : List ℕ) (at : ℕ) → AreBytes x → AreBytes y → little_number 4 (drop at x) ≡ little_number 4 (drop at y) → (j : ℕ) →
+    j < 4 → get_or x (at + j) 0 ≡ get_or y (at + j) 0
 byte_back x y at bx by same j lt =
     let all =
-    four_bytes (get_or x (at + 0) 0) (get_or x (at + 1) 0) (get_or x (at + 2) 0) (get_or x (at + 3) 0) (get_or y (at + 0) 0) (get_or y (at + 1) 0)
-    (get_or y (at + 2) 0) (get_or y (at + 3) 0) (bx (at + 0)) (bx (at + 1)) (bx (at + 2)) (bx (at + 3)) (by (at + 0)) (by (at + 1)) (by (at + 2)) (by (at + 3))
+    four_bytes (get_or x (at + 0) 0) (get_or x (at + 1) 0) (get_or x (at + 2) 0) (get_or x (at + 3) 0) (get_or y (at + 0) 0)
+    (get_or y (at + 1) 0)
+    (get_or y (at + 2) 0) (get_or y (at + 3) 0) (bx (at + 0)) (bx (at + 1)) (bx (at + 2)) (bx (at + 3)) (by (at + 0)) (by (at + 1))
+    (by (at + 2)) (by (at + 3))
     (sym (number_of x at) ∙ same ∙ number_of y at) in
     one_of_four (λ (i : ℕ). get_or x (at + i) 0) (λ (i : ℕ). get_or y (at + i) 0) all.0 all.1 all.2 all.3 j lt
 

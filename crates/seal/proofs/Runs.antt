@@ -53,7 +53,8 @@ Same s t = (s.a ≡ t.a) × (s.b ≡ t.b) × (s.c ≡ t.c)
 -- after the last difference the sums are the same
 none_left : (s t : Sums) (hs : List ℕ) → Same (run s hs) (run t hs) → Same s t
 none_left s t [] same = same
-none_left s t (h ∷ hs) same = let next = none_left (step s h) (step t h) hs same in (omega (arith, next), omega (arith, next), omega (arith, next))
+none_left s t (h ∷ hs) same = let next = none_left (step s h) (step t h) hs same in
+    (omega (arith, next), omega (arith, next), omega (arith, next))
 
 -- before it, b and c make up for a
 record IsBalanced (s t : Sums) : Type 0 where
@@ -92,7 +93,8 @@ one_left s t (x ∷ xs) (y ∷ ys) len few same =
           balanced_before s t x (subst (λ (h : ℕ). IsBalanced (step s x) (step t h)) (sym e) next)
       | inr ne ↦
           let rest : xs ≡ ys = none_differ xs ys (omega (arith, len)) (omega (arith, few, other_heads x y xs ys ne)) in
-          let behind : Same (run (step s x) xs) (run (step t y) xs) = subst (λ (hs : List ℕ). Same (run (step s x) xs) (run (step t y) hs)) (sym rest) same in
+          let behind : Same (run (step s x) xs) (run (step t y) xs) = subst (λ (hs : List ℕ). Same (run (step s x) xs) (run (step t y) hs))
+          (sym rest) same in
           let next = none_left (step s x) (step t y) xs behind in
           record {
             less_b = λ lt. omega (arith, next);
@@ -113,7 +115,8 @@ two_left s t (x ∷ xs) [] len few a b c same = omega (arith, len)
 two_left s t (x ∷ xs) (y ∷ ys) len few a b c same =
     elim (cases_eq x y) [
       | inl e ↦
-          two_left (step s x) (step t y) xs ys (omega (arith, len)) (omega (arith, few, same_heads x y xs ys e)) (omega arith) (omega arith) (omega arith) same
+          two_left (step s x) (step t y) xs ys (omega (arith, len)) (omega (arith, few, same_heads x y xs ys e)) (omega arith) (omega arith)
+          (omega arith) same
       | inr ne ↦
           let next = one_left (step s x) (step t y) xs ys (omega (arith, len)) (omega (arith, few, other_heads x y xs ys ne)) same in
           elim (cases_order (s.a + x) (t.a + y)) [
@@ -131,19 +134,22 @@ three_left s (x ∷ xs) [] len few same = absurd (omega (arith, len))
 three_left s (x ∷ xs) (y ∷ ys) len few same =
     elim (cases_order x y) [
       | inl e ↦
-          let next : Same (run (step s x) xs) (run (step s x) ys) = subst (λ (h : ℕ). Same (run (step s x) xs) (run (step s h) ys)) (sym e) same in
+          let next : Same (run (step s x) xs) (run (step s x) ys) = subst (λ (h : ℕ). Same (run (step s x) xs) (run (step s h) ys)) (sym e)
+          same in
           let rest = three_left (step s x) xs ys (omega (arith, len)) (omega (arith, few, same_heads x y xs ys e)) next in
           cc
       | inr (inl lt) ↦
           let other = other_heads x y xs ys (λ e. omega (arith, e, lt)) in
           let turned : Same (run (step s y) ys) (run (step s x) xs) = (sym same.0, sym same.1, sym same.2) in
           absurd (
-          two_left (step s y) (step s x) ys xs (omega (arith, len)) (omega (arith, few, other, turned_round xs ys)) (omega arith) (omega arith) (omega arith)
+          two_left (step s y) (step s x) ys xs (omega (arith, len)) (omega (arith, few, other, turned_round xs ys)) (omega arith)
+          (omega arith) (omega arith)
           turned
           )
       | inr (inr gt) ↦
           let other = other_heads x y xs ys (λ e. omega (arith, e, gt)) in
-          absurd (two_left (step s x) (step s y) xs ys (omega (arith, len)) (omega (arith, few, other)) (omega arith) (omega arith) (omega arith) same)
+          absurd (two_left (step s x) (step s y) xs ys (omega (arith, len)) (omega (arith, few, other)) (omega arith) (omega arith)
+          (omega arith) same)
     ]
 
 pub three_told : (xs ys : List ℕ) → length xs ≡ length ys → differences xs ys ≤ 3 → sums xs ≡ sums ys → xs ≡ ys
@@ -161,6 +167,7 @@ two_told xs ys len few b c =
     let b' : weighted place (xs ++ h ∷ []) ≡ weighted place (ys ++ k ∷ []) = omega (arith, b_push h xs, b_push k ys, b) in
     let c' : weighted triangle (xs ++ h ∷ []) ≡ weighted triangle (ys ++ k ∷ []) = omega (arith, c_push h xs, c_push k ys, b, c) in
     let whole : xs ++ h ∷ [] ≡ ys ++ k ∷ [] =
-    three_told (xs ++ h ∷ []) (ys ++ k ∷ []) (omega (arith, length_push xs h, length_push ys k, len)) (omega (arith, one_more h k xs ys len, few))
+    three_told (xs ++ h ∷ []) (ys ++ k ∷ []) (omega (arith, length_push xs h, length_push ys k, len))
+    (omega (arith, one_more h k xs ys len, few))
     (same_sums (sums (xs ++ h ∷ [])) (sums (ys ++ k ∷ [])) a b' c') in
     (same_from_push xs ys h k whole).0

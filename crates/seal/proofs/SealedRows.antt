@@ -21,8 +21,8 @@ tests_pass : (a b c d e f : ℕ) (test : Bool) → test ≡ (eqb a d && (eqb b e
 tests_pass a b c d e f test is same_a same_b same_c = grind (arith, nat_tests)
 
 -- the sums that were read are those of the body exactly if the row is sealed
-pub seal_decides : (row : List ℕ) (s t : Sums) (test : Bool) → AreBytes row → length row % 4 ≡ 0 → 24 ≤ length row → length row ≤ 4096 → AreWords s
-    → drop (length row - 24) row ≡ sums_bytes s ++ drop (length row - 24 + 24) row → t ≡ sums_of (take (length row - 24) row)
+pub seal_decides : (row : List ℕ) (s t : Sums) (test : Bool) → AreBytes row → length row % 4 ≡ 0 → 24 ≤ length row → length row ≤ 4096 →
+    AreWords s → drop (length row - 24) row ≡ sums_bytes s ++ drop (length row - 24 + 24) row → t ≡ sums_of (take (length row - 24) row)
     → test ≡ (eqb s.a t.a && (eqb s.b t.b && eqb s.c t.c)) → (test ≡ true → IsSealed row) × (IsSealed row → test ≡ true)
 seal_decides row s t test bytes whole room size words read is tested =
     let body : List ℕ = take (length row - 24) row in
@@ -34,7 +34,8 @@ seal_decides row s t test bytes whole room size words read is tested =
           spelled ∙ ap sums_bytes (same_sums s t three.0 three.1 three.2 ∙ is),
       λ sealed.
           let same : s ≡ t = one_spelling s t words words' (sym spelled ∙ sealed ∙ ap sums_bytes (sym is)) in
-          tests_pass s.a s.b s.c t.a t.b t.c test tested (ap (λ (u : Sums). u.a) same) (ap (λ (u : Sums). u.b) same) (ap (λ (u : Sums). u.c) same),
+          tests_pass s.a s.b s.c t.a t.b t.c test tested (ap (λ (u : Sums). u.a) same) (ap (λ (u : Sums). u.b) same)
+          (ap (λ (u : Sums). u.c) same),
     )
 
 pub sealed_now : (row new : List ℕ) (s : Sums) → 24 ≤ length row → s ≡ sums_of (take (length row - 24) row)

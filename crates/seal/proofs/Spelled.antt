@@ -29,7 +29,8 @@ two_numbers a b d e a' b' d' e' same =
 pub one_spelling : (s t : Sums) → AreWords s → AreWords t → sums_bytes s ≡ sums_bytes t → s ≡ t
 unfolding sums_bytes
 one_spelling s t small small' e =
-    let first = number_first s.a t.a (little_bytes 8 s.b ++ little_bytes 8 s.c) (little_bytes 8 t.b ++ little_bytes 8 t.c) small.a small'.a e in
+    let first = number_first s.a t.a (little_bytes 8 s.b ++ little_bytes 8 s.c) (little_bytes 8 t.b ++ little_bytes 8 t.c) small.a small'.a
+    e in
     let rest = two_numbers s.b s.c t.b t.c small.b small.c small'.b small'.c first.1 in
     same_sums s t first.0 rest.0 rest.1
 
@@ -62,12 +63,13 @@ front_bytes bytes at small i =
       | inr le ↦ omega (arith, get_or_past (take 8 (drop at bytes)) i 0 (omega (arith, length-take 8 (drop at bytes))))
     ]
 
-number_read : (bytes : List ℕ) (at n : ℕ) → at + 8 ≤ length bytes → AreBytes bytes → n ≡ little_number 8 (take (length bytes - at) (drop at bytes))
-    → drop at bytes ≡ little_bytes 8 n ++ drop (at + 8) bytes
+number_read : (bytes : List ℕ) (at n : ℕ) → at + 8 ≤ length bytes → AreBytes bytes →
+    n ≡ little_number 8 (take (length bytes - at) (drop at bytes)) → drop at bytes ≡ little_bytes 8 n ++ drop (at + 8) bytes
 number_read bytes at n room small is =
     let read : n ≡ little_number 8 (drop at bytes) = is ∙ ap (little_number 8) (take_rest bytes at) in
     let len : length (take 8 (drop at bytes)) ≡ 8 = omega (arith, length-take 8 (drop at bytes), length-drop at bytes) in
-    let front : little_bytes 8 n ≡ take 8 (drop at bytes) = ap (little_bytes 8) (read ∙ sym (little_from-take 0 8 8 (drop at bytes) (omega arith))) ∙
+    let front : little_bytes 8 n ≡ take 8 (drop at bytes) = ap (little_bytes 8)
+    (read ∙ sym (little_from-take 0 8 8 (drop at bytes) (omega arith))) ∙
     number_back (take 8 (drop at bytes)) len (front_bytes bytes at small) in
     sym (take-append-drop 8 (drop at bytes)) ∙ ap (λ (t : List ℕ). take 8 (drop at bytes) ++ t) (drop-drop 8 at bytes)
     ∙ ap (λ (t : List ℕ). t ++ drop (at + 8) bytes) (sym front)
@@ -94,7 +96,8 @@ pub written : (bytes buf : List ℕ) (at n : ℕ) → at + 8 ≤ length bytes �
     → put_mid at (length bytes - at) bytes buf ≡ (take at bytes ++ little_bytes 8 n) ++ drop (at + 8) bytes
 written bytes buf at n room is =
     let mid : between at (length bytes) bytes ≡ drop at bytes = take_rest bytes at in
-    let past : drop (length bytes - at) (drop at bytes) ≡ [] = drop_all (length bytes - at) (drop at bytes) (omega (arith, length-drop at bytes)) in
+    let past : drop (length bytes - at) (drop at bytes) ≡ [] = drop_all (length bytes - at) (drop at bytes)
+    (omega (arith, length-drop at bytes)) in
     let whole : buf ≡ little_bytes 8 n ++ drop (at + 8) bytes = is ∙ ap (λ (t : List ℕ). little_bytes 8 n ++ drop 8 t) mid ∙
     ap (λ (t : List ℕ). little_bytes 8 n ++ t) (drop-drop 8 at bytes) in
     rw (past, whole, append-nil) (sym (append_assoc (take at bytes) (little_bytes 8 n) (drop (at + 8) bytes)))
@@ -105,11 +108,13 @@ behind : (old mid new front number : List ℕ) (at : ℕ) → length front ≡ a
 behind old mid new front number at len eight was is =
     let kept : take at mid ≡ front = ap (take at) was ∙ take_at front (drop at old) at len in
     let rest : drop (at + 8) mid ≡ drop (at + 8) old =
-    sym (drop-drop 8 at mid) ∙ ap (λ (t : List ℕ). drop 8 (drop at t)) was ∙ ap (drop 8) (drop_at front (drop at old) at len) ∙ drop-drop 8 at old in
+    sym (drop-drop 8 at mid) ∙ ap (λ (t : List ℕ). drop 8 (drop at t)) was ∙ ap (drop 8) (drop_at front (drop at old) at len)
+    ∙ drop-drop 8 at old in
     is ∙ ap (λ (t : List ℕ). (t ++ number) ++ drop (at + 8) mid) kept ∙ ap (λ (t : List ℕ). (front ++ number) ++ t) rest
 
-pub sums_written : (b0 b1 b2 b3 : List ℕ) (at : ℕ) (s : Sums) → at + 24 ≤ length b0 → b1 ≡ (take at b0 ++ little_bytes 8 s.a) ++ drop (at + 8) b0
-    → b2 ≡ (take (at + 8) b1 ++ little_bytes 8 s.b) ++ drop (at + 8 + 8) b1 → b3 ≡ (take (at + 16) b2 ++ little_bytes 8 s.c) ++ drop (at + 16 + 8) b2
+pub sums_written : (b0 b1 b2 b3 : List ℕ) (at : ℕ) (s : Sums) → at + 24 ≤ length b0 →
+    b1 ≡ (take at b0 ++ little_bytes 8 s.a) ++ drop (at + 8) b0 → b2 ≡ (take (at + 8) b1 ++ little_bytes 8 s.b) ++ drop (at + 8 + 8) b1 →
+    b3 ≡ (take (at + 16) b2 ++ little_bytes 8 s.c) ++ drop (at + 16 + 8) b2
     → b3 ≡ (take at b0 ++ sums_bytes s) ++ drop (at + 24) b0
 unfolding sums_bytes
 sums_written b0 b1 b2 b3 at s room e1 e2 e3 =
@@ -121,7 +126,9 @@ sums_written b0 b1 b2 b3 at s room e1 e2 e3 =
     let len2 : length two ≡ at + 16 = omega (arith, length-append one (little_bytes 8 s.b), len1) in
     let second : b2 ≡ two ++ drop (at + 8 + 8) b0 = behind b0 b1 b2 one (little_bytes 8 s.b) (at + 8) len1 refl e1 e2 in
     let second' : b2 ≡ two ++ drop (at + 16) b0 = second ∙ ap (λ (n : ℕ). two ++ drop n b0) (omega arith) in
-    let third : b3 ≡ (two ++ little_bytes 8 s.c) ++ drop (at + 16 + 8) b0 = behind b0 b2 b3 two (little_bytes 8 s.c) (at + 16) len2 refl second' e3 in
-    let whole : two ++ little_bytes 8 s.c ≡ front ++ ((little_bytes 8 s.a ++ little_bytes 8 s.b) ++ little_bytes 8 s.c) = simp append_assoc in
+    let third : b3 ≡ (two ++ little_bytes 8 s.c) ++ drop (at + 16 + 8) b0 =
+    behind b0 b2 b3 two (little_bytes 8 s.c) (at + 16) len2 refl second' e3 in
+    let whole : two ++ little_bytes 8 s.c ≡ front ++ ((little_bytes 8 s.a ++ little_bytes 8 s.b) ++ little_bytes 8 s.c) =
+    simp append_assoc in
     third ∙ ap (λ (t : List ℕ). t ++ drop (at + 16 + 8) b0) whole
     ∙ ap (λ (n : ℕ). (front ++ ((little_bytes 8 s.a ++ little_bytes 8 s.b) ++ little_bytes 8 s.c)) ++ drop n b0) (omega arith)

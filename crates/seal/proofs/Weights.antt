@@ -18,7 +18,8 @@ sums hs = record { a = weighted one hs; b = weighted place hs; c = weighted tria
 
 product_more : (k : ℕ) → (k + 1) * (k + 1 + 1) ≡ k * (k + 1) + (k + 1) * 2
 product_more k =
-    let turned : (k + 1) * (k + 1 + 1) ≡ (k + (1 + 1)) * (k + 1) = mul_comm (k + 1) (k + 1 + 1) ∙ ap (λ (n : ℕ). n * (k + 1)) (omega arith) in
+    let turned : (k + 1) * (k + 1 + 1) ≡ (k + (1 + 1)) * (k + 1) = mul_comm (k + 1) (k + 1 + 1)
+    ∙ ap (λ (n : ℕ). n * (k + 1)) (omega arith) in
     let split : (k + (1 + 1)) * (k + 1) ≡ k * (k + 1) + (1 + 1) * (k + 1) = add-mul k (1 + 1) (k + 1) in
     omega (arith, turned, split)
 
@@ -65,7 +66,8 @@ same_sums s t a b c =
 
 pub sums_push : (front : List ℕ) (h : ℕ) → step (sums front) h ≡ sums (front ++ h ∷ [])
 sums_push front h =
-    same_sums (step (sums front) h) (sums (front ++ h ∷ [])) (omega (arith, a_push h front)) (omega (arith, b_push h front)) (omega (arith, c_push h front))
+    same_sums (step (sums front) h) (sums (front ++ h ∷ [])) (omega (arith, a_push h front)) (omega (arith, b_push h front))
+    (omega (arith, c_push h front))
 
 run_behind : (front hs : List ℕ) → run (sums front) hs ≡ sums (front ++ hs)
 run_behind front [] = ap sums (sym (append-nil front))

@@ -26,7 +26,8 @@ module _ (old blanked new : List ℕ) (nodes : ℕ) (few : nodes ≤ 5) (size : 
 
   pub front_stays : take end new ≡ take end old
   front_stays =
-      sym (take-take end 4072 new (omega (arith, few))) ∙ ap (take end) before_seal ∙ take-take end 4072 blanked (omega (arith, few)) ∙ ap (take end) is ∙
+      sym (take-take end 4072 new (omega (arith, few))) ∙ ap (take end) before_seal ∙ take-take end 4072 blanked (omega (arith, few))
+      ∙ ap (take end) is ∙
       take_at (take end old) (zeros (length old - end)) end front
 
   pub cluster_sealed : IsSealed new → IsCluster nodes new

@@ -23,8 +23,9 @@ numbers_fit (e ∷ es) fit =
     (All-cons (λ (n : ℕ). n < 2 ^ 64) e.slot (entry_numbers es) first.1 (numbers_fit es (All-tail Fits e es fit)))
 
 -- one entry more is put
-pub entry_put : (es : List Entry) (i : ℕ) (e : Entry) (old : List ℕ) → i < length es → length old ≡ 2 * length es → take (2 * i) old ≡ entry_numbers (take i es)
-    → e ≡ get_or es i e → take (2 * (i + 1)) (set (set old (2 * i) e.object) (2 * i + 1) e.slot) ≡ entry_numbers (take (i + 1) es)
+pub entry_put : (es : List Entry) (i : ℕ) (e : Entry) (old : List ℕ) → i < length es → length old ≡ 2 * length es →
+    take (2 * i) old ≡ entry_numbers (take i es) → e ≡ get_or es i e → take (2 * (i + 1))
+    (set (set old (2 * i) e.object) (2 * i + 1) e.slot) ≡ entry_numbers (take (i + 1) es)
 entry_put es i e old lt size before is =
     let mid : List ℕ = set old (2 * i) e.object in
     let next : 2 * (i + 1) ≡ 2 * i + 1 + 1 = omega arith in
@@ -37,8 +38,9 @@ entry_put es i e old lt size before is =
     ∙ sym (numbers_push (take i es) e) ∙ ap entry_numbers (sym more)
 
 -- one more entry is taken
-pub entry_taken : (ns : List ℕ) (into : List Entry) (i : ℕ) → i < length into → length ns ≡ 2 * length into → take (2 * i) ns ≡ entry_numbers (take i into)
-    → take (2 * (i + 1)) ns ≡ entry_numbers (take (i + 1) (set into i (entry_of (get_or ns (2 * i) 0) (get_or ns (2 * i + 1) 0))))
+pub entry_taken : (ns : List ℕ) (into : List Entry) (i : ℕ) → i < length into → length ns ≡ 2 * length into →
+    take (2 * i) ns ≡ entry_numbers (take i into) → take (2 * (i + 1)) ns ≡ entry_numbers
+    (take (i + 1) (set into i (entry_of (get_or ns (2 * i) 0) (get_or ns (2 * i + 1) 0))))
 entry_taken ns into i lt size before =
     let e : Entry = entry_of (get_or ns (2 * i) 0) (get_or ns (2 * i + 1) 0) in
     let next : 2 * (i + 1) ≡ 2 * i + 1 + 1 = omega arith in
@@ -49,7 +51,7 @@ entry_taken ns into i lt size before =
     ∙ ap (λ (t : List ℕ). (t ++ e.object ∷ []) ++ e.slot ∷ []) before
     ∙ sym (numbers_push (take i into) e) ∙ ap entry_numbers (sym more)
 
-pub all_put : (es : List Entry) (i : ℕ) (now : List ℕ) → length es ≤ i → length now ≡ 2 * length es → take (2 * i) now ≡ entry_numbers (take i es)
-    → now ≡ entry_numbers es
+pub all_put : (es : List Entry) (i : ℕ) (now : List ℕ) → length es ≤ i → length now ≡ 2 * length es →
+    take (2 * i) now ≡ entry_numbers (take i es) → now ≡ entry_numbers es
 all_put es i now past size is =
     sym (take_all (2 * i) now (omega (arith, size, past))) ∙ is ∙ ap entry_numbers (take_all i es (omega (arith, past)))

@@ -15,10 +15,12 @@ pub header_magic : (h : SealedHeader) (ns : List ℕ) → ns ≡ header_numbers 
 header_magic h ns e = ap (λ (xs : List ℕ). get_or xs 0 0) e
 
 -- numbers that begin with their role's are those of a page's header
-pub page_read : (ns : List ℕ) → length ns ≡ 7 → role_number (page_header_from ns).object.role ≡ get_or ns 0 0 → ns ≡ page_header_numbers (page_header_from ns)
+pub page_read : (ns : List ℕ) → length ns ≡ 7 → role_number (page_header_from ns).object.role ≡ get_or ns 0 0 →
+    ns ≡ page_header_numbers (page_header_from ns)
 page_read ns len is = listing 7 0 ns len ∙ ap (λ (m : ℕ). m ∷ listed 1 6 ns) (sym is)
 
-role_back : (r : Role) (owner : ℕ) → (r ≡ role.Page) ⊎ ((r ≡ role.Free) × (owner ≡ 0)) → (if role_number r == 1 then role.Page else role.Free) ≡ r
+role_back : (r : Role) (owner : ℕ) → (r ≡ role.Page) ⊎ ((r ≡ role.Free) × (owner ≡ 0)) →
+    (if role_number r == 1 then role.Page else role.Free) ≡ r
 role_back r owner is = grind (arith, nat_tests)
 
 pub page_back : (age : ℕ) (h : PageHeader) → IsPageHeader age h → page_header_from (page_header_numbers h) ≡ h
@@ -39,11 +41,12 @@ role_small : (r : Role) → role_number r < 2 ^ 64
 role_small r = grind (arith, nat_tests)
 
 -- the numbers of a page's header fit if its fields do
-pub page_fits : (h : PageHeader) → h.object.allocations < 2 ^ 64 → h.object.calls < 2 ^ 64 → h.object.owner < 2 ^ 64 → h.words.a < 2 ^ 64 → h.words.b < 2 ^ 64
-    → h.words.c < 2 ^ 64 → AreWords (page_header_numbers h)
+pub page_fits : (h : PageHeader) → h.object.allocations < 2 ^ 64 → h.object.calls < 2 ^ 64 → h.object.owner < 2 ^ 64 → h.words.a < 2 ^ 64 →
+    h.words.b < 2 ^ 64 → h.words.c < 2 ^ 64 → AreWords (page_header_numbers h)
 page_fits h allocations calls owner a b c =
     let Fits : ℕ → Type 0 = λ n. n < 2 ^ 64 in
-    All-cons Fits (role_number h.object.role) (h.object.allocations ∷ h.object.calls ∷ h.object.owner ∷ h.words.a ∷ h.words.b ∷ h.words.c ∷ [])
+    All-cons Fits (role_number h.object.role) (h.object.allocations ∷ h.object.calls ∷ h.object.owner ∷ h.words.a ∷ h.words.b ∷ h.words.c ∷
+    [])
     (role_small h.object.role) (
     All-cons Fits h.object.allocations (h.object.calls ∷ h.object.owner ∷ h.words.a ∷ h.words.b ∷ h.words.c ∷ []) allocations (
     All-cons Fits h.object.calls (h.object.owner ∷ h.words.a ∷ h.words.b ∷ h.words.c ∷ []) calls (

@@ -24,7 +24,8 @@ unit_more number seal root result us is was =
     ∙ same_sums (weighed (root_of us) w seal) (root_of (unit_of number seal ∷ us)) (sum_more (units_total (λ s. s.a) us) (w * seal.a))
     (sum_more (units_total (λ s. s.b) us) (w * seal.b)) (sum_more (units_total (λ s. s.c) us) (w * seal.c))
 
-pub sector_more : (seal sums result : Sums) (ss : List Sums) → result ≡ weighed sums 1 seal → sums ≡ directory_sums ss → result ≡ directory_sums (seal ∷ ss)
+pub sector_more : (seal sums result : Sums) (ss : List Sums) → result ≡ weighed sums 1 seal → sums ≡ directory_sums ss →
+    result ≡ directory_sums (seal ∷ ss)
 unfolding directory_sums
 sector_more seal sums result ss is was =
     is ∙ ap (λ (r : Sums). weighed r 1 seal) was
@@ -102,7 +103,8 @@ same_part t u a b fa fb e =
     ]
 
 -- the place of a unit doesn't matter
-total_moved : (part : Sums → ℕ) (before after : List Unit) (u : Unit) → units_total part (before ++ u ∷ after) ≡ units_total part (u ∷ before ++ after)
+total_moved : (part : Sums → ℕ) (before after : List Unit) (u : Unit) → units_total part (before ++ u ∷ after)
+    ≡ units_total part (u ∷ before ++ after)
 total_moved part [] after u = refl
 total_moved part (x ∷ before) after u = omega (arith, total_moved part before after u)
 
@@ -125,7 +127,8 @@ one_old_unit before after n s t fs ft e =
     (same_part (units_total (λ x. x.b) rest) n s.b t.b fs.b ft.b (ap (λ (r : Sums). r.b) same))
     (same_part (units_total (λ x. x.c) rest) n s.c t.c fs.c ft.c (ap (λ (r : Sums). r.c) same))
 
-seals_moved : (part : Sums → ℕ) (before after : List Sums) (s : Sums) → seals_total part (before ++ s ∷ after) ≡ part s + seals_total part (before ++ after)
+seals_moved : (part : Sums → ℕ) (before after : List Sums) (s : Sums) → seals_total part (before ++ s ∷ after)
+    ≡ part s + seals_total part (before ++ after)
 seals_moved part [] after s = refl
 seals_moved part (x ∷ before) after s = omega (arith, seals_moved part before after s)
 

@@ -58,8 +58,8 @@ length_words [] = refl
 length_words (n ∷ ns) = omega (arith, length-append (number n) (words_bytes ns), length-number n, length_words ns)
 
 -- the first i numbers are those of the first bytes
-words_taken : (bytes ns : List ℕ) → IsBytes bytes → length bytes ≡ 8 * length ns → IsRead little_number 8 bytes ns → (i : ℕ) → i ≤ length ns →
-    take (8 * i) bytes ≡ words_bytes (take i ns)
+words_taken : (bytes ns : List ℕ) → IsBytes bytes → length bytes ≡ 8 * length ns → IsRead little_number 8 bytes ns → (i : ℕ) →
+    i ≤ length ns → take (8 * i) bytes ≡ words_bytes (take i ns)
 words_taken bytes ns small size read zero le = sym no_words
 words_taken bytes ns small size read (suc i) le =
     let next : 8 * suc i ≡ 8 * i + 8 = omega arith in
@@ -73,7 +73,8 @@ words_taken bytes ns small size read (suc i) le =
     ∙ ap (λ (r : List ℕ). r ++ take 8 (drop (8 * i) bytes)) (words_taken bytes ns small size read i (omega (arith, le)))
     ∙ ap (λ (r : List ℕ). words_bytes (take i ns) ++ r) piece ∙ sym (words_push (take i ns) n) ∙ ap words_bytes (sym more)
 
-pub words_read : (bytes ns : List ℕ) → IsBytes bytes → length bytes ≡ 8 * length ns → IsRead little_number 8 bytes ns → bytes ≡ words_bytes ns
+pub words_read : (bytes ns : List ℕ) → IsBytes bytes → length bytes ≡ 8 * length ns → IsRead little_number 8 bytes ns →
+    bytes ≡ words_bytes ns
 words_read bytes ns small size read =
     sym (take_all (8 * length ns) bytes (omega (arith, size))) ∙ words_taken bytes ns small size read (length ns) (omega arith)
     ∙ ap words_bytes (take_all (length ns) ns (omega arith))
@@ -82,7 +83,8 @@ pub words_fit : (bytes ns : List ℕ) → IsBytes bytes → IsRead little_number
 words_fit bytes ns small read k d lt = grind (arith, nat_tests, get_or-drop, get_or_default)
 
 -- their bytes decide numbers, whatever follows
-pub words_split : (ms ns x y : List ℕ) → AreWords ms → AreWords ns → length ms ≡ length ns → words_bytes ms ++ x ≡ words_bytes ns ++ y → ms ≡ ns
+pub words_split : (ms ns x y : List ℕ) → AreWords ms → AreWords ns → length ms ≡ length ns → words_bytes ms ++ x ≡ words_bytes ns ++ y →
+    ms ≡ ns
 words_split ms ns x y fm fn len e =
     let fronts : words_bytes ms ≡ words_bytes ns =
     sym (take_at (words_bytes ms) x (8 * length ns) (length_words ms ∙ ap (λ (n : ℕ). 8 * n) len)) ∙ ap (take (8 * length ns)) e
@@ -95,7 +97,13 @@ abbrev pub body_with : List ℕ → List ℕ
 body_with ns = words_bytes ns ++ zeros (488 - 8 * length ns)
 
 pub length_body : (ns : List ℕ) → length ns ≤ 61 → length (body_with ns) ≡ 488
-length_body ns few = omega (arith, length-append (words_bytes ns) (zeros (488 - 8 * length ns)), length_words ns, length-zeros (488 - 8 * length ns), few)
+length_body ns few = omega (
+  arith,
+  length-append (words_bytes ns) (zeros (488 - 8 * length ns)),
+  length_words ns,
+  length-zeros (488 - 8 * length ns),
+  few,
+)
 
 zeros_apart : (m n : ℕ) → zeros (m + n) ≡ zeros m ++ zeros n
 unfolding zeros
@@ -112,8 +120,8 @@ body_written ns row few e =
     omega (arith, ap length whole, length-append (body_with ns) (zeros 24), length_body ns few, length-zeros 24) in
     ap (λ (n : ℕ). take n row) size ∙ ap (take 488) whole ∙ take_at (body_with ns) (zeros 24) 488 (length_body ns few)
 
-pub sector_written : (ns filled put row : List ℕ) → length ns ≤ 61 → filled ≡ zeros 512 → put ≡ words_bytes ns ++ drop (8 * length ns) filled
-    → IsSealed row → body_of row ≡ body_of put → row ≡ sector_bytes ns
+pub sector_written : (ns filled put row : List ℕ) → length ns ≤ 61 → filled ≡ zeros 512 →
+    put ≡ words_bytes ns ++ drop (8 * length ns) filled → IsSealed row → body_of row ≡ body_of put → row ≡ sector_bytes ns
 unfolding sector_bytes
 sector_written ns filled put row few blank written is same =
     let rest : drop (8 * length ns) filled ≡ zeros (512 - 8 * length ns) = drop_filled filled 512 (8 * length ns) blank in
@@ -170,7 +178,8 @@ sector_front ns =
     ∙ take_at (words_bytes ns) (zeros (488 - 8 * length ns) ++ seal) (8 * length ns) (length_words ns)
 
 -- given bytes are those of one list of numbers
-pub one_sector : (ms ns : List ℕ) → length ms ≡ length ns → length ns ≤ 61 → AreWords ms → AreWords ns → sector_bytes ms ≡ sector_bytes ns → ms ≡ ns
+pub one_sector : (ms ns : List ℕ) → length ms ≡ length ns → length ns ≤ 61 → AreWords ms → AreWords ns → sector_bytes ms ≡ sector_bytes ns →
+    ms ≡ ns
 one_sector ms ns len few fm fn e =
     let front : take (8 * length ns) (sector_bytes ns) ≡ words_bytes ms =
     ap (take (8 * length ns)) (sym e) ∙ ap (λ (n : ℕ). take (8 * n) (sector_bytes ms)) (sym len) ∙ sector_front ms in
@@ -193,7 +202,8 @@ listing (suc n) at ns len =
     drop-cons ns at 0 (omega (arith, len)) ∙ ap (λ (t : List ℕ). get_or ns at 0 ∷ t) (listing n (suc at) ns (omega (arith, len)))
 
 -- the seal that was read from a sector
-pub seal_read : (row : List ℕ) (s : Sums) → length row ≡ 512 → drop 488 row ≡ sums_bytes s ++ drop (488 + 24) row → seal_of row ≡ sums_bytes s
+pub seal_read : (row : List ℕ) (s : Sums) → length row ≡ 512 → drop 488 row ≡ sums_bytes s ++ drop (488 + 24) row →
+    seal_of row ≡ sums_bytes s
 seal_read row s size read =
     ap (λ (n : ℕ). drop (n - 24) row) size ∙ read ∙ ap (λ (t : List ℕ). sums_bytes s ++ t) (drop_all 512 row (omega (arith, size)))
     ∙ append-nil (sums_bytes s)

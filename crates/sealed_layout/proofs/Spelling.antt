@@ -33,7 +33,8 @@ pub one_directory_sector : SpellOneSector
 unfolding entries_bytes
 one_directory_sector ds es len few fd fe e =
     let lens : length (entry_numbers ds) ≡ length (entry_numbers es) = omega (arith, length_numbers ds, length_numbers es, len) in
-    one_list ds es (one_sector (entry_numbers ds) (entry_numbers es) lens (omega (arith, length_numbers es, few)) (numbers_fit ds fd) (numbers_fit es fe) e)
+    one_list ds es (one_sector (entry_numbers ds) (entry_numbers es) lens (omega (arith, length_numbers es, few)) (numbers_fit ds fd)
+    (numbers_fit es fe) e)
 
 -- the numbers of ranges decide them
 one_ranges : (qs rs : List HomeRange) → range_numbers qs ≡ range_numbers rs → qs ≡ rs
@@ -49,7 +50,8 @@ one_ranges (q ∷ qs) (r ∷ rs) e =
 pub one_superblock : SpellOneSuperblock
 unfolding superblock_bytes
 one_superblock p q qs rs eq er fp fq e =
-    let lens : length (superblock_numbers p qs) ≡ length (superblock_numbers q rs) = omega (arith, length_ranges qs, length_ranges rs, eq, er) in
+    let lens : length (superblock_numbers p qs) ≡ length (superblock_numbers q rs) =
+    omega (arith, length_ranges qs, length_ranges rs, eq, er) in
     let few : length (superblock_numbers q rs) ≤ 61 = omega (arith, length_ranges rs, er) in
     let same = one_sector (superblock_numbers p qs) (superblock_numbers q rs) lens few fp fq e in
     (sym (row_back p qs) ∙ ap row_from same ∙ row_back q rs, one_ranges qs rs (ap (λ (ns : List ℕ). drop 8 ns) same))

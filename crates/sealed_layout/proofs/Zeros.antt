@@ -75,7 +75,8 @@ zero_cluster : (nodes : ℕ) → IsCluster nodes (zeros 4096)
 zero_cluster nodes = record {
   seal = zero_sealed 4096 (omega arith);
   blank =
-      ap (take (4072 - 800 * nodes)) (zeros_behind (800 * nodes) 4096) ∙ zeros_front (4072 - 800 * nodes) (4096 - 800 * nodes) (omega arith);
+      ap (take (4072 - 800 * nodes)) (zeros_behind (800 * nodes) 4096) ∙ zeros_front (4072 - 800 * nodes) (4096 - 800 * nodes)
+      (omega arith);
 }
 
 pub zeros_free : ZerosAreFree

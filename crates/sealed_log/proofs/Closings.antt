@@ -39,12 +39,14 @@ closed_gate j c zero_there =
     no_number (slots_in c j).gate
     (λ n is. closed_has_none n (subst (λ (row : List ℕ). HasNumber row n) zero_there (((are_slots c).gate j n).0 is)))
 
-closes : (j : ℕ) (d c : Image) → Elsewhere (gate_sector j) 1 d c → c (gate_sector j) ≡ gate_bytes 0 → ClosesGateOf j (slots_in d) (slots_in c)
+closes : (j : ℕ) (d c : Image) → Elsewhere (gate_sector j) 1 d c → c (gate_sector j) ≡ gate_bytes 0 →
+    ClosesGateOf j (slots_in d) (slots_in c)
 closes j d c torn zero_there = record { torn = tears j d c torn; closed = closed_gate j c zero_there }
 
 -- ---- the image while one gate after another is closed
 
-pub commits_by : (c : Image) (h : SealedHeader) → Opens (slots_in c) h.header.sequence (header_bytes h) → (d : Image) → Commits d h → Commits c h
+pub commits_by : (c : Image) (h : SealedHeader) → Opens (slots_in c) h.header.sequence (header_bytes h) → (d : Image) → Commits d h →
+    Commits c h
 commits_by c h opens d is = record { slots = slots_in c; are = are_slots c; opens = opens; fits = is.fits }
 
 spared : (j : ℕ) → j < 3 → (d c : Image) → Elsewhere (gate_sector j) 1 d c → (i : ℕ) → ((k : ℕ) → k < 3 → i ≡ gate_sector k → ⊥) → c i ≡ d i
@@ -58,56 +60,76 @@ module _ (image : Image) (o : Order) (ordered : IsOrderOf image o) where
   first_keeps c torn = record {
     elsewhere = spared o.first order.first_low image c torn;
     committed = λ h is.
-        commits_by image h (first_opens (slots_in image) o order (slots_in c) h.header.sequence (header_bytes h) (tears o.first image c torn) (opens_in c h is))
+        commits_by image h (first_opens (slots_in image) o order (slots_in c) h.header.sequence (header_bytes h)
+        (tears o.first image c torn) (opens_in c h is))
         c is;
   }
 
-  module _ (one : Image) (first : Elsewhere (gate_sector o.first) 1 image one) (first_closed : one (gate_sector o.first) ≡ gate_bytes 0) where
-    closes_first : ClosesGateOf o.first (slots_in image) (slots_in one)
-    closes_first = closes o.first image one first first_closed
+  module _ (one : Image) (first : Elsewhere (gate_sector o.first) 1 image one) (first_closed : one (gate_sector o.first) ≡ gate_bytes 0)
+    where
+      closes_first : ClosesGateOf o.first (slots_in image) (slots_in one)
+      closes_first = closes o.first image one first first_closed
 
-    pub second_keeps : (c : Image) → Elsewhere (gate_sector o.second) 1 one c → KeepsOrHasNone image c
-    second_keeps c torn = record {
-      elsewhere = λ i other. spared o.second order.second_low one c torn i other ∙ spared o.first order.first_low image one first i other;
-      committed = λ h is.
-          commits_by image h (second_opens (slots_in image) o order (slots_in one) (slots_in c) h.header.sequence (header_bytes h) closes_first
-          (tears o.second one c torn) (opens_in c h is)) c is;
-    }
-
-    module _ (two : Image) (second : Elsewhere (gate_sector o.second) 1 one two) (second_closed : two (gate_sector o.second) ≡ gate_bytes 0) where
-      closes_second : ClosesGateOf o.second (slots_in one) (slots_in two)
-      closes_second = closes o.second one two second second_closed
-
-      pub third_keeps : (c : Image) → Elsewhere (gate_sector o.third) 1 two c → KeepsOrHasNone image c
-      third_keeps c torn = record {
-        elsewhere = λ i other.
-            spared o.third order.third_low two c torn i other ∙ spared o.second order.second_low one two second i other
-            ∙ spared o.first order.first_low image one first i other;
+      pub second_keeps : (c : Image) → Elsewhere (gate_sector o.second) 1 one c → KeepsOrHasNone image c
+      second_keeps c torn = record {
+        elsewhere = λ i other. spared o.second order.second_low one c torn i other ∙ spared o.first order.first_low image one first i other;
         committed = λ h is.
-            absurd (third_opens (slots_in image) o order (slots_in one) (slots_in two) (slots_in c) h.header.sequence closes_first closes_second
-            (tears o.third two c torn) (opens_in c h is).committed);
+            commits_by image h (second_opens (slots_in image) o order (slots_in one) (slots_in c) h.header.sequence (header_bytes h)
+            closes_first
+            (tears o.second one c torn) (opens_in c h is)) c is;
       }
 
-      pub all_closed : (c : Image) → Elsewhere (gate_sector o.third) 1 two c → c (gate_sector o.third) ≡ gate_bytes 0 → AreClosed c
-      all_closed c third third_closed = λ k low.
-          elim (cases_eq k o.first) [
-            | inl e ↦
-                ap (λ (i : ℕ). c (gate_sector i)) e
-                ∙ beside (gate_sector o.third) (gate_sector o.first) two c third (λ e'. order.first_apart (same_gates o.third o.first e'))
-                ∙ beside (gate_sector o.second) (gate_sector o.first) one two second (λ e'. order.apart (same_gates o.second o.first e'))
-                ∙ first_closed
-            | inr ne ↦
-                elim (cases_eq k o.second) [
-                  | inl e ↦
-                      ap (λ (i : ℕ). c (gate_sector i)) e
-                      ∙ beside (gate_sector o.third) (gate_sector o.second) two c third (λ e'. order.second_apart (same_gates o.third o.second e'))
-                      ∙ second_closed
-                  | inr ne' ↦
-                      let last : k ≡ o.third =
-                      omega (arith, low, ne, ne', order.first_low, order.second_low, order.third_low, order.apart, order.first_apart, order.second_apart) in
-                      ap (λ (i : ℕ). c (gate_sector i)) last ∙ third_closed
-                ]
-          ]
+      module _ (two : Image) (second : Elsewhere (gate_sector o.second) 1 one two)
+          (second_closed : two (gate_sector o.second) ≡ gate_bytes 0)
+        where
+          closes_second : ClosesGateOf o.second (slots_in one) (slots_in two)
+          closes_second = closes o.second one two second second_closed
+
+          pub third_keeps : (c : Image) → Elsewhere (gate_sector o.third) 1 two c → KeepsOrHasNone image c
+          third_keeps c torn = record {
+            elsewhere = λ i other.
+                spared o.third order.third_low two c torn i other ∙ spared o.second order.second_low one two second i other
+                ∙ spared o.first order.first_low image one first i other;
+            committed = λ h is.
+                absurd (third_opens (slots_in image) o order (slots_in one) (slots_in two) (slots_in c) h.header.sequence closes_first
+                closes_second
+                (tears o.third two c torn) (opens_in c h is).committed);
+          }
+
+          pub all_closed : (c : Image) → Elsewhere (gate_sector o.third) 1 two c → c (gate_sector o.third) ≡ gate_bytes 0 → AreClosed c
+          all_closed c third third_closed = λ k low.
+              elim (cases_eq k o.first) [
+                | inl e ↦
+                    ap (λ (i : ℕ). c (gate_sector i)) e
+                    ∙ beside (gate_sector o.third) (gate_sector o.first) two c third
+                    (λ e'. order.first_apart (same_gates o.third o.first e'))
+                    ∙ beside (gate_sector o.second) (gate_sector o.first) one two second
+                    (λ e'. order.apart (same_gates o.second o.first e'))
+                    ∙ first_closed
+                | inr ne ↦
+                    elim (cases_eq k o.second) [
+                      | inl e ↦
+                          ap (λ (i : ℕ). c (gate_sector i)) e
+                          ∙ beside (gate_sector o.third) (gate_sector o.second) two c third
+                          (λ e'. order.second_apart (same_gates o.third o.second e'))
+                          ∙ second_closed
+                      | inr ne' ↦
+                          let last : k ≡ o.third =
+                          omega (
+                            arith,
+                            low,
+                            ne,
+                            ne',
+                            order.first_low,
+                            order.second_low,
+                            order.third_low,
+                            order.apart,
+                            order.first_apart,
+                            order.second_apart,
+                          ) in
+                          ap (λ (i : ℕ). c (gate_sector i)) last ∙ third_closed
+                    ]
+              ]
 
 -- no header is committed without gates
 pub none_committed : (image : Image) → AreClosed image → CommitsNone image
@@ -147,11 +169,13 @@ keeps_same {old} {new} same = subst (KeepsOrHasNone old) (sym (agrees_is new old
 
 -- a sync, which may fail, and reads
 pub peek_run : {old new : Disk} → Peeks old new → LeavesOnly old new (λ c. WasKeptOrHasNone old c)
-peek_run {old} {new} run = leaves_weaker {old = old} {new = new} {P = old.may_leave} (λ c. WasKeptOrHasNone old c) (λ c left. (c, left, untouched)) run
+peek_run {old} {new} run = leaves_weaker {old = old} {new = new} {P = old.may_leave} (λ c. WasKeptOrHasNone old c)
+    (λ c left. (c, left, untouched)) run
 
 -- and what closes the gates after them
 pub closing_run : {old mid new : Disk} → old.may_leave old.seen → Agrees mid.seen old.seen
-    → LeavesOnly old mid (λ c. WasKeptOrHasNone old c) → LeavesOnly mid new (λ c. KeepsOrHasNone mid.seen c) → LeavesOnly old new (λ c. WasKeptOrHasNone old c)
+    → LeavesOnly old mid (λ c. WasKeptOrHasNone old c) → LeavesOnly mid new (λ c. KeepsOrHasNone mid.seen c) →
+    LeavesOnly old new (λ c. WasKeptOrHasNone old c)
 closing_run {old} {mid} {new} left same first second =
     leaves_on {old = old} {mid = mid} {new = new} {P = λ c. WasKeptOrHasNone old c} first
     (leaves_weaker {old = mid} {new = new} {P = λ c. KeepsOrHasNone mid.seen c} (λ c. WasKeptOrHasNone old c)

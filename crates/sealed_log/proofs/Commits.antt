@@ -118,7 +118,8 @@ module _ (before h : SealedHeader) (next : before.header.sequence + 1 ≡ h.head
     gate_written gate =
         let small : h.header.sequence < 2 ^ 64 = fits 1 0 (omega arith) in
         let has : HasNumber (c (gate_at h)) h.header.sequence =
-        subst (λ (row : List ℕ). HasNumber row h.header.sequence) (sym gate) (written_has h.header.sequence (omega (arith, next)) small).0 in
+        subst (λ (row : List ℕ). HasNumber row h.header.sequence) (sym gate) (written_has h.header.sequence (omega (arith, next)) small).0
+        in
         let here : HasNumber (c (gate_sector ((s + 1) % 3))) (s + 1) =
         subst (λ (k : ℕ). HasNumber (c (gate_sector k)) (s + 1)) slot (subst (HasNumber (c (gate_at h))) (sym next) has) in
         is_new (published_commits (slots_in m) (slots_in c) s (header_bytes before) (header_bytes h) (opens_in m before was) (record {
@@ -137,7 +138,8 @@ stays_by seen c before was now = λ g is. subst (λ (h : SealedHeader). Commits 
 pub spares_header : (h : SealedHeader) (d c : Image) → Elsewhere (header_at h) 1 d c → SparesRest h d c
 spares_header h d c torn = λ i other _. beside (header_at h) i d c torn other
 
-is_old : {h : SealedHeader} {disk : Disk} {c : Image} → CommitsOne disk → Precedes disk.seen h → IsTorn (header_at h) 1 disk c → IsOld h disk c
+is_old : {h : SealedHeader} {disk : Disk} {c : Image} → CommitsOne disk → Precedes disk.seen h → IsTorn (header_at h) 1 disk c →
+    IsOld h disk c
 is_old {h} {disk} {c} one next torn = record {
   could_be = (torn.0, torn.1, spares_header h torn.0 c torn.2);
   committed = stays_by disk.seen c next.0 next.1 (header_torn next.0 h next.2 torn.0 c (one torn.0 torn.1 next.0 next.1) torn.2);
@@ -165,9 +167,9 @@ pub record IsReady (h : SealedHeader) (old mid : Disk) : Type 0 where
   pub written : mid.seen (header_at h) ≡ header_bytes h
   pub durable : Only mid.seen mid
 
-pub make_ready : (h : SealedHeader) (at : ℕ) (row : List ℕ) (old mid : Disk) → at ≡ header_at h → AreWords (header_numbers h) → CommitsOne old →
-    Precedes old.seen h → old.may_leave old.seen → Elsewhere at 1 old.seen mid.seen → mid.seen at ≡ row → row ≡ header_bytes h → Only mid.seen mid →
-    IsReady h old mid
+pub make_ready : (h : SealedHeader) (at : ℕ) (row : List ℕ) (old mid : Disk) → at ≡ header_at h → AreWords (header_numbers h) →
+    CommitsOne old → Precedes old.seen h → old.may_leave old.seen → Elsewhere at 1 old.seen mid.seen → mid.seen at ≡ row →
+    row ≡ header_bytes h → Only mid.seen mid → IsReady h old mid
 make_ready h at row old mid place fits one next left torn written is durable = record {
   fits = fits;
   one = one;
@@ -184,13 +186,16 @@ module _ {h : SealedHeader} {old mid : Disk} (ready : IsReady h old mid) where
   still = header_torn ready.next.0 h ready.next.2 old.seen mid.seen ready.next.1 ready.elsewhere
 
   torn_there : {c : Image} → IsTorn (gate_at h) 1 mid c → Elsewhere (gate_at h) 1 mid.seen c
-  torn_there {c} torn = subst (λ (image : Image). Elsewhere (gate_at h) 1 image c) (agrees_is torn.0 mid.seen (ready.durable torn.0 torn.1)) torn.2
+  torn_there {c} torn = subst (λ (image : Image). Elsewhere (gate_at h) 1 image c) (agrees_is torn.0 mid.seen (ready.durable torn.0 torn.1))
+      torn.2
 
   pub spares : {c : Image} → Elsewhere (gate_at h) 1 mid.seen c → SparesRest h old.seen c
-  spares {c} torn = λ i other gate. beside (gate_at h) i mid.seen c torn gate ∙ beside (header_at h) i old.seen mid.seen ready.elsewhere other
+  spares {c} torn = λ i other gate. beside (gate_at h) i mid.seen c torn gate
+      ∙ beside (header_at h) i old.seen mid.seen ready.elsewhere other
 
   stands : {c : Image} → Elsewhere (gate_at h) 1 mid.seen c → c (header_at h) ≡ header_bytes h
-  stands {c} torn = beside (gate_at h) (header_at h) mid.seen c torn (no_gate (h.header.sequence % 3) (h.header.sequence % 3)) ∙ ready.written
+  stands {c} torn = beside (gate_at h) (header_at h) mid.seen c torn (no_gate (h.header.sequence % 3) (h.header.sequence % 3))
+      ∙ ready.written
 
   either : {c : Image} → Elsewhere (gate_at h) 1 mid.seen c → IsOldOrNew h old c
   either {c} torn =
@@ -230,8 +235,9 @@ durable_one disk only = λ c left h is. subst (λ (image : Image). Commits image
 abbrev Fits : ℕ → Type 0
 Fits n = n < 2 ^ 64
 
-pub words_of : (h : SealedHeader) → h.header.sequence < 2 ^ 64 → h.header.generation < 2 ^ 64 → h.header.entries < 2 ^ 64 → h.header.age < 2 ^ 64
-    → h.root.a < 2 ^ 64 → h.root.b < 2 ^ 64 → h.root.c < 2 ^ 64 → h.directory.a < 2 ^ 64 → h.directory.b < 2 ^ 64 → h.directory.c < 2 ^ 64
+pub words_of : (h : SealedHeader) → h.header.sequence < 2 ^ 64 → h.header.generation < 2 ^ 64 → h.header.entries < 2 ^ 64 →
+    h.header.age < 2 ^ 64 → h.root.a < 2 ^ 64 → h.root.b < 2 ^ 64 → h.root.c < 2 ^ 64 → h.directory.a < 2 ^ 64 → h.directory.b < 2 ^ 64 →
+    h.directory.c < 2 ^ 64
     → AreWords (header_numbers h)
 words_of h s g e age a b c x y z =
     let z0 : List ℕ = h.directory.c ∷ [] in

@@ -63,7 +63,8 @@ behind n k rest =
     ∙ ap (drop (8 * k)) (drop_at (number n) rest 8 (length-number n))
 
 -- a number is read from its place
-word_there : (ns rest : List ℕ) (k : ℕ) → AreWords ns → k < length ns → little_number 8 (drop (8 * k) (words_bytes ns ++ rest)) ≡ get_or ns k 0
+word_there : (ns rest : List ℕ) (k : ℕ) → AreWords ns → k < length ns → little_number 8 (drop (8 * k) (words_bytes ns ++ rest))
+    ≡ get_or ns k 0
 unfolding words_bytes
 word_there [] rest k fits lt = absurd (omega (arith, lt))
 word_there (n ∷ ns) rest zero fits lt =
@@ -91,7 +92,8 @@ sector_known ns bytes count fits e =
     ∙ sym (get_or_default ns k d 0 there))
 
 -- the bytes of a header tell which it is
-pub header_known : (h : SealedHeader) (bytes : List ℕ) → AreWords (header_numbers h) → bytes ≡ header_bytes h → header_from (eleven bytes) ≡ h
+pub header_known : (h : SealedHeader) (bytes : List ℕ) → AreWords (header_numbers h) → bytes ≡ header_bytes h →
+    header_from (eleven bytes) ≡ h
 unfolding header_bytes
 header_known h bytes fits e = ap header_from (sector_known (header_numbers h) bytes refl fits e)
 
@@ -108,7 +110,8 @@ sound_or_not bytes =
           elim (words_or_not (header_numbers h)) [
             | inl fits ↦ inl (h.header.sequence, (h, fits, e, refl))
             | inr none ↦
-                inr (λ s is. none (subst (λ (g : SealedHeader). AreWords (header_numbers g)) (sym (header_known is.0 bytes is.1 is.2)) is.1))
+                inr (λ s is. none (subst (λ (g : SealedHeader). AreWords (header_numbers g)) (sym (header_known is.0 bytes is.1 is.2))
+                is.1))
           ]
       | inr other ↦ inr (λ s is. other (is.2 ∙ ap header_bytes (sym (header_known is.0 bytes is.1 is.2))))
     ]

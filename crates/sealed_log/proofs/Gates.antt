@@ -44,7 +44,8 @@ gate_stays : (slot k : ℕ) (old new : Slots) → TearsGateOf slot old new → (
 gate_stays slot k old new torn other = ap (λ (it : Slot). it.gate) (torn.others k other)
 
 -- the gate of header t + 1 is that of a slot with another number
-other_gate : (slots : Slots) (m t : ℕ) → Counts slots m → (t + 1) % 3 ≡ m % 3 → (t + 1 ≡ m → ⊥) → (slots ((t + 1) % 3)).gate ≡ Some (t + 1) → ⊥
+other_gate : (slots : Slots) (m t : ℕ) → Counts slots m → (t + 1) % 3 ≡ m % 3 → (t + 1 ≡ m → ⊥) →
+    (slots ((t + 1) % 3)).gate ≡ Some (t + 1) → ⊥
 other_gate slots m t is e other gate = other (same_Some (t + 1) m (sym gate ∙ ap (λ (k : ℕ). (slots k).gate) e ∙ is.gate))
 
 -- ---- in order
@@ -141,68 +142,93 @@ module _ (old : Slots) (o : Order) (is : IsOrder old o) where
         }
 
   -- ---- the first gate is closed, and the second is torn
-  module _ (one new : Slots) (closed : ClosesGateOf o.first old one) (torn : TearsGateOf o.second one new) (t : ℕ) (now : IsCommitted new t) where
-    stay : HeadersStay old new
-    stay = both_stay old one new (headers_stay o.first old one closed.torn) (headers_stay o.second one new torn)
+  module _ (one new : Slots) (closed : ClosesGateOf o.first old one) (torn : TearsGateOf o.second one new) (t : ℕ) (now : IsCommitted new t)
+    where
+      stay : HeadersStay old new
+      stay = both_stay old one new (headers_stay o.first old one closed.torn) (headers_stay o.second one new torn)
 
-    not_first : (n : ℕ) → Counts new n → n % 3 ≡ o.first → ⊥
-    not_first n it e =
-        closed_out new o.first n (gate_stays o.second o.first one new torn is.apart ∙ closed.closed) it e
+      not_first : (n : ℕ) → Counts new n → n % 3 ≡ o.first → ⊥
+      not_first n it e =
+          closed_out new o.first n (gate_stays o.second o.first one new torn is.apart ∙ closed.closed) it e
 
-    counted_last : (n : ℕ) → Counts new n → n % 3 ≡ o.third → Counts old n
-    counted_last n it e =
-        counts_before o.first old one n closed.torn.others (not_first n it)
-        (counts_before o.second one new n torn.others (λ e'. is.second_apart (sym e' ∙ e)) it)
+      counted_last : (n : ℕ) → Counts new n → n % 3 ≡ o.third → Counts old n
+      counted_last n it e =
+          counts_before o.first old one n closed.torn.others (not_first n it)
+          (counts_before o.second one new n torn.others (λ e'. is.second_apart (sym e' ∙ e)) it)
 
-    second_committed : IsCommitted old t
-    second_committed =
-        let positive : 0 < t = now.pair.positive in
-        let not_t : t % 3 ≡ o.first → ⊥ = not_first t now.pair.counts in
-        let not_before : (t - 1) % 3 ≡ o.first → ⊥ = not_first (t - 1) now.pair.neighbour in
-        elim (cases_eq (t % 3) o.third) [
-          | inl here ↦
-              let before : (t - 1) % 3 ≡ o.second =
-              omega (arith, here, not_before, positive, is.first_low, is.second_low, is.third_low, is.apart, is.first_apart, is.second_apart) in
-              let counts = counted_last t now.pair.counts here in
-              let mid = is.late t here counts in
-              let same : t - 1 ≡ mid.0 = same_number old new mid.0 (t - 1) stay mid.2 now.pair.neighbour (meet ((t - 1) % 3) (mid.0 % 3) o.second before mid.1) in
-              let neighbour : Counts old (t - 1) = subst (λ (k : ℕ). Counts old k) (sym same) mid.2 in
-              let low = is.early (t - 1) before neighbour in
-              let less : low.0 < t - 1 = low.3 in
-              record {
-                pair = record {
-                  positive = now.pair.positive;
-                  counts = counts;
-                  neighbour = neighbour;
-                  greatest = λ n below above.
-                      elim (cases_eq ((n + 1) % 3) (t % 3)) [
-                        | inl e ↦ let same' : n + 1 ≡ t = one_each old (n + 1) t above counts e in omega (arith, same')
-                        | inr ne ↦
-                            elim (cases_eq ((n + 1) % 3) ((t - 1) % 3)) [
-                              | inl e ↦ let same' : n + 1 ≡ t - 1 = one_each old (n + 1) (t - 1) above neighbour e in omega (arith, same')
-                              | inr ne' ↦
-                                  let slot : (n + 1) % 3 ≡ low.0 % 3 =
-                                  omega (arith, ne, ne', low.1, not_t, not_before, positive, is.first_low) in
-                                  let same' : n + 1 ≡ low.0 = one_each old (n + 1) low.0 above low.2 slot in
-                                  omega (arith, same', less)
-                            ]
-                      ];
-                };
-                next =
-                    let slot : (t + 1) % 3 ≡ low.0 % 3 = omega (arith, low.1, not_t, not_before, positive, is.first_low) in
-                    other_gate old low.0 t low.2 slot (λ e. omega (arith, e, less));
-              }
-          | inr elsewhere ↦
-              -- then t - 1 lies in the last slot, and the header in the second has a lesser number than that
-              let here : t % 3 ≡ o.second =
-              omega (arith, elsewhere, not_t, is.first_low, is.second_low, is.third_low, is.apart, is.first_apart, is.second_apart) in
-              let last : (t - 1) % 3 ≡ o.third =
-              omega (arith, here, not_before, positive, is.first_low, is.second_low, is.third_low, is.apart, is.first_apart, is.second_apart) in
-              let mid = is.late (t - 1) last (counted_last (t - 1) now.pair.neighbour last) in
-              let same : t ≡ mid.0 = same_number old new mid.0 t stay mid.2 now.pair.counts (meet (t % 3) (mid.0 % 3) o.second here mid.1) in
-              let less : mid.0 < t - 1 = mid.3 in
-              absurd (omega (arith, same, less))
-        ]
+      second_committed : IsCommitted old t
+      second_committed =
+          let positive : 0 < t = now.pair.positive in
+          let not_t : t % 3 ≡ o.first → ⊥ = not_first t now.pair.counts in
+          let not_before : (t - 1) % 3 ≡ o.first → ⊥ = not_first (t - 1) now.pair.neighbour in
+          elim (cases_eq (t % 3) o.third) [
+            | inl here ↦
+                let before : (t - 1) % 3 ≡ o.second =
+                omega (
+                  arith,
+                  here,
+                  not_before,
+                  positive,
+                  is.first_low,
+                  is.second_low,
+                  is.third_low,
+                  is.apart,
+                  is.first_apart,
+                  is.second_apart,
+                ) in
+                let counts = counted_last t now.pair.counts here in
+                let mid = is.late t here counts in
+                let same : t - 1 ≡ mid.0 = same_number old new mid.0 (t - 1) stay mid.2 now.pair.neighbour
+                (meet ((t - 1) % 3) (mid.0 % 3) o.second before mid.1) in
+                let neighbour : Counts old (t - 1) = subst (λ (k : ℕ). Counts old k) (sym same) mid.2 in
+                let low = is.early (t - 1) before neighbour in
+                let less : low.0 < t - 1 = low.3 in
+                record {
+                  pair = record {
+                    positive = now.pair.positive;
+                    counts = counts;
+                    neighbour = neighbour;
+                    greatest = λ n below above.
+                        elim (cases_eq ((n + 1) % 3) (t % 3)) [
+                          | inl e ↦ let same' : n + 1 ≡ t = one_each old (n + 1) t above counts e in omega (arith, same')
+                          | inr ne ↦
+                              elim (cases_eq ((n + 1) % 3) ((t - 1) % 3)) [
+                                | inl e ↦ let same' : n + 1 ≡ t - 1 = one_each old (n + 1) (t - 1) above neighbour e in omega (arith, same')
+                                | inr ne' ↦
+                                    let slot : (n + 1) % 3 ≡ low.0 % 3 =
+                                    omega (arith, ne, ne', low.1, not_t, not_before, positive, is.first_low) in
+                                    let same' : n + 1 ≡ low.0 = one_each old (n + 1) low.0 above low.2 slot in
+                                    omega (arith, same', less)
+                              ]
+                        ];
+                  };
+                  next =
+                      let slot : (t + 1) % 3 ≡ low.0 % 3 = omega (arith, low.1, not_t, not_before, positive, is.first_low) in
+                      other_gate old low.0 t low.2 slot (λ e. omega (arith, e, less));
+                }
+            | inr elsewhere ↦
+                -- then t - 1 lies in the last slot, and the header in the second has a lesser number than that
+                let here : t % 3 ≡ o.second =
+                omega (arith, elsewhere, not_t, is.first_low, is.second_low, is.third_low, is.apart, is.first_apart, is.second_apart) in
+                let last : (t - 1) % 3 ≡ o.third =
+                omega (
+                  arith,
+                  here,
+                  not_before,
+                  positive,
+                  is.first_low,
+                  is.second_low,
+                  is.third_low,
+                  is.apart,
+                  is.first_apart,
+                  is.second_apart,
+                ) in
+                let mid = is.late (t - 1) last (counted_last (t - 1) now.pair.neighbour last) in
+                let same : t ≡ mid.0 = same_number old new mid.0 t stay mid.2 now.pair.counts (meet (t % 3) (mid.0 % 3) o.second here mid.1)
+                in
+                let less : mid.0 < t - 1 = mid.3 in
+                absurd (omega (arith, same, less))
+          ]
 
   -- ---- with two gates closed no header is committed
   two_closed : (x : Slots) (t : ℕ) → (x o.first).gate ≡ None → (x o.second).gate ≡ None → IsCommitted x t → ⊥
@@ -222,15 +248,15 @@ module _ (old : Slots) (o : Order) (is : IsOrder old o) where
     bytes = sym (headers_stay o.first old new torn (t % 3)).1 ∙ opens.bytes;
   }
 
-  pub second_opens : (one new : Slots) (t : ℕ) (row : List ℕ) → ClosesGateOf o.first old one → TearsGateOf o.second one new → Opens new t row →
-      Opens old t row
+  pub second_opens : (one new : Slots) (t : ℕ) (row : List ℕ) → ClosesGateOf o.first old one → TearsGateOf o.second one new →
+      Opens new t row → Opens old t row
   second_opens one new t row closed torn opens = record {
     committed = second_committed one new closed torn t opens.committed;
     bytes = sym (stay one new closed torn t opens.committed (t % 3)).1 ∙ opens.bytes;
   }
 
-  pub third_opens : (one two new : Slots) (t : ℕ) → ClosesGateOf o.first old one → ClosesGateOf o.second one two → TearsGateOf o.third two new →
-      IsCommitted new t → ⊥
+  pub third_opens : (one two new : Slots) (t : ℕ) → ClosesGateOf o.first old one → ClosesGateOf o.second one two →
+      TearsGateOf o.third two new → IsCommitted new t → ⊥
   third_opens one two new t first second torn now =
       two_closed new t
       (gate_stays o.third o.first two new torn is.first_apart ∙ gate_stays o.second o.first one two second.torn is.apart ∙ first.closed)

@@ -151,11 +151,13 @@ has_none image xs room bad.BadBank read none = absurd none
 
 -- ---- the committed header is there
 
-counted : (xs : List HeaderSlot) (s : ℕ) (d : HeaderSlot) → length xs ≡ 3 → IsCommitted (numbered xs) s → number_of (get_or xs (s % 3) d).header ≡ Some s
+counted : (xs : List HeaderSlot) (s : ℕ) (d : HeaderSlot) → length xs ≡ 3 → IsCommitted (numbered xs) s →
+    number_of (get_or xs (s % 3) d).header ≡ Some s
 counted xs s d size is =
     ap (λ (it : SlotNumbers). it.header) (sym (get_or-map numbers_of xs (s % 3) d no_numbers (omega (arith, size)))) ∙ is.pair.counts.header
 
-pub none_there : (xs : List HeaderSlot) (s : ℕ) (d : HeaderSlot) → length xs ≡ 3 → IsCommitted (numbered xs) s → (get_or xs (s % 3) d).header ≡ None → ⊥
+pub none_there : (xs : List HeaderSlot) (s : ℕ) (d : HeaderSlot) → length xs ≡ 3 → IsCommitted (numbered xs) s →
+    (get_or xs (s % 3) d).header ≡ None → ⊥
 none_there xs s d size is none =
     let lost : None ≡ Some s = ap number_of (sym none) ∙ counted xs s d size is in
     cc
@@ -170,12 +172,12 @@ pub refused_by : (xs : List HeaderSlot) (room : ℕ) (why : NotCommitted) → Is
 refused_by xs room NoPair is = is
 refused_by xs room NextGate is = inl is
 
-pub beyond_by : (xs : List HeaderSlot) (room : ℕ) (h : SealedHeader) (within : Bool) → IsChosen xs h → (IsTrue within ↔ IsWithinLimits room h.header)
-    → within ≡ false → HasNoneBy xs room bad.BadHeader
+pub beyond_by : (xs : List HeaderSlot) (room : ℕ) (h : SealedHeader) (within : Bool) → IsChosen xs h →
+    (IsTrue within ↔ IsWithinLimits room h.header) → within ≡ false → HasNoneBy xs room bad.BadHeader
 beyond_by xs room h within chosen means no_more = inr (h, chosen, λ fits. false≢true (sym no_more ∙ means.1 fits))
 
-pub header_by : (image : Image) (xs : List HeaderSlot) (room : ℕ) (h : SealedHeader) → AreRead image xs → IsChosen xs h → IsWithinLimits room h.header →
-    HasHeader image room h
+pub header_by : (image : Image) (xs : List HeaderSlot) (room : ℕ) (h : SealedHeader) → AreRead image xs → IsChosen xs h →
+    IsWithinLimits room h.header → HasHeader image room h
 header_by image xs room h read chosen fits = record { committed = chosen_commits image xs h read chosen; fits = fits }
 
 -- ---- the order of closing

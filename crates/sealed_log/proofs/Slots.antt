@@ -56,20 +56,23 @@ are_slots image = record {
 }
 
 -- the same header sector, the same header
-pub same_header : (c d : Image) (a b : Slots) (k : ℕ) → AreSlots c a → AreSlots d b → c (header_sector k) ≡ d (header_sector k) → (a k).header ≡ (b k).header
+pub same_header : (c d : Image) (a b : Slots) (k : ℕ) → AreSlots c a → AreSlots d b → c (header_sector k) ≡ d (header_sector k) →
+    (a k).header ≡ (b k).header
 same_header c d a b k ia ib e =
     same_option (a k).header (b k).header
     (λ s is. (ib.header k s).1 (subst (λ (bytes : List ℕ). IsSound bytes s) e ((ia.header k s).0 is)))
     (λ s is. (ia.header k s).1 (subst (λ (bytes : List ℕ). IsSound bytes s) (sym e) ((ib.header k s).0 is)))
 
 -- the same gate sector, the same gate
-pub same_gate : (c d : Image) (a b : Slots) (k : ℕ) → AreSlots c a → AreSlots d b → c (gate_sector k) ≡ d (gate_sector k) → (a k).gate ≡ (b k).gate
+pub same_gate : (c d : Image) (a b : Slots) (k : ℕ) → AreSlots c a → AreSlots d b → c (gate_sector k) ≡ d (gate_sector k) →
+    (a k).gate ≡ (b k).gate
 same_gate c d a b k ia ib e =
     same_option (a k).gate (b k).gate
     (λ s is. (ib.gate k s).1 (subst (λ (bytes : List ℕ). HasNumber bytes s) e ((ia.gate k s).0 is)))
     (λ s is. (ia.gate k s).1 (subst (λ (bytes : List ℕ). HasNumber bytes s) (sym e) ((ib.gate k s).0 is)))
 
-pub same_bytes : (c d : Image) (a b : Slots) (k : ℕ) → AreSlots c a → AreSlots d b → c (header_sector k) ≡ d (header_sector k) → (a k).bytes ≡ (b k).bytes
+pub same_bytes : (c d : Image) (a b : Slots) (k : ℕ) → AreSlots c a → AreSlots d b → c (header_sector k) ≡ d (header_sector k) →
+    (a k).bytes ≡ (b k).bytes
 same_bytes c d a b k ia ib e = ia.bytes k ∙ e ∙ sym (ib.bytes k)
 
 abbrev slot_with : Option ℕ → Option ℕ → List ℕ → Slot
@@ -92,7 +95,8 @@ one_slots c a b ia ib = fun_ext (λ k. same_slot c c a b k ia ib refl refl)
 
 pub opens_in : (image : Image) (h : SealedHeader) → Commits image h → Opens (slots_in image) h.header.sequence (header_bytes h)
 opens_in image h is =
-    subst (λ (s : Slots). Opens s h.header.sequence (header_bytes h)) (one_slots image is.slots (slots_in image) is.are (are_slots image)) is.opens
+    subst (λ (s : Slots). Opens s h.header.sequence (header_bytes h)) (one_slots image is.slots (slots_in image) is.are (are_slots image))
+    is.opens
 
 -- an image has one committed header at most
 pub one_commits : (image : Image) (g h : SealedHeader) → Commits image g → Commits image h → g ≡ h
@@ -103,4 +107,5 @@ one_commits image g h a b =
     one_committed (slots_in image) g.header.sequence h.header.sequence first.committed second.committed in
     let bytes : header_bytes g ≡ header_bytes h =
     sym first.bytes ∙ ap (λ (s : ℕ). (slots_in image (s % 3)).bytes) number ∙ second.bytes in
-    sym (header_known g (header_bytes g) a.fits refl) ∙ ap (λ (row : List ℕ). header_from (eleven row)) bytes ∙ header_known h (header_bytes h) b.fits refl
+    sym (header_known g (header_bytes g) a.fits refl) ∙ ap (λ (row : List ℕ). header_from (eleven row)) bytes
+    ∙ header_known h (header_bytes h) b.fits refl

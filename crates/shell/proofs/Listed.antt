@@ -16,9 +16,10 @@ use Rattle.shell.specs.Listing.{AreListed, Lists, end_text, shown_text}
 use Rattle.std.proofs.lemmas.List.{length-append}
 
 module _ {D S : Type 0} (disk : D → Disk) (view : S → View D) (parts : S → Parts) where
-  listed_more : (n m : ℕ) (more : List Answer) (a : Answer) (old mid new : Power D S) (output between output_left : Written) → m ≡ n + length more →
-      AreListed disk view parts n more old mid output between → CarriesOut disk view parts mid (command.Show m) new (Ok a) →
-      Wrote between output_left (shown_text a) → AreListed disk view parts n (more ++ a ∷ []) old new output output_left
+  listed_more : (n m : ℕ) (more : List Answer) (a : Answer) (old mid new : Power D S) (output between output_left : Written) →
+      m ≡ n + length more → AreListed disk view parts n more old mid output between →
+      CarriesOut disk view parts mid (command.Show m) new (Ok a) → Wrote between output_left (shown_text a) →
+      AreListed disk view parts n (more ++ a ∷ []) old new output output_left
   listed_more n m [] a old mid new output between output_left at are carries wrote =
       let here : m ≡ n = omega (arith, at) in (
         new,
@@ -40,8 +41,9 @@ module _ {D S : Type 0} (disk : D → Disk) (view : S → View D) (parts : S →
   pub none_listed : (old : Power D S) (output : Written) → ListedTo 0 old old output output
   none_listed old output = ([], refl, (refl, refl))
 
-  pub more_listed : (n : ℕ) (a : Answer) (old mid new : Power D S) (output between output_left : Written) → ListedTo n old mid output between →
-      CarriesOut disk view parts mid (command.Show n) new (Ok a) → Wrote between output_left (shown_text a) → ListedTo (n + 1) old new output output_left
+  pub more_listed : (n : ℕ) (a : Answer) (old mid new : Power D S) (output between output_left : Written) →
+      ListedTo n old mid output between → CarriesOut disk view parts mid (command.Show n) new (Ok a) →
+      Wrote between output_left (shown_text a) → ListedTo (n + 1) old new output output_left
   more_listed n a old mid new output between output_left (answers, count, are) carries wrote = (
     answers ++ a ∷ [],
     omega (arith, count, length-append answers (a ∷ [])),
@@ -49,9 +51,9 @@ module _ {D S : Type 0} (disk : D → Disk) (view : S → View D) (parts : S →
   )
 
   -- a list ended where a line couldn't be written whole
-  pub list_cut : (n : ℕ) (a : Answer) (e : RunFault) (old mid new : Power D S) (output between output_left : Written) (r : Result (Unit {0}) RunFault) →
-      ListedTo n old mid output between → CarriesOut disk view parts mid (command.Show n) new (Ok a) → r ≡ Err e →
-      Writes between output_left r (shown_text a) → Lists disk view parts old new output output_left r
+  pub list_cut : (n : ℕ) (a : Answer) (e : RunFault) (old mid new : Power D S) (output between output_left : Written)
+      (r : Result (Unit {0}) RunFault) → ListedTo n old mid output between → CarriesOut disk view parts mid (command.Show n) new (Ok a) →
+      r ≡ Err e → Writes between output_left r (shown_text a) → Lists disk view parts old new output output_left r
   list_cut n a e old mid new output between output_left r (answers, count, are) carries failed wrote = (
     answers,
     mid,

@@ -45,7 +45,8 @@ module _ {D S : Type 0} (disk : D → Disk) (view : S → View D) (parts : S →
     stage : (old new : Power D S) (c : Command) (r : Result Answer Refusal) → CarriesOut disk view parts old c new r → Runs old new
     stage old new c r carries m stands = let is = carries g m stands in (is.0 ∷ [], is.1)
 
-    stages : (cs : List Command) (old new : Power D S) (r : Result Answer Refusal) → CarriesOutAll disk view parts old cs new r → Runs old new
+    stages : (cs : List Command) (old new : Power D S) (r : Result Answer Refusal) → CarriesOutAll disk view parts old cs new r →
+        Runs old new
     stages [] old new r carries = absurd carries
     stages (c ∷ []) old new r carries = stage old new c r carries
     stages (c ∷ d ∷ cs) old new r carries = ⊎_elim
@@ -53,7 +54,8 @@ module _ {D S : Type 0} (disk : D → Disk) (view : S → View D) (parts : S →
         (λ goes. joins old goes.0 new (stage old goes.0 c (Ok goes.1) goes.2) (stages (d ∷ cs) goes.0 new r goes.3))
         carries
 
-    moves : (committed : Result Answer Refusal) (old new : Power D S) (r : Result Answer Refusal) → Moves disk view parts committed old new r → Runs old new
+    moves : (committed : Result Answer Refusal) (old new : Power D S) (r : Result Answer Refusal) →
+        Moves disk view parts committed old new r → Runs old new
     moves (Ok a) old new r is = stage old new (command.Migrate all_objects) is.0 is.1
     moves (Err why) old new r is = stays old new is.0
 
@@ -76,7 +78,8 @@ module _ {D S : Type 0} (disk : D → Disk) (view : S → View D) (parts : S →
     lists : (old new : Power D S) (output output_left : Written) (r : Result (Unit {0}) RunFault) →
         Lists disk view parts old new output output_left r → Runs old new
     lists old new output output_left r (answers, between, written, are, ends) =
-        joins old between new (listed 0 answers old between output written are) (ends_list (length answers) between new written output_left r ends)
+        joins old between new (listed 0 answers old between output written are)
+        (ends_list (length answers) between new written output_left r ends)
 
     serves : (topics : List Topic) (prompts : Bool) (req : Request) (line : List ℕ) (s t : Session D S) (r : Result Bool RunFault) →
         Serves disk view parts topics prompts req line s t r → Runs s.kernel t.kernel
@@ -89,10 +92,11 @@ module _ {D S : Type 0} (disk : D → Disk) (view : S → View D) (parts : S →
 
     step : (topics : List Topic) (prompts : Bool) (line : List ℕ) (s t : Session D S) (r : Result Bool RunFault) →
         StepsBy disk view parts topics prompts line s t r → Runs s.kernel t.kernel
-    step topics prompts line s t r (prompted, noted, (req, requested, is)) = serves topics prompts req line (record s { notes = prompted }) t r is
+    step topics prompts line s t r (prompted, noted, (req, requested, is)) =
+        serves topics prompts req line (record s { notes = prompted }) t r is
 
-    served : (topics : List Topic) (prompts : Bool) (lines : List (List ℕ)) (s t : Session D S) → AreServed disk view parts topics prompts lines s t →
-        Runs s.kernel t.kernel
+    served : (topics : List Topic) (prompts : Bool) (lines : List (List ℕ)) (s t : Session D S) →
+        AreServed disk view parts topics prompts lines s t → Runs s.kernel t.kernel
     served topics prompts [] s t same = stays s.kernel t.kernel (ap (λ (x : Session D S). x.kernel) same)
     served topics prompts (l ∷ ls) s t is =
         joins s.kernel is.0.kernel t.kernel (step topics prompts l s is.0 (Ok true) is.1) (served topics prompts ls is.0 t is.2)
@@ -105,14 +109,14 @@ module _ {D S : Type 0} (disk : D → Disk) (view : S → View D) (parts : S →
     finishes topics prompts (l ∷ []) ahead s t (Err e) is = step topics prompts l s t (Err e) is
     finishes topics prompts (l ∷ k ∷ ls) ahead s t r is = absurd is
 
-    has_served : (topics : List Topic) (prompts : Bool) (ahead ahead_left : Option (List (List ℕ))) (s t : Session D S) (r : Result (Unit {0}) RunFault) →
-        HasServed disk view parts topics prompts ahead ahead_left s t r → Runs s.kernel t.kernel
+    has_served : (topics : List Topic) (prompts : Bool) (ahead ahead_left : Option (List (List ℕ))) (s t : Session D S)
+        (r : Result (Unit {0}) RunFault) → HasServed disk view parts topics prompts ahead ahead_left s t r → Runs s.kernel t.kernel
     has_served topics prompts ahead ahead_left s t r is =
         joins s.kernel is.2.kernel t.kernel (served topics prompts is.0 s is.2 is.4) (finishes topics prompts is.1 ahead_left is.2 t r is.5)
 
-    begins : (topics : List Topic) (prompts : Bool) (ahead ahead_left : Option (List (List ℕ))) (s t : Session D S) (r : Result (Unit {0}) RunFault) →
-        (begun : Written) × Wrote s.output begun [] × HasServed disk view parts topics prompts ahead ahead_left (record s { output = begun }) t r →
-        Runs s.kernel t.kernel
+    begins : (topics : List Topic) (prompts : Bool) (ahead ahead_left : Option (List (List ℕ))) (s t : Session D S)
+        (r : Result (Unit {0}) RunFault) → (begun : Written) × Wrote s.output begun []
+        × HasServed disk view parts topics prompts ahead ahead_left (record s { output = begun }) t r → Runs s.kernel t.kernel
     begins topics prompts ahead ahead_left s t r (begun, wrote, is) =
         has_served topics prompts ahead ahead_left (record s { output = begun }) t r is
 

@@ -19,7 +19,8 @@ use Rattle.shell.specs.declared.watch.Remark.TheVariants as remark
 
 -- ---- what is said of a turn
 
-pub bad_said : (g : Geometry) (t : Turn) (why : LineFault) → t.reply ≡ BadLine → IsFaultOf t.line why → IsRemark g t t.reply (Some (remark.Fault why))
+pub bad_said : (g : Geometry) (t : Turn) (why : LineFault) → t.reply ≡ BadLine → IsFaultOf t.line why →
+    IsRemark g t t.reply (Some (remark.Fault why))
 bad_said g t why is fault = subst (λ (r : Reply). IsRemark g t r (Some (remark.Fault why))) (sym is) (why, fault, refl)
 
 pub none_said : (g : Geometry) (t : Turn) → t.reply ≡ Nothing → IsRemark g t t.reply None
@@ -74,8 +75,8 @@ module _ {D S : Type 0} (disk : D → Disk) (view : S → View D) (parts : S →
 
   -- the session ended
   pub finished : (their_topics : List Topic) (theirs : Bool) → their_topics ≡ topics → theirs ≡ prompts →
-      (ahead now later : Option (List (List ℕ))) (s mid t : Session D S) (last : List (List ℕ)) (r : Result (Unit {0}) RunFault) → SoFar ahead now s mid →
-      Takes now later last → Finishes disk view parts their_topics theirs last later mid t r →
+      (ahead now later : Option (List (List ℕ))) (s mid t : Session D S) (last : List (List ℕ)) (r : Result (Unit {0}) RunFault) →
+      SoFar ahead now s mid → Takes now later last → Finishes disk view parts their_topics theirs last later mid t r →
       HasServed disk view parts topics prompts ahead later s t r
   finished their_topics theirs same_topics same_prompts ahead now later s mid t last r so_far takes ends = (
     so_far.0,
@@ -88,6 +89,6 @@ module _ {D S : Type 0} (disk : D → Disk) (view : S → View D) (parts : S →
   )
 
   -- what had been written couldn't be passed on
-  pub not_begun : (ahead : Option (List (List ℕ))) (s : Session D S) (last : Written) (e : RunFault) → e ≡ fault.Write → WroteFront s.output last [] →
-      ServesFrom disk view parts topics prompts ahead ahead s (record s { output = last }) (Err e)
+  pub not_begun : (ahead : Option (List (List ℕ))) (s : Session D S) (last : Written) (e : RunFault) → e ≡ fault.Write →
+      WroteFront s.output last [] → ServesFrom disk view parts topics prompts ahead ahead s (record s { output = last }) (Err e)
   not_begun ahead s last e is failed = inr (rw is refl, refl, failed, refl)

@@ -51,7 +51,8 @@ from_joined c (d ∷ begun) rest = ap (onto_first c) (from_joined d begun rest) 
 -- a line of more than 256 bytes is read as its first 257
 read_long : (begun more : List ℕ) → 257 ≤ length begun → read_as (begun ++ more) ≡ take 257 begun
 read_long begun more full =
-    let long : nat_lt 256 (length (begun ++ more)) ≡ true = lt-ltb 256 (length (begun ++ more)) (omega (arith, full, length-append begun more)) in
+    let long : nat_lt 256 (length (begun ++ more)) ≡ true = lt-ltb 256 (length (begun ++ more))
+    (omega (arith, full, length-append begun more)) in
     rw long (take-append-le 257 begun more full)
 
 read_begun : (begun : List ℕ) → 257 ≤ length begun → read_as begun ≡ take 257 begun
@@ -63,11 +64,13 @@ dropped begun b [] full = ap (λ (l : List ℕ). l ∷ []) (read_long begun (b �
 dropped begun b (l ∷ ls) full =
     ap (λ (k : List ℕ). k ∷ map read_as ls) (read_long begun (b ∷ l) full ∙ sym (read_long begun l full))
 
-byte_dropped : (begun rest : List ℕ) (b : ℕ) → b ≢ 10 → 257 ≤ length begun → map read_as (lines_from begun (b ∷ rest)) ≡ map read_as (lines_from begun rest)
+byte_dropped : (begun rest : List ℕ) (b : ℕ) → b ≢ 10 → 257 ≤ length begun →
+    map read_as (lines_from begun (b ∷ rest)) ≡ map read_as (lines_from begun rest)
 byte_dropped [] rest b other full = absurd (omega (arith, full))
 byte_dropped (c ∷ begun) rest b other full =
     let differs : (b == 10) ≡ false = grind (arith, nat_tests) in
-    ap (map read_as) (from_joined c begun (b ∷ rest)) ∙ rw differs (dropped (c ∷ begun) b (lines_of rest) full) ∙ sym (ap (map read_as) (from_joined c begun rest))
+    ap (map read_as) (from_joined c begun (b ∷ rest)) ∙ rw differs (dropped (c ∷ begun) b (lines_of rest) full)
+    ∙ sym (ap (map read_as) (from_joined c begun rest))
 
 -- at the end of the input what was read is the last line
 at_end : (begun : List ℕ) → lines_from begun [] ≡ lines_to end.Input begun
@@ -78,10 +81,12 @@ at_end (c ∷ begun) = from_joined c begun []
 
 module _ (first : Option (List (List ℕ))) (begun : List ℕ) where
   -- nothing was read
-  pub none_read : (old new : Option (List ℕ)) → Consumes old new [] → Takes first (lines_ahead begun old) [] → Takes first (lines_ahead begun new) []
+  pub none_read : (old new : Option (List ℕ)) → Consumes old new [] → Takes first (lines_ahead begun old) [] →
+      Takes first (lines_ahead begun new) []
   none_read old new = nothing first old new
     where
-      nothing : (f : Option (List (List ℕ))) (o n : Option (List ℕ)) → Consumes o n [] → Takes f (lines_ahead begun o) [] → Takes f (lines_ahead begun n) []
+      nothing : (f : Option (List (List ℕ))) (o n : Option (List ℕ)) → Consumes o n [] → Takes f (lines_ahead begun o) [] →
+          Takes f (lines_ahead begun n) []
       nothing None o n read takes = tt
       nothing (Some ls) None n read takes = absurd takes
       nothing (Some ls) (Some xs) None read takes = absurd read
@@ -98,7 +103,8 @@ module _ (first : Option (List (List ℕ))) (begun : List ℕ) where
           (λ full. byte_dropped begun rest b other full.0 ∙ ap (λ (l : List ℕ). map read_as (lines_from l rest)) (sym full.1))
           is
 
-      more : (f : Option (List (List ℕ))) (o n : Option (List ℕ)) → Consumes o n (b ∷ []) → Takes f (lines_ahead begun o) [] → Takes f (lines_ahead after n) []
+      more : (f : Option (List (List ℕ))) (o n : Option (List ℕ)) → Consumes o n (b ∷ []) → Takes f (lines_ahead begun o) [] →
+          Takes f (lines_ahead after n) []
       more None o n read takes = tt
       more (Some ls) None n read takes = absurd takes
       more (Some ls) (Some xs) None read takes = absurd read
@@ -139,8 +145,8 @@ pub line_taken : (old : Option (List (List ℕ))) (rest : Option (List ℕ)) (li
     (e ≡ end.Input → line ≡ [] → ⊥) → Takes old (lines_ahead [] rest) (read_as line ∷ [])
 line_taken old rest line e reads some = taken e line reads.0 some
   where
-    taken : (e : LineEnd) (line : List ℕ) → Takes old (lines_ahead [] rest) (map read_as (lines_to e line)) → (e ≡ end.Input → line ≡ [] → ⊥) →
-        Takes old (lines_ahead [] rest) (read_as line ∷ [])
+    taken : (e : LineEnd) (line : List ℕ) → Takes old (lines_ahead [] rest) (map read_as (lines_to e line)) →
+        (e ≡ end.Input → line ≡ [] → ⊥) → Takes old (lines_ahead [] rest) (read_as line ∷ [])
     taken end.Newline line takes some = takes
     taken end.Input [] takes some = absurd (some refl refl)
     taken end.Input (b ∷ bs) takes some = takes
@@ -168,15 +174,15 @@ none_ahead : (rest : Option (List ℕ)) → IsAtEnd rest → NoneAhead (lines_ah
 none_ahead None ends = tt
 none_ahead (Some xs) ends = ap (λ (t : List ℕ). map read_as (lines_of t)) ends
 
-pub none_taken : (old : Option (List (List ℕ))) (rest : Option (List ℕ)) (line : List ℕ) (e : LineEnd) → ReadsLine old rest line e → e ≡ end.Input →
-    line ≡ [] → Takes old (lines_ahead [] rest) [] × NoneAhead (lines_ahead [] rest)
+pub none_taken : (old : Option (List (List ℕ))) (rest : Option (List ℕ)) (line : List ℕ) (e : LineEnd) → ReadsLine old rest line e →
+    e ≡ end.Input → line ≡ [] → Takes old (lines_ahead [] rest) [] × NoneAhead (lines_ahead [] rest)
 none_taken old rest line e reads ended empty =
     let read = subst (λ (l : List ℕ). ReadsLine old rest l end.Input) empty (subst (ReadsLine old rest line) ended reads) in
     (read.0, none_ahead rest read.1)
 
 -- a byte alone
-pub one_byte : (old new : Option (List ℕ)) (bytes : List ℕ) (p : Piece) (b d : ℕ) → ReadsPiece old new bytes (Ok p) → p ≡ piece.Bytes 1 → length bytes ≡ 1 →
-    slice_index_or bytes 0 d ≡ b → Consumes old new (b ∷ [])
+pub one_byte : (old new : Option (List ℕ)) (bytes : List ℕ) (p : Piece) (b d : ℕ) → ReadsPiece old new bytes (Ok p) → p ≡ piece.Bytes 1 →
+    length bytes ≡ 1 → slice_index_or bytes 0 d ≡ b → Consumes old new (b ∷ [])
 one_byte old new [] p b d reads is one at = absurd (omega (arith, one))
 one_byte old new (x ∷ []) p b d reads is one at =
     subst (λ (y : ℕ). Consumes old new (y ∷ [])) at (subst (λ (q : Piece). ReadsPiece old new (x ∷ []) (Ok q)) is reads).1

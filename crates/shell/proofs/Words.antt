@@ -43,7 +43,8 @@ spaced_longer b f [] = refl
 spaced_longer b f (p ∷ ps) = refl
 
 -- after a part that goes on
-spaced_behind : (words : List ℕ) (b : ℕ) (f : List ℕ) (ps : List (List ℕ)) → behind ((words ++ b ∷ []) ++ f) ps ≡ words ++ spaced ((b ∷ f) ∷ ps)
+spaced_behind : (words : List ℕ) (b : ℕ) (f : List ℕ) (ps : List (List ℕ)) →
+    behind ((words ++ b ∷ []) ++ f) ps ≡ words ++ spaced ((b ∷ f) ∷ ps)
 spaced_behind words b f [] = append_assoc words (b ∷ []) f
 spaced_behind words b f (p ∷ ps) =
     rw (longer words b f) (ap (λ (l : List ℕ). l ++ 32 ∷ spaced (p ∷ ps)) (append_assoc words (b ∷ []) f)
@@ -70,7 +71,8 @@ word_begun : (c : ℕ) (xs f words : List ℕ) (ps : List (List ℕ)) →
     going_on (added words true c) false xs ≡ behind words ((c ∷ f) ∷ ps)
 word_begun c xs f [] ps below = below [] ∙ spaced_behind [] c f ps
 word_begun c xs f (w ∷ ws) ps below =
-    rw (some_byte w ws) (below ((w ∷ ws) ++ 32 ∷ []) ∙ spaced_behind ((w ∷ ws) ++ 32 ∷ []) c f ps ∙ append_assoc (w ∷ ws) (32 ∷ []) (spaced ((c ∷ f) ∷ ps)))
+    rw (some_byte w ws) (below ((w ∷ ws) ++ 32 ∷ []) ∙ spaced_behind ((w ∷ ws) ++ 32 ∷ []) c f ps
+    ∙ append_assoc (w ∷ ws) (32 ∷ []) (spaced ((c ∷ f) ∷ ps)))
 
 abbrev Reads : List ℕ → Type 0
 Reads xs = ((words : List ℕ) → going_on words true xs ≡ behind words (words_in xs))
@@ -89,7 +91,8 @@ both (c ∷ xs) = (λ words. apart (both xs) words (is_blank c) refl, λ words b
         rw (e, some_onto c (slice_split is_blank xs)) begun
 
     within : Reads xs → (words : List ℕ) (b : ℕ) (r : Bool) → is_blank c ≡ r → going_on (words ++ b ∷ []) false (c ∷ xs)
-        ≡ behind ((words ++ b ∷ []) ++ first_part (slice_split is_blank (c ∷ xs))) (some_parts (other_parts (slice_split is_blank (c ∷ xs))))
+        ≡ behind ((words ++ b ∷ []) ++ first_part (slice_split is_blank (c ∷ xs)))
+        (some_parts (other_parts (slice_split is_blank (c ∷ xs))))
     within below words b true e =
         rw e (below.0 (words ++ b ∷ []) ∙ ap (λ (l : List ℕ). behind l (words_in xs)) (sym (append-nil (words ++ b ∷ []))))
     within below words b false e =
@@ -115,15 +118,18 @@ next_byte : (xs : List ℕ) (i d : ℕ) → i < length xs → drop i xs ≡ slic
 next_byte [] i d within = absurd (omega (arith, within))
 next_byte (x ∷ xs) zero d within = refl
 next_byte (x ∷ xs) (suc i) d within =
-    next_byte xs i d (omega (arith, within)) ∙ ap (λ (n : ℕ). slice_index_or xs i d ∷ drop n (x ∷ xs)) (let e : suc (i + 1) ≡ suc i + 1 = omega arith in e)
+    next_byte xs i d (omega (arith, within)) ∙ ap (λ (n : ℕ). slice_index_or xs i d ∷ drop n (x ∷ xs))
+    (let e : suc (i + 1) ≡ suc i + 1 = omega arith in e)
 
 pub blank_read : (text words all : List ℕ) (apart : Bool) (i d : ℕ) → i < length text → is_blank (slice_index_or text i d) ≡ true →
     going_on words apart (drop i text) ≡ all → going_on words true (drop (i + 1) text) ≡ all
 blank_read text words all apart i d within blank so_far =
-    let e : going_on words apart (drop i text) ≡ going_on words true (drop (i + 1) text) = rw (next_byte text i d within, blank) refl in sym e ∙ so_far
+    let e : going_on words apart (drop i text) ≡ going_on words true (drop (i + 1) text) = rw (next_byte text i d within, blank) refl in
+    sym e ∙ so_far
 
 pub byte_added : (text words all after : List ℕ) (apart : Bool) (i d : ℕ) → i < length text → is_blank (slice_index_or text i d) ≡ false →
-    after ≡ added words apart (slice_index_or text i d) → going_on words apart (drop i text) ≡ all → going_on after false (drop (i + 1) text) ≡ all
+    after ≡ added words apart (slice_index_or text i d) → going_on words apart (drop i text) ≡ all →
+    going_on after false (drop (i + 1) text) ≡ all
 byte_added text words all after apart i d within word is so_far =
     let e : going_on words apart (drop i text) ≡ going_on (added words apart (slice_index_or text i d)) false (drop (i + 1) text) =
     rw (next_byte text i d within, word) refl in

@@ -1,4 +1,5 @@
--- The least free numbers, and numbers that aren't free, found by marks. What is counted, a number at a time. Usages, added up over the numbers.
+-- The least free numbers, and numbers that aren't free, found by marks. What is counted, a number at a time. Usages, added up over the
+-- numbers.
 use Rattle.space_bank.proofs.Names.{and-false, nat_tests, ℕ, zero, suc, None, Some, Bool, cond, List, [], length, ⊎_elim, refl, sym, ap, subst, zero-add, arith}
 use Rattle.space_bank.proofs.Names.{cases_lt, range_with_len, Geometry, Object, are_free, free_nodes, free_pages, is_free, content_at, MakeProcess, process_at}
 use Rattle.space_bank.proofs.Names.{AreCounted, BanksState, AreMarked, HasNoneMarked, IsNextMarked, is_marked, map, IsTrue, slice_index, slice_set}
@@ -15,12 +16,14 @@ use Rattle.model.specs.declared.object.Role.TheVariants as role
 use Rattle.space_bank.proofs.Tallies.{marks_counted}
 
 -- marks of the numbers from a base on
-module _ (os : List Object) (base : ℕ) (marks : List Bool) (same : (n : ℕ) → n < length marks → is_marked marks n ≡ is_free (content_at os (base + n))) where
+module _ (os : List Object) (base : ℕ) (marks : List Bool) (same : (n : ℕ) → n < length marks →
+    is_marked marks n ≡ is_free (content_at os (base + n))) where
   -- what is free from a mark on
   abbrev pub free_from : ℕ → List ℕ
   free_from from = are_free os (range_with_len (base + from) (length marks - from))
 
-  free_one : (from : ℕ) → from < length marks → free_from from ≡ cond (is_marked marks from) ((base + from) ∷ free_from (from + 1)) (free_from (from + 1))
+  free_one : (from : ℕ) → from < length marks → free_from from ≡ cond (is_marked marks from) ((base + from) ∷ free_from (from + 1))
+      (free_from (from + 1))
   free_one from inside = grind (arith, nat_tests)
 
   next_by : (k from n : ℕ) → n ≡ from + k → IsNextMarked marks from n → free_from from ≡ (base + n) ∷ free_from (n + 1)
@@ -50,16 +53,19 @@ module _ (os : List Object) (base : ℕ) (marks : List Bool) (same : (n : ℕ) �
   pub found_one : (n : ℕ) → IsNextMarked marks 0 n → are_free os (range_with_len base (length marks)) ≡ (base + n) ∷ free_from (n + 1)
   found_one n first = whole ∙ next_free 0 n first
 
-  pub found_only : (n : ℕ) → IsNextMarked marks 0 n → HasNoneMarked marks (n + 1) → are_free os (range_with_len base (length marks)) ≡ (base + n) ∷ []
+  pub found_only : (n : ℕ) → IsNextMarked marks 0 n → HasNoneMarked marks (n + 1) →
+      are_free os (range_with_len base (length marks)) ≡ (base + n) ∷ []
   found_only n first none = found_one n first ∙ ap (λ (xs : List ℕ). (base + n) ∷ xs) (none_free (n + 1) none)
 
-  pub found_two : (n m : ℕ) → IsNextMarked marks 0 n → IsNextMarked marks (n + 1) m → are_free os (range_with_len base (length marks)) ≡ (base + n) ∷ (base + m)
-      ∷ free_from (m + 1)
+  pub found_two : (n m : ℕ) → IsNextMarked marks 0 n → IsNextMarked marks (n + 1) m →
+      are_free os (range_with_len base (length marks)) ≡ (base + n) ∷ (base + m) ∷ free_from (m + 1)
   found_two n m first second = found_one n first ∙ ap (λ (xs : List ℕ). (base + n) ∷ xs) (next_free (n + 1) m second)
 
 -- a process is made of the first two nodes that are free
-module _ (os : List Object) (marks : List Bool) (same : (n : ℕ) → n < length marks → is_marked marks n ≡ is_free (content_at os (0 + n))) (b n : ℕ) where
-  pub process_missing : IsNextMarked marks 0 n → HasNoneMarked marks (n + 1) → None ≡ process_at b (are_free os (range_with_len 0 (length marks)))
+module _ (os : List Object) (marks : List Bool) (same : (n : ℕ) → n < length marks → is_marked marks n ≡ is_free (content_at os (0 + n)))
+    (b n : ℕ) where
+  pub process_missing : IsNextMarked marks 0 n → HasNoneMarked marks (n + 1) →
+      None ≡ process_at b (are_free os (range_with_len 0 (length marks)))
   process_missing first none = ap (process_at b) (sym (found_only os 0 marks same n first none))
 
   pub process_found : (m : ℕ) → IsNextMarked marks 0 n → IsNextMarked marks (n + 1) m →
@@ -69,14 +75,17 @@ module _ (os : List Object) (marks : List Bool) (same : (n : ℕ) → n < length
       ∙ ap (process_at b) (sym (found_two os 0 marks same n m first second))
 
 -- the marks that are read are those that are counted, so what is made of the numbers that they mark is made of those that are free
-module _ {g : Geometry} {os : List Object} {s : BanksState} (h : AreCounted g os s) {marks : List Bool} {X : Type 0} (make : List ℕ → X) {x : X} where
+module _ {g : Geometry} {os : List Object} {s : BanksState} (h : AreCounted g os s) {marks : List Bool} {X : Type 0} (make : List ℕ → X)
+    {x : X} where
   pub made_of_nodes : marks ≡ s.free_nodes →
-      ((us : List Object) → AreMarked us 0 (length marks) marks → x ≡ make (are_free us (range_with_len 0 (length marks)))) → x ≡ make (free_nodes g os)
+      ((us : List Object) → AreMarked us 0 (length marks) marks → x ≡ make (are_free us (range_with_len 0 (length marks)))) →
+      x ≡ make (free_nodes g os)
   unfolding free_nodes
   made_of_nodes are made = grind (arith, nat_tests)
 
   pub made_of_pages : marks ≡ s.free_pages → (first : ℕ) → first ≡ g.nodes →
-      ((us : List Object) → AreMarked us first (length marks) marks → x ≡ make (are_free us (range_with_len first (length marks)))) → x ≡ make (free_pages g os)
+      ((us : List Object) → AreMarked us first (length marks) marks → x ≡ make (are_free us (range_with_len first (length marks)))) →
+      x ≡ make (free_pages g os)
   unfolding free_pages
   made_of_pages are first is made = grind (arith, nat_tests)
 
@@ -93,9 +102,10 @@ pub limit_held : (p : Parts) (n : ℕ) (c : Content Cap) → n < length p.header
 limit_held p n c known is = grind (arith, nat_tests, mapped, content_there)
 
 -- one number more, read after a read-only call
-pub numbers_more : (old now : Parts) (r : Role) (n one : ℕ) (kept new : List ℕ) → now ≡ old → one ≡ kept_number r (content_at (objects_in now) n) →
-    kept ≡ map (λ m. kept_number r (content_at (objects_in old) m)) (range_with_len 0 n) → new ≡ kept ++ one ∷ [] →
-    new ≡ map (λ m. kept_number r (content_at (objects_in old) m)) (range_with_len 0 (n + 1))
+pub numbers_more : (old now : Parts) (r : Role) (n one : ℕ) (kept new : List ℕ) → now ≡ old →
+    one ≡ kept_number r (content_at (objects_in now) n) → kept ≡ map (λ m. kept_number r (content_at (objects_in old) m))
+    (range_with_len 0 n) → new ≡ kept ++ one ∷ [] → new ≡ map (λ m. kept_number r (content_at (objects_in old) m))
+    (range_with_len 0 (n + 1))
 numbers_more old now r n one kept new same is so more =
     let f : ℕ → ℕ = λ m. kept_number r (content_at (objects_in old) m) in
     let here : one ≡ f n = is ∙ ap (λ (p : Parts). kept_number r (content_at (objects_in p) n)) same in
@@ -110,8 +120,8 @@ pub both_kept : {p q r : Parts} {nodes : ℕ} {limits annexes : List ℕ} → q 
 both_kept {p} {q} {r} {nodes} {limits} {annexes} first second size limits_are annexes_are = grind (arith, nat_tests)
 
 -- numbers of nodes and pages fit, since there is a header for each
-pub numbers_fit : (p : Parts) (hs : List ObjectHeader) (h : Geometry) (count : ℕ) → hs ≡ p.headers → count ≡ length hs → count < 2 ^ 64 → h ≡ p.geometry →
-    length p.headers ≡ object_count p.geometry → h.nodes + h.pages < 2 ^ 64
+pub numbers_fit : (p : Parts) (hs : List ObjectHeader) (h : Geometry) (count : ℕ) → hs ≡ p.headers → count ≡ length hs → count < 2 ^ 64 →
+    h ≡ p.geometry → length p.headers ≡ object_count p.geometry → h.nodes + h.pages < 2 ^ 64
 numbers_fit p hs h count table is fits same all = grind (arith, nat_tests)
 
 -- one number more is marked
@@ -128,8 +138,8 @@ module _ (g : Geometry) (os : List Object) (s : BanksState) (below : (b : ℕ) �
       AreKept os g.nodes s.limits s.annexes → object_count g + 2 ≤ s.room → AreCounted g os s
   counted_parts nodes pages size usages kept room = grind (arith, nat_tests, length-map-range_with_len, get_or-map-range_with_len)
 
-  pub counted_from : (h : Geometry) → h ≡ g → AreMarked os 0 h.nodes s.free_nodes → AreMarked os h.nodes h.pages s.free_pages → length s.usages ≡ h.nodes →
-      ((b : ℕ) → IsTrue (is_bank (content_at os b)) → slice_index s.usages b ≡ usage os b) →
+  pub counted_from : (h : Geometry) → h ≡ g → AreMarked os 0 h.nodes s.free_nodes → AreMarked os h.nodes h.pages s.free_pages →
+      length s.usages ≡ h.nodes → ((b : ℕ) → IsTrue (is_bank (content_at os b)) → slice_index s.usages b ≡ usage os b) →
       AreKept os g.nodes s.limits s.annexes → object_count g + 2 ≤ s.room → AreCounted g os s
   counted_from h is nodes pages size has same given = grind (arith, nat_tests, counted_parts)
 
@@ -137,7 +147,8 @@ module _ (g : Geometry) (os : List Object) (s : BanksState) (below : (b : ℕ) �
 cond_append : (b : Bool) (x : ℕ) (ys zs : List ℕ) → cond b (x ∷ (ys ++ zs)) (ys ++ zs) ≡ cond b (x ∷ ys) ys ++ zs
 cond_append b x ys zs = grind (arith, nat_tests)
 
-filter_more : (p : ℕ → Bool) (a n m : ℕ) → a + n ≡ m → filter p (range_with_len a (n + 1)) ≡ filter p (range_with_len a n) ++ cond (p m) (m ∷ []) []
+filter_more : (p : ℕ → Bool) (a n m : ℕ) → a + n ≡ m → filter p (range_with_len a (n + 1))
+    ≡ filter p (range_with_len a n) ++ cond (p m) (m ∷ []) []
 filter_more p a zero m is = grind (arith, nat_tests)
 filter_more p a (suc n) m is = search (arith, nat_tests, cond_append, filter_more p (a + 1) n m (omega arith))
 
@@ -145,16 +156,18 @@ filter_more p a (suc n) m is = search (arith, nat_tests, cond_append, filter_mor
 pub listed_more : (p : ℕ → Bool) (before now new : List ℕ) (n : ℕ) → now ≡ before ++ filter p (range_with_len 0 n) → p n ≡ true →
     new ≡ now ++ n ∷ [] → new ≡ before ++ filter p (range_with_len 0 (n + 1))
 listed_more p before now new n so passes is =
-    is ∙ ap (λ (xs : List ℕ). xs ++ n ∷ []) so ∙ append_assoc before (filter p (range_with_len 0 n)) (n ∷ []) ∙ ap (λ (xs : List ℕ). before ++ xs)
+    is ∙ ap (λ (xs : List ℕ). xs ++ n ∷ []) so ∙ append_assoc before (filter p (range_with_len 0 n)) (n ∷ [])
+    ∙ ap (λ (xs : List ℕ). before ++ xs)
     (ap (λ (b : Bool). filter p (range_with_len 0 n) ++ cond b (n ∷ []) []) (sym passes) ∙ sym (filter_more p 0 n n (omega arith)))
 
-pub listed_same : (p : ℕ → Bool) (before now new : List ℕ) (n : ℕ) → now ≡ before ++ filter p (range_with_len 0 n) → p n ≡ false → new ≡ now →
-    new ≡ before ++ filter p (range_with_len 0 (n + 1))
+pub listed_same : (p : ℕ → Bool) (before now new : List ℕ) (n : ℕ) → now ≡ before ++ filter p (range_with_len 0 n) → p n ≡ false →
+    new ≡ now → new ≡ before ++ filter p (range_with_len 0 (n + 1))
 listed_same p before now new n so fails is =
     is ∙ so ∙ ap (λ (xs : List ℕ). before ++ xs) (sym (filter_more p 0 n n (omega arith)
     ∙ ap (λ (b : Bool). filter p (range_with_len 0 n) ++ cond b (n ∷ []) []) fails ∙ append-nil (filter p (range_with_len 0 n))))
 
-pub listed_whole : (os : List Object) (b : ℕ) (deep : Bool) → filter (is_listed os b deep) (range_with_len 0 (length os)) ≡ listed_by os b deep
+pub listed_whole : (os : List Object) (b : ℕ) (deep : Bool) → filter (is_listed os b deep) (range_with_len 0 (length os))
+    ≡ listed_by os b deep
 unfolding under owned_by
 listed_whole os b deep = grind (arith, nat_tests)
 
@@ -190,8 +203,8 @@ listed_inner os b n deep prime other is same = grind (arith, nat_tests, prime_no
 -- ---- what is counted of banks
 
 -- it stays whatever is listed
-pub counted_listed : {g : Geometry} {os : List Object} {s t : BanksState} {list : List ℕ} → t ≡ record s { listed = list } → AreCounted g os s →
-    AreCounted g os t
+pub counted_listed : {g : Geometry} {os : List Object} {s t : BanksState} {list : List ℕ} → t ≡ record s { listed = list } →
+    AreCounted g os s → AreCounted g os t
 counted_listed {g} {os} {s} {t} {list} is h = grind (arith, nat_tests)
 
 module _ {p : Parts} {s : BanksState} {b : ℕ} (h : MayServe p s b) where
@@ -245,16 +258,17 @@ used_first os t b = used_same os b 0 (not_empty os t) (elim (cases_eq 0 b) [
 ])
 
 -- a number that is free, and one that isn't, whose owner's chain is raised by one
-pub used_free : (os : List Object) (b n : ℕ) → n < length os → is_free (content_at os n) ≡ true → used_below os b (n + 1) ≡ used_below os b n
+pub used_free : (os : List Object) (b n : ℕ) → n < length os → is_free (content_at os n) ≡ true →
+    used_below os b (n + 1) ≡ used_below os b n
 used_free os b n inside none = used_same os b n inside (rw none (and-false (not (n == b))))
 
 used_under : (os : List Object) → IsTree os → (b n : ℕ) → IsTrue (is_bank (content_at os b)) → 1 ≤ n → is_free (content_at os n) ≡ false →
     is_used os b (n, object_at os n) ≡ is_member (chain os (owner_at os n)) b
 used_under os t b n bank later used = grind (arith, nat_tests, chain_once)
 
-pub used_raised : (os : List Object) → IsTree os → (b n owner : ℕ) (old new : List ℕ) → IsTrue (is_bank (content_at os b)) → n < length os → 1 ≤ n →
-    is_free (content_at os n) ≡ false → owner ≡ owner_at os n → IsRaised (chain os owner) 1 old new → slice_index old b ≡ used_below os b n →
-    slice_index new b ≡ used_below os b (n + 1)
+pub used_raised : (os : List Object) → IsTree os → (b n owner : ℕ) (old new : List ℕ) → IsTrue (is_bank (content_at os b)) → n < length os →
+    1 ≤ n → is_free (content_at os n) ≡ false → owner ≡ owner_at os n → IsRaised (chain os owner) 1 old new →
+    slice_index old b ≡ used_below os b n → slice_index new b ≡ used_below os b (n + 1)
 used_raised os t b n owner old new bank inside later used is raised so =
     let more : slice_index new b ≡ slice_index old b + cond (is_member (chain os (owner_at os n)) b) 1 0 = grind (arith, nat_tests) in
     let counted = used_by os b n inside (is_member (chain os (owner_at os n)) b) (used_under os t b n bank later used) in

@@ -21,10 +21,12 @@ use Rattle.capability.specs.declared.order.Change.TheVariants as change
 use Rattle.space_bank.proofs.Tallies.{chain_bank}
 use Rattle.space_bank.proofs.Renewing.{once_of_differ}
 
-pub inside_read : (p : Parts) (hs : List ObjectHeader) (count n : ℕ) → hs ≡ p.headers → count ≡ length hs → n < count → n < length (objects_in p)
+pub inside_read : (p : Parts) (hs : List ObjectHeader) (count n : ℕ) → hs ≡ p.headers → count ≡ length hs → n < count →
+    n < length (objects_in p)
 inside_read p hs count n table is inside = grind (arith, nat_tests, length_objects)
 
-pub past_read : (p : Parts) (hs : List ObjectHeader) (count n : ℕ) → hs ≡ p.headers → count ≡ length hs → count ≤ n → length (objects_in p) ≤ n
+pub past_read : (p : Parts) (hs : List ObjectHeader) (count n : ℕ) → hs ≡ p.headers → count ≡ length hs → count ≤ n →
+    length (objects_in p) ≤ n
 past_read p hs count n table is past = grind (arith, nat_tests, length_objects)
 
 -- A walk along a chain, where i banks were passed: it stands at the bank that is sought, at the last, goes on with
@@ -63,11 +65,16 @@ fits_both : (count m n : ℕ) → nat_le count (min m n) ≡ (nat_le count m && 
 fits_both count m n = grind (arith, nat_tests)
 
 all_left : (os : List Object) (count m : ℕ) (cs : List ℕ) → All (λ c. usage os c ≤ limit_in (content_at os c)) cs →
-    nat_le count (least m (map (left_of os) cs)) ≡ (nat_le count m && list_all (λ c. nat_le (usage os c + count) (limit_in (content_at os c))) cs)
-all_left os count m [] within = elim (cases_lt m count) [ inl over ↦ rw (lt-leb count m over) refl | inr fits ↦ rw (le-leb count m fits) refl ]
+    nat_le count (least m (map (left_of os) cs)) ≡ (nat_le count m && list_all
+    (λ c. nat_le (usage os c + count) (limit_in (content_at os c))) cs)
+all_left os count m [] within = elim (cases_lt m count) [
+  | inl over ↦ rw (lt-leb count m over) refl
+  | inr fits ↦ rw (le-leb count m fits) refl
+]
 all_left os count m (c ∷ cs) within =
     all_left os count (min m (left_of os c)) cs (λ k d inside. within (suc k) d (omega arith))
-    ∙ rw (fits_both count m (left_of os c), fits_left count (usage os c) (limit_in (content_at os c)) (within 0 0 (omega arith))) (grouped (nat_le count m) _ _)
+    ∙ rw (fits_both count m (left_of os c), fits_left count (usage os c) (limit_in (content_at os c)) (within 0 0 (omega arith)))
+    (grouped (nat_le count m) _ _)
   where
     grouped : (a b c : Bool) → ((a && b) && c) ≡ (a && (b && c))
     grouped a b c = grind (arith, nat_tests)
@@ -139,12 +146,13 @@ module _ {p : Parts} {b : ℕ} {order : BankOrder} {args : Arguments} {first : L
       IsPlanned p b order args first plan list
   planned_as {list} written plans is = grind (arith, nat_tests)
 
-  pub planned_refused : (why : ResultCode) → ((us : List Object) → SameFrame (objects_in p) us → on_bank p.geometry us b order args ≡ refused us why) →
-      plan ≡ refusal why → IsPlanned p b order args first plan first
+  pub planned_refused : (why : ResultCode) → ((us : List Object) → SameFrame (objects_in p) us →
+      on_bank p.geometry us b order args ≡ refused us why) → plan ≡ refusal why → IsPlanned p b order args first plan first
   planned_refused why is plans = grind (arith, nat_tests, planned_as, append-nil)
 
-  pub planned_replying : (x y z : ℕ) → ((us : List Object) → SameFrame (objects_in p) us → on_bank p.geometry us b order args ≡ replying_three us x y z) →
-      plan ≡ answer (x ∷ y ∷ z ∷ []) → IsPlanned p b order args first plan first
+  pub planned_replying : (x y z : ℕ) → ((us : List Object) → SameFrame (objects_in p) us →
+      on_bank p.geometry us b order args ≡ replying_three us x y z) → plan ≡ answer (x ∷ y ∷ z ∷ []) →
+      IsPlanned p b order args first plan first
   planned_replying x y z is plans = grind (arith, nat_tests, planned_as, append-nil)
 
   pub planned_made : {list : List ℕ} (written : List ℕ) (c : Capability) (x : BankChange) →
@@ -153,8 +161,8 @@ module _ {p : Parts} {b : ℕ} {order : BankOrder} {args : Arguments} {first : L
       list ≡ first ++ written → IsPlanned p b order args first plan list
   planned_made {list} written c x is may plans has = grind (arith, nat_tests)
 
-pub allocating_is : (g : Geometry) (os : List Object) (b : ℕ) (order : BankOrder) (args : Arguments) (kind : New) → new_of order args ≡ Some kind
-    → on_bank g os b order args ≡ allocating g os b kind
+pub allocating_is : (g : Geometry) (os : List Object) (b : ℕ) (order : BankOrder) (args : Arguments) (kind : New) →
+    new_of order args ≡ Some kind → on_bank g os b order args ≡ allocating g os b kind
 unfolding on_bank
 allocating_is g os b order args kind is = grind (arith, nat_tests)
 
@@ -171,12 +179,17 @@ pub new_is : (g : Geometry) (os : List Object) (b : ℕ) (order : BankOrder) (ar
     (us : List Object) → SameFrame os us → on_bank g us b order args ≡
     (if has_quota os b (count_of kind) then allocated_by us (is_deep os b kind) (made_for g os b kind) else refused us code.Limit)
 new_is g os b order args kind is us frame =
-    allocating_is g us b order args kind is ∙ rw (room_alike os us frame b (count_of kind), made_alike os us frame g b kind, deep_alike os us frame g b kind)
+    allocating_is g us b order args kind is ∙ rw (
+      room_alike os us frame b (count_of kind),
+      made_alike os us frame g b kind,
+      deep_alike os us frame g b kind,
+    )
     refl
 
 -- the effect of orders that free
 module _ (g : Geometry) (os : List Object) (b : ℕ) (args : Arguments) where
-  pub frees_none : (c : Capability) → args.capability ≡ c → freed_by os c ≡ [] → on_bank g os b bank.Free args ≡ refused os code.BadCapability
+  pub frees_none : (c : Capability) → args.capability ≡ c → freed_by os c ≡ [] →
+      on_bank g os b bank.Free args ≡ refused os code.BadCapability
   unfolding on_bank
   frees_none c is none = ap (λ (d : Capability). freed os b (freed_by os d)) is ∙ ap (freed os b) none
 
@@ -212,12 +225,14 @@ module _ (g : Geometry) (os : List Object) (b : ℕ) (args : Arguments) where
 
 -- the same of later objects with the same frame, by what was read of the earlier ones
 module _ (g : Geometry) (os : List Object) (b : ℕ) (args : Arguments) (us : List Object) (frame : SameFrame os us) where
-  pub frees_none_there : (c : Capability) → args.capability ≡ c → freed_by os c ≡ [] → on_bank g us b bank.Free args ≡ refused us code.BadCapability
+  pub frees_none_there : (c : Capability) → args.capability ≡ c → freed_by os c ≡ [] →
+      on_bank g us b bank.Free args ≡ refused us code.BadCapability
   frees_none_there c is none = frees_none g us b args c is (freed_alike os us frame c ∙ none)
 
   pub frees_other_there : (c : Capability) (n : ℕ) (ns : List ℕ) → args.capability ≡ c → freed_by os c ≡ n ∷ ns → (owner_at os n ≡ b → ⊥) →
       on_bank g us b bank.Free args ≡ refused us code.NotFromThisBank
-  frees_other_there c n ns is some other = frees_other g us b args c n ns is (freed_alike os us frame c ∙ some) (λ e. other (sym (frame.alike n).owner ∙ e))
+  frees_other_there c n ns is some other = frees_other g us b args c n ns is (freed_alike os us frame c ∙ some)
+      (λ e. other (sym (frame.alike n).owner ∙ e))
 
   pub frees_own_there : (c : Capability) (n : ℕ) (ns : List ℕ) → args.capability ≡ c → freed_by os c ≡ n ∷ ns → owner_at os n ≡ b →
       on_bank g us b bank.Free args ≡ made (rescind (n ∷ ns) us) (n ∷ ns) Void
@@ -226,11 +241,14 @@ module _ (g : Geometry) (os : List Object) (b : ℕ) (args : Arguments) (us : Li
   pub destroy_there : (b ≡ 0 → ⊥) → on_bank g us b bank.Destroy args ≡ made (rescind (under os b) us) (under os b) Void
   destroy_there other = destroy_all g us b args other ∙ ap (λ (ns : List ℕ). made (rescind ns us) ns Void) (under_alike os us frame b)
 
-  pub return_there : (b ≡ 0 → ⊥) → on_bank g us b bank.ReturnToParent args ≡ made (rescind (b ∷ []) (inherited us b)) (b ∷ owned_by os b) Void
-  return_there other = return_all g us b args other ∙ ap (λ (ns : List ℕ). made (rescind (b ∷ []) (inherited us b)) (b ∷ ns) Void) (owned_alike os us frame b)
+  pub return_there : (b ≡ 0 → ⊥) → on_bank g us b bank.ReturnToParent args ≡ made (rescind (b ∷ []) (inherited us b)) (b ∷ owned_by os b)
+      Void
+  return_there other = return_all g us b args other ∙ ap (λ (ns : List ℕ). made (rescind (b ∷ []) (inherited us b)) (b ∷ ns) Void)
+      (owned_alike os us frame b)
 
   pub remaining_there : on_bank g us b bank.Remaining args ≡ replying_three us (remaining os b) (usage os b) (limit_in (content_at os b))
-  remaining_there = remaining_replying g us b args ∙ rw (remaining_alike os us frame b, usage_same os us frame b, (frame.alike b).limit) refl
+  remaining_there = remaining_replying g us b args ∙ rw (remaining_alike os us frame b, usage_same os us frame b, (frame.alike b).limit)
+      refl
 
 -- the capacity that is left for a bank's order
 pub bank_room : {p : Parts} {s : BanksState} {b : ℕ} → MayServe p s b → (n : ℕ) → n ≤ 2 → n + length p.headers ≤ s.room
@@ -240,8 +258,8 @@ root_not_bank : (c : Content Capability) → IsTrue (is_root c) → IsTrue (is_b
 root_not_bank c root is = grind (arith, nat_tests)
 
 -- beside a bank and a process four more numbers fit
-pub process_room : {p : Parts} {s t : BanksState} {b : ℕ} (c : Capability) (q n : ℕ) → MayServe p s b → MayBeHeld (objects_in p) c → c ≡ Process q →
-    length s.listed ≤ 2 → t ≡ record s { listed = s.listed ++ n ∷ [] } → length t.listed < t.room
+pub process_room : {p : Parts} {s t : BanksState} {b : ℕ} (c : Capability) (q n : ℕ) → MayServe p s b → MayBeHeld (objects_in p) c →
+    c ≡ Process q → length s.listed ≤ 2 → t ≡ record s { listed = s.listed ++ n ∷ [] } → length t.listed < t.room
 process_room {p} {s} {t} {b} c q n h sent is few listed = grind (arith, nat_tests, root_number, root_not_bank, node_of_bank, length-append)
 
 -- the annex of a process that may be sent is kept
@@ -250,8 +268,9 @@ pub annex_kept : {p : Parts} {s : BanksState} {b : ℕ} (c : Capability) → May
 annex_kept {p} {s} {b} c h sent = grind (arith, nat_tests)
 
 -- what a capability frees, where a bank owns it
-pub freed_list : (g : Geometry) (os : List Object) (b : ℕ) (c : Capability) (list : List ℕ) → IsNow g os → IsTrue (is_bank (content_at os b)) →
-    NamesItsKind os c → freed_by os c ≡ list → 0 < length list → owner_at os (slice_index list 0) ≡ b → MayFree os b list
+pub freed_list : (g : Geometry) (os : List Object) (b : ℕ) (c : Capability) (list : List ℕ) → IsNow g os →
+    IsTrue (is_bank (content_at os b)) → NamesItsKind os c → freed_by os c ≡ list → 0 < length list → owner_at os (slice_index list 0) ≡ b →
+    MayFree os b list
 freed_list g os b c [] h is names frees some own = absurd (omega arith)
 freed_list g os b c (n ∷ ns) h is names frees some own =
     let set = freed_set g os h.frame c n ns names frees in
@@ -259,8 +278,13 @@ freed_list g os b c (n ∷ ns) h is names frees some own =
       once = once_of_differ (n ∷ ns) set.given_up.once;
       used = set.given_up.used;
       apart = λ x above.
-          false_from_ne_true (is_member (n ∷ ns) x) (λ member. false≢true (sym (set.no_bank x member) ∙ chain_banks os (tree_of g os h.frame) b x is above));
-      lowered = λ x bank stays. omega (arith, usage_freed g os c b n ns h own frees names x bank, freed_fits g os c b n ns h own frees names x bank);
+          false_from_ne_true (is_member (n ∷ ns) x) (λ member. false≢true (sym (set.no_bank x member)
+          ∙ chain_banks os (tree_of g os h.frame) b x is above));
+      lowered = λ x bank stays. omega (
+        arith,
+        usage_freed g os c b n ns h own frees names x bank,
+        freed_fits g os c b n ns h own frees names x bank,
+      );
     }
 
 -- no bank above another is under it
@@ -291,21 +315,24 @@ pub record IsFreeAmong (os : List Object) (from count n : ℕ) : Type 0 where
   pub below : n < from + count
   pub unused : IsTrue (is_free (content_at os n))
 
-free_among : (os : List Object) (from count n : ℕ) → is_member (are_free os (range_with_len from count)) n ≡ true → IsFreeAmong os from count n
+free_among : (os : List Object) (from count n : ℕ) → is_member (are_free os (range_with_len from count)) n ≡ true →
+    IsFreeAmong os from count n
 free_among os from count n member = grind (arith, nat_tests, found_in)
 
-first_free : (os : List Object) (from count n : ℕ) (ns : List ℕ) → are_free os (range_with_len from count) ≡ n ∷ ns → IsFreeAmong os from count n
+first_free : (os : List Object) (from count n : ℕ) (ns : List ℕ) → are_free os (range_with_len from count) ≡ n ∷ ns →
+    IsFreeAmong os from count n
 first_free os from count n ns are = free_among os from count n (ap (λ (xs : List ℕ). is_member xs n) are ∙ member_head n n ns refl)
 
 -- one new object, at the first of the free numbers
-one_may : (g : Geometry) (os : List Object) (b from count : ℕ) (f : Fresh) (c : BankChange) → IsTrue (is_bank (content_at os b)) → IsTrue (has_quota os b 1)
-    → ((n : ℕ) → IsFreeAmong os from count n → IsFreshAt g n f) → IsMadeUnder os b f → (ns : List ℕ) → are_free os (range_with_len from count) ≡ ns
+one_may : (g : Geometry) (os : List Object) (b from count : ℕ) (f : Fresh) (c : BankChange) → IsTrue (is_bank (content_at os b)) →
+    IsTrue (has_quota os b 1) → ((n : ℕ) → IsFreeAmong os from count n → IsFreshAt g n f) → IsMadeUnder os b f → (ns : List ℕ) →
+    are_free os (range_with_len from count) ≡ ns
     → new_at b f ns ≡ Some c → MayMake g os (numbers_of c) c
 one_may g os b from count f c bank room place kind ns are is = grind (arith, nat_tests, first_free)
 
 -- a new process, at the first two
-two_may : (g : Geometry) (os : List Object) (b : ℕ) (c : BankChange) → IsTrue (is_bank (content_at os b)) → IsTrue (has_quota os b 2) → (ns : List ℕ)
-    → are_free os (range_with_len 0 g.nodes) ≡ ns → process_at b ns ≡ Some c → MayMake g os (numbers_of c) c
+two_may : (g : Geometry) (os : List Object) (b : ℕ) (c : BankChange) → IsTrue (is_bank (content_at os b)) → IsTrue (has_quota os b 2) →
+    (ns : List ℕ) → are_free os (range_with_len 0 g.nodes) ≡ ns → process_at b ns ≡ Some c → MayMake g os (numbers_of c) c
 two_may g os b c bank room [] are is = cc
 two_may g os b c bank room (r ∷ []) are is = cc
 two_may g os b c bank room (r ∷ a ∷ ns) are is =
@@ -313,7 +340,8 @@ two_may g os b c bank room (r ∷ a ∷ ns) are is =
     let first = first_free os 0 g.nodes r (a ∷ ns) are in
     let differ = subst (λ (xs : List ℕ). AllDiffer xs) are (filter_once (λ n. is_free (content_at os n)) 0 g.nodes) in
     let other : a ≢ r = λ same. false≢true (sym differ.0 ∙ member_head r a ns (sym same)) in
-    let second = free_among os 0 g.nodes a (ap (λ (xs : List ℕ). is_member xs a) are ∙ (member_tail a r (a ∷ ns) other ∙ member_head a a ns refl)) in
+    let second = free_among os 0 g.nodes a (ap (λ (xs : List ℕ). is_member xs a) are
+    ∙ (member_tail a r (a ∷ ns) other ∙ member_head a a ns refl)) in
     subst (λ (x : BankChange). MayMake g os (numbers_of x) x) e (record {
       listed = refl;
       bank = bank;
@@ -334,21 +362,23 @@ unfolding free_nodes free_pages
 new_may g os b c bank kind room some short = grind (arith, nat_tests, one_may, two_may, short_chain)
 
 -- what a capability names is of its kind where the frame is the same
-names_there : (os us : List Object) → SameFrame os us → (c : Capability) (n : ℕ) (ns : List ℕ) → freed_by os c ≡ n ∷ ns → NamesItsKind os c → NamesItsKind us c
+names_there : (os us : List Object) → SameFrame os us → (c : Capability) (n : ℕ) (ns : List ℕ) → freed_by os c ≡ n ∷ ns →
+    NamesItsKind os c → NamesItsKind us c
 names_there os us frame c n ns some names = grind (arith, nat_tests)
 
-module _ {p : Parts} {s : BanksState} {b : ℕ} (h : MayServe p s b) {us : List Object} (frame : SameFrame (objects_in p) us) (now : IsNow p.geometry us) where
+module _ {p : Parts} {s : BanksState} {b : ℕ} (h : MayServe p s b) {us : List Object} (frame : SameFrame (objects_in p) us)
+    (now : IsNow p.geometry us) where
   bank_there : IsTrue (is_bank (content_at us b))
   bank_there = (tests_at (objects_in p) us frame b).bank ∙ h.bank
 
-  pub may_new : (kind : New) (c : BankChange) → has_quota (objects_in p) b (count_of kind) ≡ true → made_for p.geometry (objects_in p) b kind ≡ Some c →
-      is_deep (objects_in p) b kind ≡ false → MayMake p.geometry us (numbers_of c) c
+  pub may_new : (kind : New) (c : BankChange) → has_quota (objects_in p) b (count_of kind) ≡ true →
+      made_for p.geometry (objects_in p) b kind ≡ Some c → is_deep (objects_in p) b kind ≡ false → MayMake p.geometry us (numbers_of c) c
   may_new kind c room some short =
       new_may p.geometry us b c bank_there kind (room_alike (objects_in p) us frame b (count_of kind) ∙ room)
       (made_alike (objects_in p) us frame p.geometry b kind ∙ some) (deep_alike (objects_in p) us frame p.geometry b kind ∙ short)
 
-  pub may_free : (c : Capability) (n : ℕ) (ns : List ℕ) → NamesItsKind (objects_in p) c → freed_by (objects_in p) c ≡ n ∷ ns → owner_at (objects_in p) n ≡ b →
-      Frees us (n ∷ ns) b
+  pub may_free : (c : Capability) (n : ℕ) (ns : List ℕ) → NamesItsKind (objects_in p) c → freed_by (objects_in p) c ≡ n ∷ ns →
+      owner_at (objects_in p) n ≡ b → Frees us (n ∷ ns) b
   may_free c n ns names some own = record {
     bank = bank_there;
     may = freed_list p.geometry us b c (n ∷ ns) now bank_there (names_there (objects_in p) us frame c n ns some names)
@@ -364,4 +394,9 @@ module _ {p : Parts} {s : BanksState} {b : ℕ} (h : MayServe p s b) {us : List 
       })
 
   pub may_return : b ≢ 0 → Transfers us (b ∷ owned_by (objects_in p) b) b
-  may_return on = record { bank = bank_there; other = on; listed = ap (λ (ns : List ℕ). b ∷ ns) (sym (owned_alike (objects_in p) us frame b)) }
+  may_return on = record {
+    bank = bank_there;
+    other = on;
+    listed = ap (λ (ns : List ℕ). b ∷ ns)
+        (sym (owned_alike (objects_in p) us frame b));
+  }

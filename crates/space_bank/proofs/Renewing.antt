@@ -62,7 +62,13 @@ member_at ns i inside = list_any_at (nat_eq (slice_index ns i)) ns i 0 inside (e
 pub once_of_differ : (ns : List ℕ) → AllDiffer ns → IsOnce ns
 once_of_differ [] differ i inside = absurd (omega arith)
 once_of_differ (n ∷ ns) differ zero inside = refl
-once_of_differ (n ∷ ns) differ (suc i) inside = search (arith, nat_tests, member_tail, member_at, once_of_differ ns differ.1 i (omega arith))
+once_of_differ (n ∷ ns) differ (suc i) inside = search (
+  arith,
+  nat_tests,
+  member_tail,
+  member_at,
+  once_of_differ ns differ.1 i (omega arith),
+)
 
 -- contents after a rescind
 
@@ -98,9 +104,10 @@ pub record IsReleased (banks : List ℕ) (count : ℕ) (s t : BanksState) (set :
   pub marks : (n : ℕ) → is_marked (marks_of t) n ≡ (if is_member set n then true else is_marked (marks_of s) n)
 
 -- A set of objects that have the contents of those that are counted is freed.
-pub counted_gone : {g : Geometry} {os : List Object} (vs : List Object) {s t : BanksState} {set banks : List ℕ} {count : ℕ} → AreCounted g os s
-    → ((n : ℕ) → content_at vs n ≡ content_at os n) → IsReleased banks count s t set
-    → ((x : ℕ) → IsTrue (is_bank (content_at os x)) → is_member set x ≡ false → usage (rescind set vs) x + (if is_member banks x then count else 0) ≡ usage os
+pub counted_gone : {g : Geometry} {os : List Object} (vs : List Object) {s t : BanksState} {set banks : List ℕ} {count : ℕ} →
+    AreCounted g os s → ((n : ℕ) → content_at vs n ≡ content_at os n) → IsReleased banks count s t set
+    → ((x : ℕ) → IsTrue (is_bank (content_at os x)) → is_member set x ≡ false →
+    usage (rescind set vs) x + (if is_member banks x then count else 0) ≡ usage os
     x) → AreCounted g (rescind set vs) t
 counted_gone {g} {os} vs {s} {t} {set} {banks} {count} counted same released usages =
     counted_from (rescind set vs) t counted (record {
@@ -112,12 +119,14 @@ counted_gone {g} {os} vs {s} {t} {set} {banks} {count} counted same released usa
       room = released.room;
     }) (λ n known.
     released.marks n
-    ∙ (ap (λ (b : Bool). if is_member set n then true else b) (marks_counted counted n known ∙ ap (λ (c : Content Capability). is_free c) (sym (same n)))
+    ∙ (ap (λ (b : Bool). if is_member set n then true else b) (marks_counted counted n known
+    ∙ ap (λ (c : Content Capability). is_free c) (sym (same n)))
     ∙ sym (free_rescinded set vs n))) (λ x is.
     let was = was_bank x is in
     omega (arith, released.usages.each x, counted.usage x was, usages x was (bank_stays set vs x is))) (λ x is.
     ap (λ (xs : List ℕ). slice_index xs x) released.limits
-    ∙ (counted.limit x (was_bank x is) ∙ (ap (λ (c : Content Capability). limit_in c) (sym (same x)) ∙ sym (was set vs x (bank_stays set vs x is)).limit)))
+    ∙ (counted.limit x (was_bank x is) ∙ (ap (λ (c : Content Capability). limit_in c) (sym (same x))
+    ∙ sym (was set vs x (bank_stays set vs x is)).limit)))
     (λ x is.
     let before = was set vs x (root_stays set vs x is) in
     ap (λ (xs : List ℕ). slice_index xs x) released.annexes
@@ -144,15 +153,18 @@ enough_used {p} {s} {above} {list} asks gives x member =
 
 -- what lies beside the objects where a set is freed
 module _ {S : Type 0} (parts : S → Parts) (Fetched Announced : S → ℕ → Type 0) (Continues : S → S → Type 0) where
-  pub ended_snapshots : (old new : S) (set : List ℕ) → AreGivenUp set (parts old) (parts new) → objects_in (parts new) ≡ rescind set (objects_in (parts old))
-      → ((n : ℕ) → is_member set n ≡ true → is_free (content_at (objects_in (parts old)) n) ≡ false)
-      → ((n : ℕ) → is_member set n ≡ false → Fetched old n → Fetched new n) → ((n : ℕ) → is_member set n ≡ false → Announced old n → Announced new n)
+  pub ended_snapshots : (old new : S) (set : List ℕ) → AreGivenUp set (parts old) (parts new) →
+      objects_in (parts new) ≡ rescind set (objects_in (parts old)) → ((n : ℕ) → is_member set n ≡ true →
+      is_free (content_at (objects_in (parts old)) n) ≡ false)
+      → ((n : ℕ) → is_member set n ≡ false → Fetched old n → Fetched new n) →
+      ((n : ℕ) → is_member set n ≡ false → Announced old n → Announced new n)
       → Continues old new → KeepsObjects parts Fetched Announced Continues old new
   ended_snapshots old new set given objects used fetched announced continues = grind (arith, nat_tests, renews_rescinded, used_stays)
 
   pub snapshots_then_ended : (twice : (s t u : S) → Continues s t → Continues t u → Continues s u) (old mid new : S) →
       KeepsRest parts Fetched Announced Continues old mid
-      → SameFree (parts old) (parts mid) → KeepsObjects parts Fetched Announced Continues mid new → KeepsObjects parts Fetched Announced Continues old new
+      → SameFree (parts old) (parts mid) → KeepsObjects parts Fetched Announced Continues mid new →
+      KeepsObjects parts Fetched Announced Continues old new
   snapshots_then_ended twice old mid new a free b = grind (arith, nat_tests)
 
   pub snapshots_alone : (old new : S) → KeepsRest parts Fetched Announced Continues old new
@@ -166,7 +178,8 @@ rest_is xs ys i same = take_rest xs i ∙ ap (λ (zs : List ℕ). drop i zs) sam
 
 pub listed_rest : {xs : List ℕ} {r v : BanksState} (s : BanksState) (i : ℕ) → xs ≡ v.listed → v ≡ r → r ≡ record s { usages = r.usages } →
     take (length xs - i) (drop i xs) ≡ drop i s.listed
-listed_rest s i value same kept = rest_is _ s.listed i (value ∙ (ap (λ (k : BanksState). k.listed) same ∙ ap (λ (k : BanksState). k.listed) kept))
+listed_rest s i value same kept = rest_is _ s.listed i (value ∙ (ap (λ (k : BanksState). k.listed) same
+    ∙ ap (λ (k : BanksState). k.listed) kept))
 
 -- each number of a list has an object
 abbrev pub AreKnown : Parts → List ℕ → Type 0
@@ -183,8 +196,9 @@ module _ {p : Parts} {s : BanksState} {b : ℕ} (asks : MayServe p s b) (list : 
   list_marks k d inside = omega (arith, known k d inside, serve_count asks, asks.counted.nodes, asks.counted.pages)
 
 -- fewer are accounted for, and then numbers are marked as free
-pub released_then : {banks : List ℕ} {count : ℕ} {s r v : BanksState} {nodes pages : List Bool} (set : List ℕ) → IsRaised banks count r.usages s.usages
-    → r ≡ record s { usages = r.usages } → v ≡ r → length nodes ≡ length v.free_nodes → length pages ≡ length v.free_pages
+pub released_then : {banks : List ℕ} {count : ℕ} {s r v : BanksState} {nodes pages : List Bool} (set : List ℕ) →
+    IsRaised banks count r.usages s.usages → r ≡ record s { usages = r.usages } → v ≡ r → length nodes ≡ length v.free_nodes →
+    length pages ≡ length v.free_pages
     → ((n : ℕ) → is_marked (nodes ++ pages) n ≡ (if is_member set n then true else is_marked (v.free_nodes ++ v.free_pages) n))
     → IsReleased banks count s (record v { free_nodes = nodes; free_pages = pages }) set
 released_then {banks} {count} {s} {r} {v} {nodes} {pages} set raised kept same nodes_same pages_same marks = grind (arith, nat_tests)
@@ -192,7 +206,8 @@ released_then {banks} {count} {s} {r} {v} {nodes} {pages} set raised kept same n
 -- what is left once a list is freed
 pub ended_carried : {p q : Parts} {s t : BanksState} {above : ℕ} {list : List ℕ} → MayServe p s above → MayFree (objects_in p) above list
     → IsReleased (chain (objects_in p) above) (length list) s t list → objects_in q ≡ rescind list (objects_in p)
-    → AreCurrent (frames_of q) → ((age : ℕ) → age + 1 < 2 ^ 64 → AreKeepable p.geometry age (frames_of p) → AreKeepable p.geometry (age + 1) (frames_of q))
+    → AreCurrent (frames_of q) → ((age : ℕ) → age + 1 < 2 ^ 64 → AreKeepable p.geometry age (frames_of p) →
+    AreKeepable p.geometry (age + 1) (frames_of q))
     → CarriesOut p q t
 ended_carried {p} {q} {s} {t} asks gives released objects current keepable = record {
   counted = subst (λ (us : List Object). AreCounted p.geometry us t) (sym objects)
@@ -224,14 +239,17 @@ pub mark_one : (before now : List Bool) (n : ℕ) → n < length before → now 
 mark_one before now n inside is m = grind (arith, nat_tests, get_or-set_same, member_head, get_or-set_other, member_tail)
 
 -- a bank alone is there
-pub only_used : (os : List Object) (b : ℕ) → IsTrue (is_bank (content_at os b)) → (n : ℕ) → is_member (b ∷ []) n ≡ true → is_free (content_at os n) ≡ false
-only_used os b is n member = subst (λ (k : ℕ). is_free (content_at os k) ≡ false) (sym (only_member b n member)) (used_where is_bank refl (content_at os b) is)
+pub only_used : (os : List Object) (b : ℕ) → IsTrue (is_bank (content_at os b)) → (n : ℕ) → is_member (b ∷ []) n ≡ true →
+    is_free (content_at os n) ≡ false
+only_used os b is n member = subst (λ (k : ℕ). is_free (content_at os k) ≡ false) (sym (only_member b n member))
+    (used_where is_bank refl (content_at os b) is)
 
 -- what a bank owns is transferred
 pub owned_used : (os : List Object) (b : ℕ) → All (λ n. is_free (content_at os n) ≡ false) (owned_by os b)
 owned_used os b = all_members (λ n. is_free (content_at os n) ≡ false) (owned_by os b) (λ n member. (owned_found os b n member).1)
 
-owned_member : (os : List Object) (b n : ℕ) → n < length os → is_member (owned_by os b) n ≡ (not (is_free (content_at os n)) && (owner_at os n == b))
+owned_member : (os : List Object) (b n : ℕ) → n < length os → is_member (owned_by os b) n
+    ≡ (not (is_free (content_at os n)) && (owner_at os n == b))
 unfolding owned_by
 owned_member os b n inside = grind (arith, nat_tests, stands_in, found_in)
 
@@ -241,7 +259,8 @@ inherited_by os us b are =
     let change : Object → Object = transferred b (owner_at os b) in
     ext_get_or free us (inherited os b) (are.size ∙ sym (length-map os (transferred b (owner_at os b)))) (λ n inside.
     are.each n
-    ∙ (ap (λ t. if t then record { owner = owner_at os b; content = content_at os n } else object_at os n) (owned_member os b n (omega (arith, are.size)))
+    ∙ (ap (λ t. if t then record { owner = owner_at os b; content = content_at os n } else object_at os n)
+    (owned_member os b n (omega (arith, are.size)))
     ∙ sym (at_map (transferred b (owner_at os b)) os n free refl)))
 
 module _ {p : Parts} {s : BanksState} {b : ℕ} (asks : MayServe p s b) (on : b ≢ 0) where
@@ -260,7 +279,8 @@ module _ {p : Parts} {s : BanksState} {b : ℕ} (asks : MayServe p s b) (on : b 
   -- what is left once the bank is gone
   pub returned_carried : {q : Parts} {t : BanksState} {us : List Object} → AreTransferred (owned_by before b) (owner_at before b) before us
       → IsReleased (chain before (owner_at before b)) 1 s t (b ∷ []) → objects_in q ≡ rescind (b ∷ []) us → AreCurrent (frames_of q)
-      → ((age : ℕ) → age + 1 < 2 ^ 64 → AreKeepable p.geometry age (frames_of p) → AreKeepable p.geometry (age + 1) (frames_of q)) → CarriesOut p q t
+      → ((age : ℕ) → age + 1 < 2 ^ 64 → AreKeepable p.geometry age (frames_of p) → AreKeepable p.geometry (age + 1) (frames_of q)) →
+      CarriesOut p q t
   returned_carried {q} {t} {us} are released objects current keepable =
       record {
         counted = subst (λ (vs : List Object). AreCounted p.geometry vs t) (sym objects) (counted_gone us asks.counted
@@ -283,7 +303,11 @@ module _ {p : Parts} {s : BanksState} {b : ℕ} (asks : MayServe p s b) (on : b 
       (known : b < length q.headers) where
     pub transferred_allocations : (header_at q.headers b).allocations < 2 ^ 64 - 1
     transferred_allocations =
-        omega (arith, few_allocations p.geometry asks.sound.0 q (keepable asks.sound.0 asks.sound.1.keepable) b known, asks.sound.1.sound.age)
+        omega (
+          arith,
+          few_allocations p.geometry asks.sound.0 q (keepable asks.sound.0 asks.sound.1.keepable) b known,
+          asks.sound.1.sound.age,
+        )
 
     pub transferred_calls : (header_at q.headers b).calls < 2 ^ 64 - 1
     transferred_calls =

@@ -1,4 +1,5 @@
--- What sound frames that are counted say of their objects. What is counted, where objects come, go or are transferred. A walk along a chain, owner by owner.
+-- What sound frames that are counted say of their objects. What is counted, where objects come, go or are transferred. A walk along a
+-- chain, owner by owner.
 use Rattle.space_bank.proofs.Names.{nat_tests, ℕ, true, false, List, length, refl, sym, ap, arith, IsTrue, slice_index, Cap, Capability, Geometry}
 use Rattle.space_bank.proofs.Names.{Content, Object, chain, usage, has_quota, conveyed, header_at, held_at, AreKeepable, world_at, is_free, limit_in}
 use Rattle.space_bank.proofs.Names.{map_content, role_of, is_member, HasShape, object_count, content_at, IsTree, chain_banks, tree_of, member_passes, IsNow}
@@ -142,22 +143,46 @@ module _ {os : List Object} (t : IsTree os) {b i c : ℕ} (at : Climbs os b i c)
   share_prime count x end differ = grind (arith, nat_tests, chain_zero, member_tail)
 
   module _ {more less : ℕ} {old now : List ℕ} (each : (x : ℕ) → IsTrue (is_bank (content_at os x)) → x < length old)
-      (fits : (x : ℕ) → is_member (chain os b) x ≡ true → MayShift more less (slice_index old x)) (r : IsShifting os b c more less old now) where
-    inside : c < length now
-    inside = omega (arith, each c at.bank, r.size)
+      (fits : (x : ℕ) → is_member (chain os b) x ≡ true → MayShift more less (slice_index old x)) (r : IsShifting os b c more less old now)
+    where
+      inside : c < length now
+      inside = omega (arith, each c at.bank, r.size)
 
-    -- the usage of a bank before its turn comes
-    same_here : slice_index now c ≡ slice_index old c
-    same_here = omega (arith, r.each c, share_here more, share_here less, share_first more, share_first less)
+      -- the usage of a bank before its turn comes
+      same_here : slice_index now c ≡ slice_index old c
+      same_here = omega (arith, r.each c, share_here more, share_here less, share_first more, share_first less)
 
-    pub still_fits : MayShift more less (slice_index now c)
-    still_fits = subst (λ (n : ℕ). MayShift more less n) (sym same_here) (fits c climb_itself)
+      pub still_fits : MayShift more less (slice_index now c)
+      still_fits = subst (λ (n : ℕ). MayShift more less n) (sym same_here) (fits c climb_itself)
 
-    pub shifts_on : c ≢ 0 → IsShifting os b (owner_at os c) more less old (slice_set now c (slice_index now c + more - less))
-    shifts_on on = grind (arith, nat_tests, length-set, get_or-set_same, inside, still_fits, same_here, share_first, share_owner, get_or-set_other, share_other)
+      pub shifts_on : c ≢ 0 → IsShifting os b (owner_at os c) more less old (slice_set now c (slice_index now c + more - less))
+      shifts_on on = grind (
+        arith,
+        nat_tests,
+        length-set,
+        get_or-set_same,
+        inside,
+        still_fits,
+        same_here,
+        share_first,
+        share_owner,
+        get_or-set_other,
+        share_other,
+      )
 
-    pub shifted_last : c ≡ 0 → IsShifted (chain os b) more less old (slice_set now c (slice_index now c + more - less))
-    shifted_last end = grind (arith, nat_tests, length-set, get_or-set_same, inside, still_fits, same_here, share_first, get_or-set_other, share_prime)
+      pub shifted_last : c ≡ 0 → IsShifted (chain os b) more less old (slice_set now c (slice_index now c + more - less))
+      shifted_last end = grind (
+        arith,
+        nat_tests,
+        length-set,
+        get_or-set_same,
+        inside,
+        still_fits,
+        same_here,
+        share_first,
+        get_or-set_other,
+        share_prime,
+      )
 
 -- a usage is only added, or only subtracted
 nothing : (is : Bool) → ◌≡◌ {A = ℕ} (if is then 0 else 0) 0
@@ -178,20 +203,24 @@ pub transferred_content : (goes : Bool) (b : ℕ) (o : Object) → (transferred 
 transferred_content goes b o = grind (arith, nat_tests)
 
 -- objects that are transferred hold what they held
-pub transferred_same : (list : List ℕ) (b : ℕ) (os us : List Object) → AreTransferred list b os us → (n : ℕ) → content_at us n ≡ content_at os n
-transferred_same list b os us are n = ap (λ (o : Object). o.content) (are.each n) ∙ transferred_content (is_member list n) b (object_at os n)
+pub transferred_same : (list : List ℕ) (b : ℕ) (os us : List Object) → AreTransferred list b os us → (n : ℕ) →
+    content_at us n ≡ content_at os n
+transferred_same list b os us are n = ap (λ (o : Object). o.content) (are.each n)
+    ∙ transferred_content (is_member list n) b (object_at os n)
 
-pub transferred_used : (list : List ℕ) (b : ℕ) (os us : List Object) → AreTransferred list b os us → (n : ℕ) → is_free (content_at os n) ≡ false →
-    is_free (content_at us n) ≡ false
+pub transferred_used : (list : List ℕ) (b : ℕ) (os us : List Object) → AreTransferred list b os us → (n : ℕ) →
+    is_free (content_at os n) ≡ false → is_free (content_at us n) ≡ false
 transferred_used list b os us are n used = ap (λ (c : Content Capability). is_free c) (transferred_same list b os us are n) ∙ used
 
 -- one more of a list
-taken : (list : List ℕ) (i n : ℕ) → i < length list → is_member (take (i + 1) list) n ≡ (is_member (take i list) n || (n == slice_index list i))
+taken : (list : List ℕ) (i n : ℕ) → i < length list → is_member (take (i + 1) list) n
+    ≡ (is_member (take i list) n || (n == slice_index list i))
 taken list i n inside = list_any_more (nat_eq n) list i 0 inside
 
 pub transferred_more : (list : List ℕ) (i b : ℕ) (os us vs : List Object) → i < length list → slice_index list i < length us →
     AreTransferred (take i list) b os us
-    → vs ≡ slice_set us (slice_index list i) (record { owner = b; content = content_at us (slice_index list i) }) → AreTransferred (take (i + 1) list) b os vs
+    → vs ≡ slice_set us (slice_index list i) (record { owner = b; content = content_at us (slice_index list i) }) →
+    AreTransferred (take (i + 1) list) b os vs
 transferred_more list i b os us vs inside known are is =
     grind (arith, nat_tests, length-set, get_or-set_same, transferred_same, taken, get_or-set_other)
 
@@ -225,8 +254,8 @@ HasEach passes number os xs = (x : ℕ) → IsTrue (passes (content_at os x)) �
 abbrev pub annex_in : Content Capability → ℕ
 annex_in c = (root_in c).annex
 
-pub counted_from : {g : Geometry} {os : List Object} (us : List Object) {s : BanksState} (t : BanksState) → AreCounted g os s → IsAsWide s t →
-    AreMarked g us (marks_of t) → ((x : ℕ) → IsTrue (is_bank (content_at us x)) → slice_index t.usages x ≡ usage us x)
+pub counted_from : {g : Geometry} {os : List Object} (us : List Object) {s : BanksState} (t : BanksState) → AreCounted g os s →
+    IsAsWide s t → AreMarked g us (marks_of t) → ((x : ℕ) → IsTrue (is_bank (content_at us x)) → slice_index t.usages x ≡ usage us x)
     → HasEach is_bank limit_in us t.limits → HasEach is_root annex_in us t.annexes → AreCounted g us t
 counted_from {g} {os} us {s} t counted wide marks usages limits annexes = grind (arith, nat_tests, get_or_append_left, get_or-append_right)
 
@@ -234,8 +263,8 @@ marks_length : {g : Geometry} {os : List Object} {s : BanksState} → AreCounted
 marks_length {g} {os} {s} counted = omega (arith, length-append s.free_nodes s.free_pages, counted.nodes, counted.pages)
 
 -- a new object's number is marked as taken
-marked_new : (g : Geometry) (os : List Object) (marks : List Bool) (n b : ℕ) (c : Content Capability) → n < length os → n < length marks → is_free c ≡ false
-    → AreMarked g os marks → AreMarked g (with_new os n b c) (slice_set marks n false)
+marked_new : (g : Geometry) (os : List Object) (marks : List Bool) (n b : ℕ) (c : Content Capability) → n < length os → n < length marks →
+    is_free c ≡ false → AreMarked g os marks → AreMarked g (with_new os n b c) (slice_set marks n false)
 marked_new g os marks n b c inside known used is m within = grind (arith, nat_tests, get_or-set_same, at_new, get_or-set_other, at_other)
 
 -- More is raised along the chain of a bank, and these marks are set.
@@ -277,7 +306,8 @@ module _ (os : List Object) (n b : ℕ) (inside : n < length os) (c : Content Ca
 no_bank_short : (c : Content Capability) (P : Type 0) → is_bank c ≡ false → IsTrue (is_bank c) → P
 no_bank_short c P plain is = cc
 
-module _ {g : Geometry} {os : List Object} (size : length os ≡ object_count g) (t : IsTree os) {s : BanksState} (counted : AreCounted g os s) (b : ℕ)
+module _ {g : Geometry} {os : List Object} (size : length os ≡ object_count g) (t : IsTree os) {s : BanksState}
+    (counted : AreCounted g os s) (b : ℕ)
     (bank : IsTrue (is_bank (content_at os b))) (n : ℕ) (inside : n < length os) (unused : IsTrue (is_free (content_at os n))) where
   known_mark : n < length (marks_of s)
   known_mark = omega (arith, marks_length counted, size)
@@ -286,7 +316,8 @@ module _ {g : Geometry} {os : List Object} (size : length os ≡ object_count g)
   pub counted_alone : (c : Content Capability) {u : BanksState} → is_free c ≡ false → is_bank c ≡ false → is_root c ≡ false
       → IsTaken (chain os b) 1 s u (slice_set (marks_of s) n false) → AreCounted g (with_new os n b c) u
   counted_alone c {u} used plain other taken =
-      counted_from (with_new os n b c) u counted (taken_wide taken) (subst (λ (marks : List Bool). AreMarked g (with_new os n b c) marks) (sym taken.marks_are)
+      counted_from (with_new os n b c) u counted (taken_wide taken) (subst (λ (marks : List Bool). AreMarked g (with_new os n b c) marks)
+      (sym taken.marks_are)
       (marked_new g os (marks_of s) n b c inside known_mark used (marks_counted counted))) (λ x is.
       let was = other_one os n b inside c is_bank x (old_one os n b inside c is_bank plain x is) is in
       omega (
@@ -294,20 +325,24 @@ module _ {g : Geometry} {os : List Object} (size : length os ≡ object_count g)
         taken.usages.each x,
         counted.usage x was,
         usage_new os n b c t bank inside unused used (no_bank_short c (length (chain os b) < 16) plain) x was,
-      )) (subst (HasEach is_bank limit_in (with_new os n b c)) (sym taken.limits) (each_kept os n b inside c is_bank limit_in s.limits counted.limit plain))
-      (subst (HasEach is_root annex_in (with_new os n b c)) (sym taken.annexes) (each_kept os n b inside c is_root annex_in s.annexes counted.annex other))
+      )) (subst (HasEach is_bank limit_in (with_new os n b c)) (sym taken.limits)
+      (each_kept os n b inside c is_bank limit_in s.limits counted.limit plain))
+      (subst (HasEach is_root annex_in (with_new os n b c)) (sym taken.annexes)
+      (each_kept os n b inside c is_root annex_in s.annexes counted.annex other))
 
   -- a bank that isn't counted yet
   pub counted_bank : (limit : ℕ) {u : BanksState} (v : BanksState) → length (chain os b) < 16 → n < g.nodes →
       IsTaken (chain os b) 1 s u (slice_set (marks_of s) n false)
-      → v ≡ record u { usages = slice_set u.usages n 0; limits = slice_set u.limits n limit } → AreCounted g (with_new os n b (content.Bank limit)) v
+      → v ≡ record u { usages = slice_set u.usages n 0; limits = slice_set u.limits n limit } →
+      AreCounted g (with_new os n b (content.Bank limit)) v
   counted_bank limit {u} v short place taken is =
       let c : Content Capability = content.Bank limit in
       let wide = taken_wide taken in
       let within : n < length u.usages = omega (arith, wide.usages, counted.usage_each) in
       let within_limits : n < length s.limits = omega (arith, counted.limit_each) in
       subst (λ (w : BanksState). AreCounted g (with_new os n b c) w) (sym is)
-      (counted_from (with_new os n b c) (record u { usages = slice_set u.usages n 0; limits = slice_set u.limits n limit }) counted (record {
+      (counted_from (with_new os n b c) (record u { usages = slice_set u.usages n 0; limits = slice_set u.limits n limit }) counted
+      (record {
         nodes = wide.nodes;
         pages = wide.pages;
         usages = length-set u.usages n 0 ∙ wide.usages;
@@ -316,14 +351,16 @@ module _ {g : Geometry} {os : List Object} (size : length os ≡ object_count g)
         room = wide.room;
       }) (subst (λ (marks : List Bool). AreMarked g (with_new os n b c) marks) (sym taken.marks_are)
       (marked_new g os (marks_of s) n b c inside known_mark refl (marks_counted counted))) (λ x here. elim (cases_eq x n) [
-        | inl e ↦ rw (e, get_or-set_same u.usages n 0 0 within) (sym (usage_new_bank os n b c t bank inside unused refl (λ is_one. short) refl))
+        | inl e ↦ rw (e, get_or-set_same u.usages n 0 0 within) (sym (usage_new_bank os n b c t bank inside unused refl (λ is_one. short)
+            refl))
         | inr differ ↦
             let was = other_one os n b inside c is_bank x differ here in
             rw (get_or-set_other u.usages n x 0 0 differ)
             (omega (arith, taken.usages.each x, counted.usage x was, usage_new os n b c t bank inside unused refl (λ is_one. short) x was))
       ]) (subst (λ (xs : List ℕ). HasEach is_bank limit_in (with_new os n b c) (slice_set xs n limit)) (sym taken.limits)
       (each_set os n b inside c is_bank limit_in s.limits counted.limit limit refl within_limits))
-      (subst (HasEach is_root annex_in (with_new os n b c)) (sym taken.annexes) (each_kept os n b inside c is_root annex_in s.annexes counted.annex refl)))
+      (subst (HasEach is_root annex_in (with_new os n b c)) (sym taken.annexes)
+      (each_kept os n b inside c is_root annex_in s.annexes counted.annex refl)))
 
   -- a process: two objects, neither a bank
   pub counted_process : (m : ℕ) {u : BanksState} (v : BanksState) → m < length os → m ≢ n → n < g.nodes → IsTrue (is_free (content_at os m))
@@ -337,8 +374,10 @@ module _ {g : Geometry} {os : List Object} (size : length os ≡ object_count g)
       let grown = tree_new os n b c t bank inside unused refl short in
       let kept = new_bank_kept os n b c t bank inside unused refl short b bank in
       let within_grown : m < length vs = omega (arith, length_new os n b c) in
-      let unused_grown : IsTrue (is_free (content_at vs m)) = ap (λ (e : Content Capability). is_free e) (other_content os n b inside c m two) ∙ unused_too in
-      let known : m < length (slice_set (marks_of s) n false) = omega (arith, length-set (marks_of s) n false, marks_length counted, size) in
+      let unused_grown : IsTrue (is_free (content_at vs m)) = ap (λ (e : Content Capability). is_free e)
+      (other_content os n b inside c m two) ∙ unused_too in
+      let known : m < length (slice_set (marks_of s) n false) = omega (arith, length-set (marks_of s) n false, marks_length counted, size)
+      in
       let wide = taken_wide taken in
       let annexes = each_set os n b inside c is_root annex_in s.annexes counted.annex m refl (omega (arith, counted.annex_each)) in
       subst (λ (w : BanksState). AreCounted g (with_new vs m b d) w) (sym is)
@@ -363,7 +402,8 @@ module _ {g : Geometry} {os : List Object} (size : length os ≡ object_count g)
         ap {B = ℕ} (λ (xs : List ℕ). if is_member xs x then 1 else 0) (chain_new os n b c t bank inside unused refl short b bank),
         twice (is_member (chain os b) x),
       )) (subst (HasEach is_bank limit_in (with_new vs m b d)) (sym taken.limits)
-      (each_kept vs m b within_grown d is_bank limit_in s.limits (each_kept os n b inside c is_bank limit_in s.limits counted.limit refl) refl))
+      (each_kept vs m b within_grown d is_bank limit_in s.limits (each_kept os n b inside c is_bank limit_in s.limits counted.limit refl)
+      refl))
       (subst (λ (xs : List ℕ). HasEach is_root annex_in (with_new vs m b d) (slice_set xs n m)) (sym taken.annexes)
       (each_kept vs m b within_grown d is_root annex_in (slice_set s.annexes n m) annexes refl)))
     where
@@ -371,8 +411,8 @@ module _ {g : Geometry} {os : List Object} (size : length os ≡ object_count g)
       twice is = grind (arith, nat_tests)
 
 -- more is accounted for, and then a number taken
-pub taken_one : {banks : List ℕ} {count n : ℕ} {s r t : BanksState} → IsRaised banks count s.usages r.usages → r ≡ record s { usages = r.usages } →
-    IsMade r t n → IsTaken banks count s t (slice_set (marks_of s) n false)
+pub taken_one : {banks : List ℕ} {count n : ℕ} {s r t : BanksState} → IsRaised banks count s.usages r.usages →
+    r ≡ record s { usages = r.usages } → IsMade r t n → IsTaken banks count s t (slice_set (marks_of s) n false)
 taken_one {banks} {count} {n} {s} {r} {t} raised kept made = grind (arith, nat_tests)
 
 -- and one more
@@ -386,7 +426,8 @@ pub still_free : (g : Geometry) (age : ℕ) (p q : Parts) (n m b : ℕ) (c : Con
     → IsTrue (is_free (content_at (objects_in p) m)) → (header_at q.headers m).role ≡ role.Free
 still_free g age p q n m b c k count objects known two unused =
     free_header g age q k m (omega arith)
-    (ap (λ (os : List Object). is_free (content_at os m)) objects ∙ (ap (λ (o : Object). is_free o.content) (at_other (objects_in p) n b c m two) ∙ unused))
+    (ap (λ (os : List Object). is_free (content_at os m)) objects ∙ (ap (λ (o : Object). is_free o.content)
+    (at_other (objects_in p) n b c m two) ∙ unused))
 
 -- what is new isn't free
 pub fresh_used : (f : Fresh) → is_free (fresh_content Void f) ≡ false
@@ -404,9 +445,11 @@ plain_under os b f other under = grind (arith, nat_tests)
 inside_objects : (p : Parts) (n : ℕ) → n < length p.headers → n < length (objects_in p)
 inside_objects p n known = omega (arith, length_objects p.headers p.contents)
 
-module _ {p : Parts} {s : BanksState} {b : ℕ} (asks : MayServe p s b) {q : Parts} (current : AreCurrent (frames_of p) → AreCurrent (frames_of q)) where
+module _ {p : Parts} {s : BanksState} {b : ℕ} (asks : MayServe p s b) {q : Parts}
+    (current : AreCurrent (frames_of p) → AreCurrent (frames_of q)) where
   carried : (us : List Object) (u : BanksState) → objects_in q ≡ us →
-      ((age : ℕ) → AreKeepable p.geometry age (frames_of p) → AreKeepable p.geometry age (frames_of q)) → AreCounted p.geometry us u → CarriesOut p q u
+      ((age : ℕ) → AreKeepable p.geometry age (frames_of p) → AreKeepable p.geometry age (frames_of q)) → AreCounted p.geometry us u →
+      CarriesOut p q u
   carried us u objects keepable counted = record {
     counted = subst (λ (os : List Object). AreCounted p.geometry os u) (sym objects) counted;
     current = current asks.sound.1.current;
@@ -427,12 +470,13 @@ module _ {p : Parts} {s : BanksState} {b : ℕ} (asks : MayServe p s b) {q : Par
           (objects ∙ ap (λ (h : Fresh). with_new (objects_in p) n b (fresh_content Void h)) is)
           (λ age k. keepable age (subst (λ (h : Fresh). FreshFits h) (sym is) few) k)
           (counted_bank (serve_framed asks).size (serve_tree asks) asks.counted b asks.bank n (inside_objects p n known) may.unused limit v
-          (subst (λ (h : Fresh). IsMadeUnder (objects_in p) b h) is may.kind) (subst (λ (h : Fresh). IsFreshAt p.geometry n h) is may.place) taken after)
+          (subst (λ (h : Fresh). IsMadeUnder (objects_in p) b h) is may.kind) (subst (λ (h : Fresh). IsFreshAt p.geometry n h) is may.place)
+          taken after)
 
     pub process_carried : {m : ℕ} {u : BanksState} (v : BanksState) → MakesTwo p.geometry (objects_in p) (n ∷ m ∷ []) n m b →
         objects_in q ≡ with_new (with_new (objects_in p) n b (new_root m)) m b new_annex →
         ((age : ℕ) → AreKeepable p.geometry age (frames_of p) → AreKeepable p.geometry age (frames_of q)) → m < length p.headers →
-        IsTaken (chain (objects_in p) b) 2 s u (slice_set (slice_set (marks_of s) n false) m false) → v ≡ record u { annexes = slice_set u.annexes n m } →
-        CarriesOut p q v
+        IsTaken (chain (objects_in p) b) 2 s u (slice_set (slice_set (marks_of s) n false) m false) →
+        v ≡ record u { annexes = slice_set u.annexes n m } → CarriesOut p q v
     process_carried {m} {u} v may objects keepable within taken is =
         search (arith, nat_tests, carried, counted_process, serve_tree, inside_objects)

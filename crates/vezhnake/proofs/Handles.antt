@@ -10,7 +10,8 @@ module _ (U : Type 0) (P : Session → Session → Type 0) (old new : Option Ses
 
   pub on_some : (s t : Session) (result : Status) → old ≡ Some s → new ≡ Some t → P s t → OnSession old new result U P
   on_some s t result was is holds =
-      subst (λ (o : Option Session). OnSession o new result U P) (sym was) (subst (λ (n : Option Session). OnSession (Some s) n result U P) (sym is) holds)
+      subst (λ (o : Option Session). OnSession o new result U P) (sym was) (subst (λ (n : Option Session). OnSession (Some s) n result U P)
+      (sym is) holds)
 
 module _ (old new : Option Session) where
   pub closes_none : old ≡ None → new ≡ None → ClosesHandle old new status.NotOpen
@@ -35,5 +36,6 @@ module _ (bytes : List ℕ) (cache : ℕ) where
       subst (λ (o : Option Session). OpensHandle o new bytes cache status.Done) (sym was)
       (subst (λ (n : Option Session). OpensHandle None n bytes cache status.Done) (sym is) (refl, opens))
 
-  pub opens_none : (old : Option Session) (why : Status) → old ≡ None → OpensKernel bytes cache (Err why) → OpensHandle old old bytes cache why
+  pub opens_none : (old : Option Session) (why : Status) → old ≡ None → OpensKernel bytes cache (Err why) →
+      OpensHandle old old bytes cache why
   opens_none old why was refused = subst (λ (o : Option Session). OpensHandle o o bytes cache why) (sym was) refused

@@ -6,7 +6,8 @@ use Rattle.layout.specs.declared.open_fault.OpenFault.TheVariants as fault
 use Rattle.vezhnake.specs.declared.host_kernel.HostKernel.TheVariants as store
 use Rattle.vezhnake.specs.declared.status.Status.TheVariants as status
 
-pub refused_from : (d back : HostDevice) (why : OpenFault) (s : Status) → RefusesToOpen host_disk d back why → s ≡ status_by why → RefusesFrom d s
+pub refused_from : (d back : HostDevice) (why : OpenFault) (s : Status) → RefusesToOpen host_disk d back why → s ≡ status_by why →
+    RefusesFrom d s
 refused_from d back fault.Failed s refuses is = subst (RefusesFrom d) (sym is) (back, refuses.is_why)
 refused_from d back fault.NoMemory s refuses is = subst (RefusesFrom d) (sym is) tt
 refused_from d back (fault.Bad reason) s refuses is = subst (RefusesFrom d) (sym is) refuses.is_why.1
@@ -25,8 +26,8 @@ module _ (bytes : List ℕ) (cache : ℕ) (d : HostDevice) (fresh : IsFresh byte
   refused_by status.CallsLost refuses = absurd refuses
   refused_by status.BadCommand refuses = absurd refuses
 
-  pub opened_plain : (k : Power HostDevice (StoreState HostDevice)) → cache ≡ 0 → Opens host_disk (view_of host_disk) (parts_of host_disk) d k
-      → OpensKernel bytes cache (Ok (store.Plain k))
+  pub opened_plain : (k : Power HostDevice (StoreState HostDevice)) → cache ≡ 0 →
+      Opens host_disk (view_of host_disk) (parts_of host_disk) d k → OpensKernel bytes cache (Ok (store.Plain k))
   opened_plain k none opens = (d, fresh, opens, none)
 
   pub opened_bounded : (k : Power HostDevice (StoreState HostDevice)) (capacity : ℕ) → capacity ≡ cache → 8 ≤ capacity → capacity ≤ 8192

@@ -10,7 +10,8 @@ use Rattle.model.specs.declared.order.ResultCode.TheVariants as code
 
 -- the answer of these numbers
 fault_in : ℕ → MemoryFault
-fault_in n = if n == 1 then fault.NoSpace else if n == 2 then fault.Beyond else if n == 3 then fault.Hole else if n == 4 then fault.Malformed else fault.ReadOnly
+fault_in n = if n == 1 then fault.NoSpace else if n == 2 then fault.Beyond else if n == 3 then fault.Hole else if n ==
+    4 then fault.Malformed else fault.ReadOnly
 
 refusal_in : ℕ → ℕ → Refusal
 refusal_in kind first =

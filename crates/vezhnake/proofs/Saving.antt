@@ -7,12 +7,13 @@ use Rattle.model.specs.declared.command.Command.TheVariants as command
 use Rattle.vezhnake.specs.declared.status.Status.TheVariants as status
 
 module _ (old new : Session) (before after : List RawReply) (n : ℕ) where
-  front : (commands : List (Option Command)) → ServesEachOver old.kernel new.kernel (take n commands) (take n after) → drop n after ≡ drop n before
-      → new.answer ≡ old.answer → new.taken ≡ old.taken → ServesFront old new commands before after n
+  front : (commands : List (Option Command)) → ServesEachOver old.kernel new.kernel (take n commands) (take n after) →
+      drop n after ≡ drop n before → new.answer ≡ old.answer → new.taken ≡ old.taken → ServesFront old new commands before after n
   front commands serves rest answer taken = record { kernel = serves; rest = rest; answer = answer; taken = taken }
 
-  pub saved : (commands : List (Option Command)) → commands ≡ save_stages → ServesEachOver old.kernel new.kernel (take n commands) (take n after)
-      → drop n after ≡ drop n before → EndsAt true commands after n → new.answer ≡ old.answer → new.taken ≡ old.taken
+  pub saved : (commands : List (Option Command)) → commands ≡ save_stages →
+      ServesEachOver old.kernel new.kernel (take n commands) (take n after) → drop n after ≡ drop n before → EndsAt true commands after n →
+      new.answer ≡ old.answer → new.taken ≡ old.taken
       → SavesSession old new before after n status.Done
   saved commands are serves rest ends answer taken = (
     subst (λ (cs : List (Option Command)). ServesFront old new cs before after n) are (front commands serves rest answer taken),
@@ -36,10 +37,13 @@ module _ (old new : Session) (before after : List RawReply) (n : ℕ) where
     ⊎_elim (λ none. none) (λ last. let never : false ≡ true = last.0 in cc) ends.ends,
   )
 
-module _ (old new : Session) (number : ℕ) (reply : RawReply) (served : Served) (serves : ServesLineOver old.kernel new.kernel (command.Show number) served)
+module _ (old new : Session) (number : ℕ) (reply : RawReply) (served : Served)
+    (serves : ServesLineOver old.kernel new.kernel (command.Show number) served)
     (is : reply ≡ numbers_of served) (answer : new.answer ≡ old.answer) (taken : new.taken ≡ old.taken) where
-  pub page_shown : (before after : List ℕ) → after ≡ shown_words served.answer before → ShowsPage old new number before after reply status.Done
+  pub page_shown : (before after : List ℕ) → after ≡ shown_words served.answer before →
+      ShowsPage old new number before after reply status.Done
   page_shown before after words = (refl, served, record { kernel = serves; numbers = is; answer = answer; taken = taken }, words)
 
-  pub object_shown : (before after : RawObject) → after ≡ shown_object served.answer before → ShowsObject old new number before after reply status.Done
+  pub object_shown : (before after : RawObject) → after ≡ shown_object served.answer before →
+      ShowsObject old new number before after reply status.Done
   object_shown before after object = (refl, served, record { kernel = serves; numbers = is; answer = answer; taken = taken }, object)

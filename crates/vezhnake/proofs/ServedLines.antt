@@ -14,12 +14,14 @@ use Rattle.vezhnake.proofs.Surviving.{runs_survive}
 
 -- ---- what a crash leaves in the turn of a command
 
-split_one : (g : Geometry) (size : ℕ) (c : Image) (ss ts : List Saved) → DenotesOne g size (ss ++ ts) c → DenotesOne g size ss c ⊎ DenotesOne g size ts c
+split_one : (g : Geometry) (size : ℕ) (c : Image) (ss ts : List Saved) → DenotesOne g size (ss ++ ts) c →
+    DenotesOne g size ss c ⊎ DenotesOne g size ts c
 split_one g size c [] ts one = inr one
 split_one g size c (s ∷ ss) ts one = ⊎_elim (λ here. inl (inl here))
     (λ there. ⊎_elim (λ first. inl (inr first)) (λ last. inr last) (split_one g size c ss ts there)) one
 
-denotes_this : (g : Geometry) (size : ℕ) (c : Image) (ss : List Saved) → DenotesOne g size ss c → (s : Saved) × Contains ss s × Denotes g size c s
+denotes_this : (g : Geometry) (size : ℕ) (c : Image) (ss : List Saved) → DenotesOne g size ss c →
+    (s : Saved) × Contains ss s × Denotes g size c s
 denotes_this g size c [] one = absurd one
 denotes_this g size c (s ∷ ss) one = ⊎_elim
     (λ here. (s, (zero, omega arith, refl), here))
@@ -38,12 +40,13 @@ answer_reported old new a caused = search (arith, nat_tests)
 
 -- ---- one run after another
 
-run_on : (g : Geometry) (m : Machine) (ts us : List Turn) (mid last : Machine) → IsRun g m ts mid → IsRun g mid us last → IsRun g m (ts ++ us) last
+run_on : (g : Geometry) (m : Machine) (ts us : List Turn) (mid last : Machine) → IsRun g m ts mid → IsRun g mid us last →
+    IsRun g m (ts ++ us) last
 run_on g m [] us mid last first next = subst (λ (x : Machine). IsRun g x us last) first next
 run_on g m (t ∷ ts) us mid last first next = (first.0, first.1, run_on g t.after ts us mid last first.2 next)
 
-numbered_on : (g : Geometry) (ts us : List Turn) (cs ds : List (Option Command)) (rs qs : List RawReply) → AreNumbered g ts cs rs → AreNumbered g us ds qs
-    → AreNumbered g (ts ++ us) (cs ++ ds) (rs ++ qs)
+numbered_on : (g : Geometry) (ts us : List Turn) (cs ds : List (Option Command)) (rs qs : List RawReply) → AreNumbered g ts cs rs →
+    AreNumbered g us ds qs → AreNumbered g (ts ++ us) (cs ++ ds) (rs ++ qs)
 numbered_on g [] us [] ds [] qs first next = next
 numbered_on g (t ∷ ts) us (c ∷ cs) ds (r ∷ rs) qs first next = (first.0, numbered_on g ts us cs ds rs qs first.1 next)
 numbered_on g [] us [] ds (r ∷ rs) qs first next = absurd first
@@ -52,13 +55,15 @@ numbered_on g (t ∷ ts) us [] ds rs qs first next = absurd first
 numbered_on g (t ∷ ts) us (c ∷ cs) ds [] qs first next = absurd first
 
 -- what is after the replies written
-pub behind_next : (rs before : List RawReply) (i : ℕ) (r : RawReply) → drop i rs ≡ drop i before → drop (i + 1) (slice_set rs i r) ≡ drop (i + 1) before
+pub behind_next : (rs before : List RawReply) (i : ℕ) (r : RawReply) → drop i rs ≡ drop i before →
+    drop (i + 1) (slice_set rs i r) ≡ drop (i + 1) before
 behind_next rs before i r same =
     drop-set-lt (i + 1) rs i r (omega arith) ∙ sym (drop-drop 1 i rs) ∙ ap (λ (xs : List RawReply). drop 1 xs) same ∙ drop-drop 1 i before
 
 -- a reply that doesn't end a batch is no refusal, if a refusal would end it
-pub still_accepted : (stops ends : Bool) (rs : List RawReply) (i : ℕ) (r : RawReply) → i < length rs → ends ≡ (stops && is_refused r) → ends ≡ false
-    → (stops ≡ true → (k : ℕ) → k < i → refuses_at rs k ≡ false) → stops ≡ true → (k : ℕ) → k < i + 1 → refuses_at (slice_set rs i r) k ≡ false
+pub still_accepted : (stops ends : Bool) (rs : List RawReply) (i : ℕ) (r : RawReply) → i < length rs → ends ≡ (stops && is_refused r) →
+    ends ≡ false → (stops ≡ true → (k : ℕ) → k < i → refuses_at rs k ≡ false) → stops ≡ true → (k : ℕ) → k < i + 1 →
+    refuses_at (slice_set rs i r) k ≡ false
 still_accepted stops ends rs i r within is off before on =
     let none : RawReply = reply_of answer.Done None in
     let last : is_refused r ≡ false = ap (λ (s : Bool). s && is_refused r) (sym on) ∙ sym is ∙ off in
@@ -67,14 +72,15 @@ still_accepted stops ends rs i r within is off before on =
     (ap is_refused (get_or-set_same rs i r none within) ∙ last)
 
 module _ {S : Type 0} (view : S → View HostDevice) (parts : S → Parts) where
-  turns_on : (g : Geometry) (ts us : List Turn) (a b c : Power HostDevice S) → AreTurnsOf host_disk view parts g a b ts → AreTurnsOf host_disk view parts g b c us
-      → AreTurnsOf host_disk view parts g a c (ts ++ us)
+  turns_on : (g : Geometry) (ts us : List Turn) (a b c : Power HostDevice S) → AreTurnsOf host_disk view parts g a b ts →
+      AreTurnsOf host_disk view parts g b c us → AreTurnsOf host_disk view parts g a c (ts ++ us)
   turns_on g [] us a b c first next = subst (λ (x : Power HostDevice S). AreTurnsOf host_disk view parts g x c us) first next
   turns_on g (t ∷ ts) us a b c first next = (first.0, first.1, turns_on g ts us first.0 b c first.2 next)
 
   pub line_served : CrashesInRunsAreSurvived host_disk view parts → (p q : Power HostDevice S) (c : Command) (s : Served) → Fits c →
       Serves host_disk view parts p c s.answer q → IsCaused (disk_of host_disk view parts p) (disk_of host_disk view parts q) s.answer →
-      HasCode host_disk view parts p c s → (s.answer ≡ answer.Refused refusal.NoMemory → takes_memory c ≡ true) → ServesLine view parts p q c s
+      HasCode host_disk view parts p c s → (s.answer ≡ answer.Refused refusal.NoMemory → takes_memory c ≡ true) →
+      ServesLine view parts p q c s
   line_served all p q c s fits serves caused coded memory = record {
     turn = λ g m stands.
         let v = serves g m stands in
@@ -114,8 +120,9 @@ module _ {S : Type 0} (view : S → View HostDevice) (parts : S → Parts) where
   }
 
   -- and more of them
-  pub more_served : CrashesInRunsAreSurvived host_disk view parts → (a b c : Power HostDevice S) (cs ds : List (Option Command)) (rs qs : List RawReply) →
-      ServesEach view parts a b cs rs → ServesEach view parts b c ds qs → ServesEach view parts a c (cs ++ ds) (rs ++ qs)
+  pub more_served : CrashesInRunsAreSurvived host_disk view parts → (a b c : Power HostDevice S) (cs ds : List (Option Command))
+      (rs qs : List RawReply) → ServesEach view parts a b cs rs → ServesEach view parts b c ds qs →
+      ServesEach view parts a c (cs ++ ds) (rs ++ qs)
   more_served all a b c cs ds rs qs first next = record {
     turns = λ g m stands.
         let f = first.turns g m stands in
@@ -131,12 +138,14 @@ module _ {S : Type 0} (view : S → View HostDevice) (parts : S → Parts) where
   }
 
   -- one more of a list, whose reply is written after those before
-  pub served_next : CrashesInRunsAreSurvived host_disk view parts → (start now next : Power HostDevice S) (cs : List (Option Command)) (rs : List RawReply)
-      (i : ℕ) (c : Command) (r : RawReply) → i < length cs → i < length rs → slice_index_or cs i None ≡ Some c →
+  pub served_next : CrashesInRunsAreSurvived host_disk view parts → (start now next : Power HostDevice S) (cs : List (Option Command))
+      (rs : List RawReply) (i : ℕ) (c : Command) (r : RawReply) → i < length cs → i < length rs → slice_index_or cs i None ≡ Some c →
       ServesEach view parts start now (take i cs) (take i rs) → ServesEach view parts now next (Some c ∷ []) (r ∷ [])
       → ServesEach view parts start next (take (i + 1) cs) (take (i + 1) (slice_set rs i r))
   served_next all start now next cs rs i c r in_cs in_rs is first last =
       let both = more_served all start now next (take i cs) (Some c ∷ []) (take i rs) (r ∷ []) first last in
-      let front : take (i + 1) cs ≡ take i cs ++ Some c ∷ [] = take_more cs i None in_cs ∙ ap (λ (x : Option Command). take i cs ++ x ∷ []) is in
+      let front : take (i + 1) cs ≡ take i cs ++ Some c ∷ [] = take_more cs i None in_cs
+      ∙ ap (λ (x : Option Command). take i cs ++ x ∷ []) is in
       subst (λ (xs : List (Option Command)). ServesEach view parts start next xs (take (i + 1) (slice_set rs i r))) (sym front)
-      (subst (λ (ys : List RawReply). ServesEach view parts start next (take i cs ++ Some c ∷ []) ys) (sym (take_more_set rs i r in_rs)) both)
+      (subst (λ (ys : List RawReply). ServesEach view parts start next (take i cs ++ Some c ∷ []) ys) (sym (take_more_set rs i r in_rs))
+      both)

@@ -11,15 +11,18 @@ use Rattle.std.proofs.Common.{◌≡◌, ◌≤◌, ◌++◌, ◌∙◌}
 use Rattle.kernel.specs.Power as power
 
 -- the events of the first k calls are the first events
-front_of : (k : ℕ) (calls : List HostCall) (lost : List Event) → events_of calls ++ lost ≡ events_of (take k calls) ++ (events_of (drop k calls) ++ lost)
+front_of : (k : ℕ) (calls : List HostCall) (lost : List Event) → events_of calls ++ lost
+    ≡ events_of (take k calls) ++ (events_of (drop k calls) ++ lost)
 front_of k calls lost =
-    ap (λ (es : List Event). es ++ lost) (ap events_of (sym (take-append-drop k calls)) ∙ flat_map-append events_by (take k calls) (drop k calls))
+    ap (λ (es : List Event). es ++ lost) (ap events_of (sym (take-append-drop k calls))
+    ∙ flat_map-append events_by (take k calls) (drop k calls))
     ∙ append_assoc (events_of (take k calls)) (events_of (drop k calls)) lost
 
 first_events : (k : ℕ) (calls : List HostCall) (lost : List Event)
     → take (length (events_of (take k calls))) (events_of calls ++ lost) ≡ events_of (take k calls)
 first_events k calls lost =
-    ap (take (length (events_of (take k calls)))) (front_of k calls lost) ∙ take-append_seam (events_of (take k calls)) (events_of (drop k calls) ++ lost)
+    ap (take (length (events_of (take k calls)))) (front_of k calls lost) ∙ take-append_seam (events_of (take k calls))
+    (events_of (drop k calls) ++ lost)
 
 -- what storage may leave after the first k calls, the device might have left since an earlier moment
 at_calls : (d : HostDevice) (t k : ℕ) (c : Image) → t ≤ length (events_of (take k d.file.history.calls))
@@ -28,7 +31,8 @@ at_calls d t k c later leaves =
     let calls = d.file.history.calls in
     let front = events_of (take k calls) in
     let past : List Event = events_of calls ++ d.file.history.lost in
-    let within : length front ≤ length past = subst (λ (es : List Event). length front ≤ length es) (sym (front_of k calls d.file.history.lost))
+    let within : length front ≤ length past = subst (λ (es : List Event). length front ≤ length es)
+    (sym (front_of k calls d.file.history.lost))
     (omega (arith, length-append front (events_of (drop k calls) ++ d.file.history.lost))) in (
       length front,
       later,
@@ -38,8 +42,8 @@ at_calls d t k c later leaves =
     )
 
 module _ {S : Type 0} (view : S → View HostDevice) (parts : S → Parts) where
-  beneath : (p : Power HostDevice S) (d : HostDevice) (t : ℕ) (c : Image) → IsDeviceOf host_disk view parts p d → (host_disk d).left_since t c
-      → (disk_of host_disk view parts p).left_since t c
+  beneath : (p : Power HostDevice S) (d : HostDevice) (t : ℕ) (c : Image) → IsDeviceOf host_disk view parts p d →
+      (host_disk d).left_since t c → (disk_of host_disk view parts p).left_since t c
   beneath (power.Up l) d t c is left = subst (λ (e : HostDevice). (host_disk e).left_since t c) is left
   beneath (power.Down e) d t c is left = subst (λ (f : HostDevice). (host_disk f).left_since t c) is left
   beneath power.Between d t c is left = absurd is
@@ -55,13 +59,14 @@ module _ {S : Type 0} (view : S → View HostDevice) (parts : S → Parts) where
   runs_survive all old new g m turns stands run = survives all g m old new turns stands run
 
   pub runs_text : CrashesInRunsAreSurvived host_disk view parts → (old new : Power HostDevice S) (text before after : List ℕ) (failures : ℕ)
-      (start : Written) → start ≡ in_memory before 0 → (input unread : Option (List ℕ)) → input ≡ Some text → (result : Result (Unit {0}) RunFault) →
-      RunsOver host_disk view parts old new input unread start (in_memory after failures) result
+      (start : Written) → start ≡ in_memory before 0 → (input unread : Option (List ℕ)) → input ≡ Some text →
+      (result : Result (Unit {0}) RunFault) → RunsOver host_disk view parts old new input unread start (in_memory after failures) result
       → IsConfined host_disk view parts old new input unread → RunsText view parts old new text before after result
   runs_text all old new text before after failures start begins input unread is result over confined = record {
     unread = unread;
     failures = failures;
-    run = subst (λ (i : Option (List ℕ)). RunsOver host_disk view parts old new i unread (in_memory before 0) (in_memory after failures) result) is
+    run = subst (λ (i : Option (List ℕ)). RunsOver host_disk view parts old new i unread (in_memory before 0) (in_memory after failures)
+        result) is
         (subst (λ (w : Written). RunsOver host_disk view parts old new input unread w (in_memory after failures) result) begins over);
     confined = subst (λ (i : Option (List ℕ)). IsConfined host_disk view parts old new i unread) is confined;
     survives = runs_survive all old new;
@@ -73,8 +78,8 @@ calls_are view parts (power.Up l) d is = ap (λ (e : HostDevice). e.file.history
 calls_are view parts (power.Down e) d is = ap (λ (f : HostDevice). f.file.history.calls) is
 calls_are view parts power.Between d is = absurd is
 
-pub start_is : {S : Type 0} (view : S → View HostDevice) (parts : S → Parts) (p : Power HostDevice S) (d : HostDevice) → IsDeviceOf host_disk view parts p d
-    → d.file.pending.start ≡ start_beneath view p
+pub start_is : {S : Type 0} (view : S → View HostDevice) (parts : S → Parts) (p : Power HostDevice S) (d : HostDevice) →
+    IsDeviceOf host_disk view parts p d → d.file.pending.start ≡ start_beneath view p
 start_is view parts (power.Up l) d is = ap (λ (e : HostDevice). e.file.pending.start) is
 start_is view parts (power.Down e) d is = ap (λ (f : HostDevice). f.file.pending.start) is
 start_is view parts power.Between d is = absurd is

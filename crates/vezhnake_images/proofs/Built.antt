@@ -35,7 +35,8 @@ unbuilt table b old new build.Field is size refuses works = (omega arith, (image
 unbuilt table b old new build.Target is size refuses works = (omega arith, (image_disk old).sectors, refuses)
 unbuilt table b old new build.Owner is size refuses works = (omega arith, (image_disk old).sectors, refuses)
 unbuilt table b old new build.Small is size refuses works =
-    absurd (refuses.2.broken (subst (λ (n : ℕ). n ≤ (image_disk old).sectors) (sym (ap (λ p. p.total) (same_plan table refuses.0 b refuses.1 is)))
+    absurd (refuses.2.broken (subst (λ (n : ℕ). n ≤ (image_disk old).sectors)
+    (sym (ap (λ p. p.total) (same_plan table refuses.0 b refuses.1 is)))
     (subst (λ (n : ℕ). (plan_for b).total ≤ n) (sym size) (omega arith))))
 unbuilt table b old new build.Failed is size refuses works =
     let rises = works refl in
@@ -62,7 +63,8 @@ in_bytes sectors total same = omega (arith, same)
 -- the image of a description is in front of the buffer
 pub image_put : (text old part : List ℕ) (d : Description) (device : ImageDevice) → (read : IsRead text d)
     → ((table : Members) → IsDescription table d → IsBuiltOn table (plan_for d).total device) → length part ≡ 512 * (plan_for d).total
-    → AreSectors (image_disk device).seen 0 part → length part ≤ length old → PutsImage text old (part ++ drop (length part) old) (length part) true
+    → AreSectors (image_disk device).seen 0 part → length part ≤ length old →
+    PutsImage text old (part ++ drop (length part) old) (length part) true
 image_put text old part d device read built size are within =
     let front : part ≡ take (length part) (part ++ drop (length part) old) = sym (take-append_seam part (drop (length part) old)) in
     let image : IsImageOf text part = record {

@@ -8,12 +8,14 @@ pub over : (bytes copy : List ℕ) (d : ImageDevice) → copy ≡ bytes → leng
     → Agrees (image_disk d).seen (image_of copy) → IsOver bytes d
 over bytes copy d same whole size seen = record {
   size =
-      let sectors : (image_disk d).sectors ≡ length bytes / 512 = subst (λ (xs : List ℕ). (image_disk d).sectors ≡ sectors_of xs) same size in
+      let sectors : (image_disk d).sectors ≡ length bytes / 512 = subst (λ (xs : List ℕ). (image_disk d).sectors ≡ sectors_of xs) same size
+      in
       omega arith;
   seen = subst (λ (xs : List ℕ). Agrees (image_disk d).seen (image_of xs)) same seen;
 }
 
-pub blank : (bytes : List ℕ) (sectors : ℕ) (d : ImageDevice) → length bytes ≡ sectors * 512 → IsOver bytes d → (image_disk d).sectors ≡ sectors
+pub blank : (bytes : List ℕ) (sectors : ℕ) (d : ImageDevice) → length bytes ≡ sectors * 512 → IsOver bytes d →
+    (image_disk d).sectors ≡ sectors
 blank bytes sectors d size over = let is = over.size in omega arith
 
 -- the reason why a device over bytes wasn't opened holds of the bytes

@@ -7,8 +7,8 @@ unfoldable use Rattle.toml.specs.Parse.{parse_document}
 use Rattle.vezhnake_images.specs.declared.image_status.ImageStatus.TheVariants as status
 
 -- a reason that is none of a call that did its work, or whose buffer is too small
-refused : (Fits : Bool → Type 0) (Refuses : ImageStatus → Type 0) → (Refuses status.Done → ⊥) → (Refuses status.SmallBuffer → ⊥) → (s : ImageStatus)
-    → Refuses s → Answered Fits Refuses s
+refused : (Fits : Bool → Type 0) (Refuses : ImageStatus → Type 0) → (Refuses status.Done → ⊥) → (Refuses status.SmallBuffer → ⊥) →
+    (s : ImageStatus) → Refuses s → Answered Fits Refuses s
 refused Fits Refuses done small status.Done is = absurd (done is)
 refused Fits Refuses done small status.SmallBuffer is = absurd (small is)
 refused Fits Refuses done small (status.Bad reason) is = is
@@ -32,7 +32,8 @@ unbuilt_text text old size s is = refused (PutsImage text old old size) (λ r. R
     (λ both. both.0.2) (λ both. both.0.2) s (is, refl, refl)
 
 -- a text is refused as its table is
-pub refused_table : (text : List ℕ) (table : Members) (s : ImageStatus) → parse_document text ≡ Some table → RefusesTable table s → RefusesText text s
+pub refused_table : (text : List ℕ) (table : Members) (s : ImageStatus) → parse_document text ≡ Some table → RefusesTable table s →
+    RefusesText text s
 refused_table text table status.Done read is = absurd is
 refused_table text table status.SmallBuffer read is = absurd is
 refused_table text table (status.Bad reason) read is = absurd is
@@ -44,7 +45,8 @@ refused_table text table (status.BadDescription why) read is = (table, read, is)
 
 -- the line about what is found is copied out
 pub explained_by : (bytes line old new : List ℕ) (size_old size : ℕ) (found : Option ImageFault) (s : ImageStatus) → IsFound bytes found
-    → line ≡ explanation_text found → Answered (λ fits. CopiesOut line old new size fits) (λ r. ⊥) s → ExplainsBytes bytes old new size_old size s
+    → line ≡ explanation_text found → Answered (λ fits. CopiesOut line old new size fits) (λ r. ⊥) s →
+    ExplainsBytes bytes old new size_old size s
 explained_by bytes line old new size_old size found status.Done is same copies =
     (found, is, subst (λ (xs : List ℕ). CopiesOut xs old new size true) same copies)
 explained_by bytes line old new size_old size found status.SmallBuffer is same copies =

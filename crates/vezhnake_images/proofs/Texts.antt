@@ -11,7 +11,8 @@ pub text_for : (bytes text : List ℕ) (d back : ImageDevice) (e : Description) 
 text_for bytes text d back e over read spelled says =
     let s = read.0 in
     let whole = read.2 in
-    let told = says (described_has_text s.plan s.header.age s.frames e read.1.encodes.plan.fits read.1.sound whole.describes whole.ranges whole.layout) in (
+    let told = says (described_has_text s.plan s.header.age s.frames e read.1.encodes.plan.fits read.1.sound whole.describes whole.ranges
+    whole.layout) in (
       s,
       (d, back, over, read.1),
       record {

@@ -15,7 +15,8 @@ returns-clause-writes g c =
     let done = c.set_word.ensures in
     let prepared : q ≡ touched_too (c.args.page ∷ []) p = search rules in
     record {
-      sound = word_written p q (c.args.page ∷ []) prepared fs (λ age. word_stays_sound q.geometry age (frames_of q) fs c.args.page c.args.index c.args.word
+      sound = word_written p q (c.args.page ∷ []) prepared fs (λ age. word_stays_sound q.geometry age (frames_of q) fs c.args.page
+          c.args.index c.args.word
           c.ranges.word.fits done.objects done.current (λ k. done.keepable age tt k));
       headers = search rules;
       geometry = search rules;

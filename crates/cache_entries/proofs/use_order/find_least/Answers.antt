@@ -13,13 +13,16 @@ has-requires c =
 
 pub returns-then-not-has-clause-least : goal.returns-then-not-has-clause-least
 returns-then-not-has-clause-least c =
-    least_in_turn c.settle_few.new.log.uses c.loop.order.numbers c.least-number.result (sym c.has.ensures ∙ c.if-not-has.true) c.least-number.ensures.least
+    least_in_turn c.settle_few.new.log.uses c.loop.order.numbers c.least-number.result (sym c.has.ensures ∙ c.if-not-has.true)
+    c.least-number.ensures.least
 
 pub loop-preserved : goal.loop-preserved
 loop-preserved c =
-    let after = moves c.settle_few.new.log c.loop.order c.loop.invariant.log (used_all c.args.log.now.uses c.args.order.now) c.promote.new.self c.least-number.result c.loop.invariant.same
+    let after = moves c.settle_few.new.log c.loop.order c.loop.invariant.log (used_all c.args.log.now.uses c.args.order.now)
+    c.promote.new.self c.least-number.result c.loop.invariant.same
     c.loop.invariant.full (sym c.has.ensures ∙ c.if-not-has.false) c.promote.ensures in
     record { same = after.same; log = after.log; full = after.full }
 
 pub least-requires : goal.least-requires
-least-requires c = settled_full c.settle_few.new.log c.loop.order c.loop.invariant.log c.settle.new.order c.settle.ensures.order c.loop.invariant.full
+least-requires c = settled_full c.settle_few.new.log c.loop.order c.loop.invariant.log c.settle.new.order c.settle.ensures.order
+    c.loop.invariant.full

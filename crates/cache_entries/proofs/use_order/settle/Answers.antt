@@ -12,9 +12,11 @@ loop-index-preserved c =
     let before = c.loop-index.invariant in
     let below : i < length uses = search rules in
     let after : Settling uses (i + 1) c.args.order.now c.if-not-is_outdated.order = elim c.if-not-is_outdated.branch [
-      | then-not-is_outdated w ↦ one_settled uses i c.args.order.now o c.if-not-is_outdated.order below before.same before.listed w.number.result
+      | then-not-is_outdated w ↦ one_settled uses i c.args.order.now o c.if-not-is_outdated.order below before.same before.listed
+          w.number.result
           w.number.ensures (w.order-is ∙ w.promote.ensures)
-      | else-not-is_outdated w ↦ one_left_out uses i c.args.order.now o c.if-not-is_outdated.order below before.same before.listed w.order-is
+      | else-not-is_outdated w ↦ one_left_out uses i c.args.order.now o c.if-not-is_outdated.order below before.same before.listed
+          w.order-is
           (c.is_outdated.ensures w.if-not-is_outdated.false)
     ] in
     record { same = after.same; listed = after.listed }

@@ -9,7 +9,8 @@ pub returns : goal.returns
 returns g c =
     let p = g.F.Frames.parts c.args.store.now in
     let known = (g.met.F.Frames.known_fetched c.args.store.now c.args.number c.requires.fetched).0 in
-    let at = slot_there p c.args.number known (content_behind c.frame.result) (sym c.frame.ensures) c.in-Some.slots.now c.in-Some.ensures.some
+    let at = slot_there p c.args.number known (content_behind c.frame.result) (sym c.frame.ensures) c.in-Some.slots.now
+    c.in-Some.ensures.some
     c.table-table.result.now c.table-table.ensures in
     cc (
       at c.args.first _ _ c.conveyed.ensures (omega (arith, c.in-Some.ensures.length, c.requires.within)),

@@ -12,4 +12,5 @@ returns g c =
     let held = c.live_cap-held.ensures ∙ ap (λ (hs : List ObjectHeader). live_cap hs c.args.capability) c.table.ensures in
     edited F.parts F.IsFetched g.F.PresentFrames.IsAnnounced F.ContinuesTo s _ n _ _ _ c.set_slot.ensures
     (slot_edit (F.parts s) _ n at.0 at.1 c.args.slot c.args.capability
-    (c.set_slot.ensures.parts_are ∙ ap (λ (h : Cap). with_held (F.parts s) n (with_slot_in (held_at (F.parts s).contents n) c.args.slot h)) held))
+    (c.set_slot.ensures.parts_are ∙ ap (λ (h : Cap). with_held (F.parts s) n (with_slot_in (held_at (F.parts s).contents n) c.args.slot h))
+    held))

@@ -18,5 +18,6 @@ returns g c =
     (λ age. IsKeptCap (F.parts s).geometry age (live_cap (F.parts s).headers c.args.capability) × IsSpace c.args.capability)
     (space_through (F.parts s).headers c.args.capability c.live_cap-held.result held)
     (λ r current. subst (IsCurrent (F.parts s).headers) (sym held) (omega arith))
-    (λ age may. space_kept (F.parts s).geometry age (F.parts s).headers c.args.capability c.live_cap-held.result held may.0 may.1) c.requires.process
+    (λ age may. space_kept (F.parts s).geometry age (F.parts s).headers c.args.capability c.live_cap-held.result held may.0 may.1)
+    c.requires.process
     c.change_root.ensures.parts_are)

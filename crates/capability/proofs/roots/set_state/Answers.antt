@@ -12,7 +12,8 @@ returns g c =
     edited F.parts F.IsFetched g.F.PresentFrames.IsAnnounced F.ContinuesTo s _ n _ _ _ c.change_root.ensures
     (subst (λ (after : List Object). IsEdit (F.parts s) (F.parts c.change_root.new.self) after (λ age. Unit {0}))
     (sym (state_is (objects_in (F.parts s)) n c.args.state))
-    (root_edit (F.parts s) _ n at.0 at.1 (changed_root (change.State c.args.state)) (λ (r : Root Capability). record r { state = c.args.state })
+    (root_edit (F.parts s) _ n at.0 at.1 (changed_root (change.State c.args.state))
+    (λ (r : Root Capability). record r { state = c.args.state })
     (λ age. Unit {0})
     (λ r. refl) (λ r current. current)
     (λ age may r k. k) c.requires.process

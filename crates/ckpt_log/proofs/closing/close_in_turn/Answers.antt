@@ -21,4 +21,5 @@ returns-clause-any_moment g c =
 
 pub returns-clause-seen : goal.returns-clause-seen
 returns-clause-seen g c =
-    seen_has (returns-clause-any_moment g c) (g.met.D.Device.counts_now c.close_gate-2.new.device) (g.met.D.Device.seen_left c.close_gate-2.new.device)
+    seen_has (returns-clause-any_moment g c) (g.met.D.Device.counts_now c.close_gate-2.new.device)
+    (g.met.D.Device.seen_left c.close_gate-2.new.device)

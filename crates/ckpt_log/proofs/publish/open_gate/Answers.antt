@@ -10,5 +10,6 @@ returns-clause-seen g c =
 
 pub returns-clause-any_moment : goal.returns-clause-any_moment
 returns-clause-any_moment g c =
-    opening_run (gate_is c.args.header c.of.result c.of.ensures.value c.gate-at.ensures.value) c.of.ensures.fits c.requires.next c.requires.written
+    opening_run (gate_is c.args.header c.of.result c.of.ensures.value c.gate-at.ensures.value) c.of.ensures.fits c.requires.next
+    c.requires.written
     c.put_sector.ensures.any_moment

@@ -13,5 +13,6 @@ pub returns-in_ok-number-in-Some-clause-named : goal.returns-in_ok-number-in-Som
 returns-in_ok-number-in-Some-clause-named c = (
   c.in-Some.word.now,
   given (found_of c.args.inner.now) c.args.name.now c.get_str.result c.in-Some.word c.get_str.ensures (search rules),
-  held (IsNumber c.args.least c.args.most c.in-Some.word.now) c.number_in.result c.in_ok-number-in-Some.number c.number_in.ensures.named (search rules),
+  held (IsNumber c.args.least c.args.most c.in-Some.word.now) c.number_in.result c.in_ok-number-in-Some.number c.number_in.ensures.named
+      (search rules),
 )

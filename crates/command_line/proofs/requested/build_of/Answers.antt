@@ -4,11 +4,13 @@ use Rattle.command_line.proofs.Lacking.{lacking}
 use Rattle.command_line.proofs.requested.build_of.Goals as goal
 
 pub returns-in_err-description-clause-none : goal.returns-in_err-description-clause-none
-returns-in_err-description-clause-none c = λ _. lacking (codes "build") (codes "DESCRIPTION") (found_of c.args.inner.now) _ refl c.get_str.ensures
+returns-in_err-description-clause-none c = λ _. lacking (codes "build") (codes "DESCRIPTION") (found_of c.args.inner.now) _ refl
+    c.get_str.ensures
     (search rules)
 
 pub returns-in_err-image-clause-none : goal.returns-in_err-image-clause-none
-returns-in_err-image-clause-none c = λ _. lacking (codes "build") (codes "IMAGE") (found_of c.args.inner.now) _ refl c.get_str-2.ensures (search rules)
+returns-in_err-image-clause-none c = λ _. lacking (codes "build") (codes "IMAGE") (found_of c.args.inner.now) _ refl c.get_str-2.ensures
+    (search rules)
 
 pub returns-clause-named : goal.returns-clause-named
 returns-clause-named c = (

@@ -4,7 +4,8 @@ use Rattle.command_line.proofs.Lacking.{lacking, wrong}
 use Rattle.command_line.proofs.requested.draw_of.Goals as goal
 
 pub returns-in_err-image-clause-none : goal.returns-in_err-image-clause-none
-returns-in_err-image-clause-none c = λ _. lacking (codes "draw") (codes "IMAGE") (found_of c.args.inner.now) _ refl c.get_str.ensures (search rules)
+returns-in_err-image-clause-none c = λ _. lacking (codes "draw") (codes "IMAGE") (found_of c.args.inner.now) _ refl c.get_str.ensures
+    (search rules)
 
 pub returns-in_err-from-clause-none : goal.returns-in_err-from-clause-none
 returns-in_err-from-clause-none c = λ _. wrong (codes "draw") (codes "from") (rows_of (found_of c.args.inner.now)) _ _ refl
@@ -18,7 +19,9 @@ pub returns-clause-named : goal.returns-clause-named
 returns-clause-named c = (
   refl,
   given (found_of c.args.inner.now) (codes "IMAGE") c.get_str.result c.in_ok-image.image c.get_str.ensures (search rules),
-  held (IsNumberOption (rows_of (found_of c.args.inner.now)) (codes "from")) c.number_of.result c.in_ok-from.from c.number_of.ensures.named (search rules),
+  held (IsNumberOption (rows_of (found_of c.args.inner.now)) (codes "from")) c.number_of.result c.in_ok-from.from c.number_of.ensures.named
+      (search rules),
   c.flag_of.ensures,
-  held (IsNumberOption (rows_of (found_of c.args.inner.now)) (codes "to")) c.number_of-2.result c.in_ok-to.to c.number_of-2.ensures.named (search rules),
+  held (IsNumberOption (rows_of (found_of c.args.inner.now)) (codes "to")) c.number_of-2.result c.in_ok-to.to c.number_of-2.ensures.named
+      (search rules),
 )

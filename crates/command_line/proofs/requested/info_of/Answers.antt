@@ -4,7 +4,8 @@ use Rattle.command_line.proofs.Lacking.{lacking}
 use Rattle.command_line.proofs.requested.info_of.Goals as goal
 
 pub returns-in_err-image-clause-none : goal.returns-in_err-image-clause-none
-returns-in_err-image-clause-none c = λ _. lacking (codes "info") (codes "IMAGE") (found_of c.args.inner.now) _ refl c.get_str.ensures (search rules)
+returns-in_err-image-clause-none c = λ _. lacking (codes "info") (codes "IMAGE") (found_of c.args.inner.now) _ refl c.get_str.ensures
+    (search rules)
 
 pub returns-clause-named : goal.returns-clause-named
 returns-clause-named c = (

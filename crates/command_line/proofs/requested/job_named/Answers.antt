@@ -9,4 +9,5 @@ returns-in-None-clause-none c = λ _. unknown c.args.name.now (rows_of (found_of
 pub returns-in-Some-clause-none : goal.returns-in-Some-clause-none
 returns-in-Some-clause-none c =
     let named : c.args.name.now ≡ subcommand_name c.in-Some.subcommand = search rules in
-    subst (λ (name : Text). IfOk c.job_of.result (λ o. IsNone o → IsNoJob name (rows_of (found_of c.args.inner.now)))) (sym named) c.job_of.ensures.none
+    subst (λ (name : Text). IfOk c.job_of.result (λ o. IsNone o → IsNoJob name (rows_of (found_of c.args.inner.now)))) (sym named)
+    c.job_of.ensures.none

@@ -4,10 +4,12 @@ use Rattle.command_line.proofs.Lacking.{lacking, wrong}
 use Rattle.command_line.proofs.requested.run_of.Goals as goal
 
 pub returns-in_err-image-clause-none : goal.returns-in_err-image-clause-none
-returns-in_err-image-clause-none c = λ _. lacking (codes "run") (codes "IMAGE") (found_of c.args.inner.now) _ refl c.get_str.ensures (search rules)
+returns-in_err-image-clause-none c = λ _. lacking (codes "run") (codes "IMAGE") (found_of c.args.inner.now) _ refl c.get_str.ensures
+    (search rules)
 
 pub returns-in_err-word-clause-none : goal.returns-in_err-word-clause-none
-returns-in_err-word-clause-none c = λ _. lacking (codes "run") (codes "SCRIPT") (found_of c.args.inner.now) _ refl c.get_str-2.ensures (search rules)
+returns-in_err-word-clause-none c = λ _. lacking (codes "run") (codes "SCRIPT") (found_of c.args.inner.now) _ refl c.get_str-2.ensures
+    (search rules)
 
 pub returns-in_err-cache-clause-none : goal.returns-in_err-cache-clause-none
 returns-in_err-cache-clause-none c = λ _. wrong (codes "run") (codes "cache") (rows_of (found_of c.args.inner.now)) _ _ refl
@@ -24,7 +26,8 @@ returns-clause-named c = (
   c.flag_of-trace.ensures,
   c.flag_of-strict.ensures,
   c.flag_of-saves.ensures,
-  held (IsNumberOption (rows_of (found_of c.args.inner.now)) (codes "stop-after")) c.number_of.result c.in_ok-stop_after.stop_after c.number_of.ensures.named
+  held (IsNumberOption (rows_of (found_of c.args.inner.now)) (codes "stop-after")) c.number_of.result c.in_ok-stop_after.stop_after
+      c.number_of.ensures.named
       (search rules),
   given (found_of c.args.inner.now) (codes "IMAGE") c.get_str.result c.in_ok-image.image c.get_str.ensures (search rules),
   c.in_ok-word.word.now,

@@ -4,7 +4,8 @@ use Rattle.command_line.proofs.Lacking.{lacking, wrong}
 use Rattle.command_line.proofs.requested.shell_of.Goals as goal
 
 pub returns-in_err-image-clause-none : goal.returns-in_err-image-clause-none
-returns-in_err-image-clause-none c = λ _. lacking (codes "shell") (codes "IMAGE") (found_of c.args.inner.now) _ refl c.get_str.ensures (search rules)
+returns-in_err-image-clause-none c = λ _. lacking (codes "shell") (codes "IMAGE") (found_of c.args.inner.now) _ refl c.get_str.ensures
+    (search rules)
 
 pub returns-in_err-cache-clause-none : goal.returns-in_err-cache-clause-none
 returns-in_err-cache-clause-none c = λ _. wrong (codes "shell") (codes "cache") (rows_of (found_of c.args.inner.now)) _ _ refl

@@ -4,10 +4,12 @@ use Rattle.command_line.proofs.Lacking.{lacking, same_twice}
 use Rattle.command_line.proofs.requested.upgrade_of.Goals as goal
 
 pub returns-in_err-old-clause-none : goal.returns-in_err-old-clause-none
-returns-in_err-old-clause-none c = λ _. lacking (codes "upgrade") (codes "OLD") (found_of c.args.inner.now) _ refl c.get_str.ensures (search rules)
+returns-in_err-old-clause-none c = λ _. lacking (codes "upgrade") (codes "OLD") (found_of c.args.inner.now) _ refl c.get_str.ensures
+    (search rules)
 
 pub returns-in_err-new-clause-none : goal.returns-in_err-new-clause-none
-returns-in_err-new-clause-none c = λ _. lacking (codes "upgrade") (codes "NEW") (found_of c.args.inner.now) _ refl c.get_str-2.ensures (search rules)
+returns-in_err-new-clause-none c = λ _. lacking (codes "upgrade") (codes "NEW") (found_of c.args.inner.now) _ refl c.get_str-2.ensures
+    (search rules)
 
 pub returns-then-eq-clause-none : goal.returns-then-eq-clause-none
 returns-then-eq-clause-none c = λ _ has. inr (inl (same_twice (codes "upgrade") (codes "OLD") (rows_of (found_of c.args.inner.now))

@@ -4,4 +4,5 @@ use Rattle.description.proofs.fields.misfilled.Goals as goal
 
 pub returns-in-Some : goal.returns-in-Some
 returns-in-Some c = process_broken c.args.description.now c.in-Some.part
-    (subst (λ ps. IsFirst IsProcessEntry (λ p. BreaksProcess p c.in-Some.part) ps (process_of c.in-Some.part)) c.deref.ensures.value c.in-Some.ensures)
+    (subst (λ ps. IsFirst IsProcessEntry (λ p. BreaksProcess p c.in-Some.part) ps (process_of c.in-Some.part)) c.deref.ensures.value
+    c.in-Some.ensures)

@@ -8,7 +8,8 @@ pub loop-i-init : goal.loop-i-init
 loop-i-init g c = contains_none c.args.number
 
 pub loop-i-preserved : goal.loop-i-preserved
-loop-i-preserved g c = one_more_other (g.N.Numbers.numbers c.args.numbers) c.loop-i.i c.args.number (omega (arith, c.loop-i-test.true, c.requires))
+loop-i-preserved g c = one_more_other (g.N.Numbers.numbers c.args.numbers) c.loop-i.i c.args.number
+    (omega (arith, c.loop-i-test.true, c.requires))
     c.loop-i.invariant (λ is. c.if-at-number.false (c.at.ensures ∙ is))
 
 pub returns : goal.returns

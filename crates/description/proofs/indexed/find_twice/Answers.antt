@@ -9,8 +9,10 @@ loop-j-preserved g c = distinct_more (g.N.Numbers.numbers c.args.numbers) c.loop
 pub returns-in-Some : goal.returns-in-Some
 returns-in-Some g c = (
   c.loop-j.invariant,
-  twice_at (g.N.Numbers.numbers c.args.numbers) c.in-Some.i c.loop-j.j _ (omega (arith, c.count-j-end.ensures)) c.at.ensures c.in-Some.ensures,
+  twice_at (g.N.Numbers.numbers c.args.numbers) c.in-Some.i c.loop-j.j _ (omega (arith, c.count-j-end.ensures)) c.at.ensures
+      c.in-Some.ensures,
 )
 
 pub returns : goal.returns
-returns g c = subst AreDistinct (take_all c.loop-j.j (g.N.Numbers.numbers c.args.numbers) (omega (arith, c.count-j-end.ensures))) c.loop-j.invariant
+returns g c = subst AreDistinct (take_all c.loop-j.j (g.N.Numbers.numbers c.args.numbers) (omega (arith, c.count-j-end.ensures)))
+    c.loop-j.invariant

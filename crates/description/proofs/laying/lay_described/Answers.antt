@@ -4,7 +4,8 @@ use Rattle.description.proofs.KeptFrames.{all_within, laid_described, laid_five,
 use Rattle.description.proofs.laying.lay_described.Goals as goal
 
 pub lay_banks-requires-clause-within : goal.lay_banks-requires-clause-within
-lay_banks-requires-clause-within c = all_within _ OfBank _ _ _ c.requires.numbers (λ e there. there) c.deref.ensures.value (c.in_ok-world.ensures.count.headers)
+lay_banks-requires-clause-within c = all_within _ OfBank _ _ _ c.requires.numbers (λ e there. there) c.deref.ensures.value
+    (c.in_ok-world.ensures.count.headers)
 
 pub lay_roots-requires-clause-within : goal.lay_roots-requires-clause-within
 lay_roots-requires-clause-within c = all_within _ OfRoot _ _ _ c.requires.numbers (λ e there. there) c.deref-2.ensures.value
@@ -25,7 +26,8 @@ lay_pages-requires-clause-within c = all_within _ OfPage _ _ _ c.requires.number
 
 pub returns-clause-described : goal.returns-clause-described
 returns-clause-described c =
-    let all = laid_five c.args.description.now c.deref.result.now c.deref-2.result.now c.deref-3.result.now c.deref-4.result.now c.deref-5.result.now
+    let all = laid_five c.args.description.now c.deref.result.now c.deref-2.result.now c.deref-3.result.now c.deref-4.result.now
+    c.deref-5.result.now
     c.in_ok-world.world c.lay_banks.new.world c.lay_roots.new.world c.lay_annexes.new.world c.lay_nodes.new.world c.lay_pages.new.world
     c.deref.ensures.value c.deref-2.ensures.value c.deref-3.ensures.value c.deref-4.ensures.value c.deref-5.ensures.value
     c.lay_banks.ensures c.lay_roots.ensures c.in_ok-lay_annexes.ensures c.in_ok-lay_nodes.ensures c.in_ok-lay_pages.ensures in
@@ -34,7 +36,8 @@ returns-clause-described c =
 
 pub returns-clause-keepable : goal.returns-clause-keepable
 returns-clause-keepable c =
-    let all = laid_five c.args.description.now c.deref.result.now c.deref-2.result.now c.deref-3.result.now c.deref-4.result.now c.deref-5.result.now
+    let all = laid_five c.args.description.now c.deref.result.now c.deref-2.result.now c.deref-3.result.now c.deref-4.result.now
+    c.deref-5.result.now
     c.in_ok-world.world c.lay_banks.new.world c.lay_roots.new.world c.lay_annexes.new.world c.lay_nodes.new.world c.lay_pages.new.world
     c.deref.ensures.value c.deref-2.ensures.value c.deref-3.ensures.value c.deref-4.ensures.value c.deref-5.ensures.value
     c.lay_banks.ensures c.lay_roots.ensures c.in_ok-lay_annexes.ensures c.in_ok-lay_nodes.ensures c.in_ok-lay_pages.ensures in

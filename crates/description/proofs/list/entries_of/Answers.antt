@@ -21,4 +21,5 @@ loop-i-preserved g c =
     let v = c.index.result.now in
     let within : c.loop-i.i < length vs = grind (arith, common_steps) in
     let at : get_or vs c.loop-i.i v ≡ v = grind (arith, common_steps) in
-    rw c.in_ok-push-in-Some-from_value.ensures.items (one_more g.T.FromValue.IsSaid vs _ _ v _ within at c.loop-i.invariant c.in-Some-from_value.ensures)
+    rw c.in_ok-push-in-Some-from_value.ensures.items (one_more g.T.FromValue.IsSaid vs _ _ v _ within at c.loop-i.invariant
+    c.in-Some-from_value.ensures)

@@ -11,7 +11,8 @@ returns-in_err-object g c =
     let within : c.loop-i.i < length vs = grind (arith, common_steps) in
     let at : get_or vs c.loop-i.i v ≡ v = grind (arith, common_steps) in
     passed _ _ _ _ _ c.from_residual.ensures.1 c.in_err-object.ensures
-    (λ p bad. first_bad g.T.FromTable.IsRead g.T.FromTable.named c.args.key _ p vs c.loop-i.i c.loop-i.list.items v c.in-Some.ensures within at
+    (λ p bad. first_bad g.T.FromTable.IsRead g.T.FromTable.named c.args.key _ p vs c.loop-i.i c.loop-i.list.items v c.in-Some.ensures within
+    at
     c.loop-i.invariant bad)
 
 pub loop-i-preserved : goal.loop-i-preserved

@@ -7,4 +7,5 @@ abbrev pub invariant-keys : goal.invariant-keys
 invariant-keys l =
     (goal.iterator-keys).can_next l.key-iterator
     × (goal.iterator-keys).is_finite l.key-iterator
-    × (first_unknown (map (λ k. k.now) l.known) (members_view l.key-iterator) ≡ first_unknown (map (λ k. k.now) l.known) (members_view l.table.entries))
+    × (first_unknown (map (λ k. k.now) l.known) (members_view l.key-iterator)
+    ≡ first_unknown (map (λ k. k.now) l.known) (members_view l.table.entries))

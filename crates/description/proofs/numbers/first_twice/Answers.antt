@@ -9,4 +9,8 @@ loop-place-preserved c =
     let at = c.loop-place.place in
     let within : at < length ns = search rules in
     let inside : slice_index ns at < length c.loop-place.seen = rw c.loop-place.invariant.0 (c.requires at 0 within) in
-    rw c.set.ensures (length-set _ _ _ ∙ c.loop-place.invariant.0, one_seen c.loop-place.seen ns at within inside c.in_default.ensures c.loop-place.invariant.1)
+    rw c.set.ensures (
+      length-set _ _ _ ∙ c.loop-place.invariant.0,
+      one_seen c.loop-place.seen ns at within inside c.in_default.ensures
+          c.loop-place.invariant.1,
+    )

@@ -6,7 +6,8 @@ use Rattle.description.proofs.objects.lay_annexes.Goals as goal
 
 pub loop-process-preserved : goal.loop-process-preserved
 loop-process-preserved c = more_laid OfAnnex _ _ _ _ _ _ (split_at _ _ _ c.loop-process-test.true c.process-item.is) (search rules)
-    (put_same _ _ _ _ _ _ (ap content.Annex c.in_ok-registers.ensures ∙ ap (λ xs. content.Annex (slots_of xs)) c.deref.ensures.value) c.put.ensures)
+    (put_same _ _ _ _ _ _ (ap content.Annex c.in_ok-registers.ensures ∙ ap (λ xs. content.Annex (slots_of xs)) c.deref.ensures.value)
+    c.put.ensures)
     c.loop-process.invariant
 
 pub returns : goal.returns

@@ -4,4 +4,5 @@ use Rattle.description.proofs.objects.slots_of.Goals as goal
 
 pub returns : goal.returns
 unfolding slots_of
-returns c = each_done (λ s. s.index) slot_held c.args.entries.now c.loop-entry.slots _ c.loop-entry.entry-index c.loop-entry-test.false c.loop-entry.invariant
+returns c = each_done (λ s. s.index) slot_held c.args.entries.now c.loop-entry.slots _ c.loop-entry.entry-index c.loop-entry-test.false
+    c.loop-entry.invariant

@@ -14,7 +14,8 @@ loop-entry-preserved c =
     let entry = slice_index_or c.args.entries.now c.loop-entry.entry-index (record { index = 0; word = 0 }) in
     let fits : entry.word < 2 ^ 64 = search rules in
     record {
-      written = each_wrote (λ w. w.index) (λ w. w.word) _ _ _ _ _ _ _ c.loop-entry-test.true c.set.ensures.set refl c.loop-entry.invariant.written;
+      written = each_wrote (λ w. w.index) (λ w. w.word) _ _ _ _ _ _ _ c.loop-entry-test.true c.set.ensures.set refl
+          c.loop-entry.invariant.written;
       fits = subst (All (λ w. w < 2 ^ 64)) (sym c.set.ensures.set) (All-set (λ w. w < 2 ^ 64) _ _ _ fits c.loop-entry.invariant.fits);
     }
 
@@ -24,4 +25,5 @@ returns-clause-words c = each_done (λ w. w.index) (λ w. w.word) _ _ _ _ c.loop
 
 pub returns-clause-fits : goal.returns-clause-fits
 unfolding words_of
-returns-clause-fits c = rw (← each_done (λ w. w.index) (λ w. w.word) _ _ _ _ c.loop-entry-test.false c.loop-entry.invariant.written) c.loop-entry.invariant.fits
+returns-clause-fits c = rw (← each_done (λ w. w.index) (λ w. w.word) _ _ _ _ c.loop-entry-test.false c.loop-entry.invariant.written)
+    c.loop-entry.invariant.fits

@@ -13,4 +13,9 @@ returns-in_err-pages c = passed _ _ _ _ _ c.from_residual-in_err-pages.ensures.1
 
 pub returns-in_err-log : goal.returns-in_err-log
 returns-in_err-log c = passed _ _ _ _ _ c.from_residual-in_err-log.ensures.1 c.in_err-log.ensures
-    (value_in name.Whole Log (table_view c.args.table.now) (c.requires, 2, refl, ((_, c.in_ok-nodes.ensures), ((_, c.in_ok-pages.ensures), tt))) _ refl (λ fits. fits))
+    (value_in name.Whole Log (table_view c.args.table.now) (
+      c.requires,
+      2,
+      refl,
+      ((_, c.in_ok-nodes.ensures), ((_, c.in_ok-pages.ensures), tt)),
+    ) _ refl (λ fits. fits))

@@ -10,5 +10,6 @@ returns-clause-none c =
 pub returns-clause-some : goal.returns-clause-some
 returns-clause-some c =
     let fs = frames_in c.args.frames.now.headers c.args.frames.now.contents in
-    unnamed_some c.args.description.now fs c.new.result c.new.ensures c.requires.laid.described c.requires.limits c.requires.laid.numbers c.requires.laid.fields
+    unnamed_some c.args.description.now fs c.new.result c.new.ensures c.requires.laid.described c.requires.limits c.requires.laid.numbers
+    c.requires.laid.fields
     c.requires.kinds c.failing.result c.failing.ensures

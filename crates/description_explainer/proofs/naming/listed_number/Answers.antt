@@ -17,32 +17,40 @@ returns-in-None c = rw c.in-Bank.is (rw c.in-None.is at
 
 pub returns-in-Some-get : goal.returns-in-Some-get
 returns-in-Some-get c = rw c.in-Root.is (rw c.in-Some-get.is at
-    (listed (λ process. process.root) c.args.description.now.processes.items _ c.in-Root.k _ c.get-in-Root.ensures.lookup c.deref-in-Root.ensures.value))
+    (listed (λ process. process.root) c.args.description.now.processes.items _ c.in-Root.k _ c.get-in-Root.ensures.lookup
+    c.deref-in-Root.ensures.value))
 
 pub returns-in-None-get : goal.returns-in-None-get
 returns-in-None-get c = rw c.in-Root.is (rw c.in-None-get.is at
-    (listed (λ process. process.root) c.args.description.now.processes.items _ c.in-Root.k _ c.get-in-Root.ensures.lookup c.deref-in-Root.ensures.value))
+    (listed (λ process. process.root) c.args.description.now.processes.items _ c.in-Root.k _ c.get-in-Root.ensures.lookup
+    c.deref-in-Root.ensures.value))
 
 pub returns-in-Some-get-2 : goal.returns-in-Some-get-2
 returns-in-Some-get-2 c = rw c.in-Annex.is (rw c.in-Some-get-2.is at
-    (listed (λ process. process.annex) c.args.description.now.processes.items _ c.in-Annex.k _ c.get-in-Annex.ensures.lookup c.deref-in-Annex.ensures.value))
+    (listed (λ process. process.annex) c.args.description.now.processes.items _ c.in-Annex.k _ c.get-in-Annex.ensures.lookup
+    c.deref-in-Annex.ensures.value))
 
 pub returns-in-None-get-2 : goal.returns-in-None-get-2
 returns-in-None-get-2 c = rw c.in-Annex.is (rw c.in-None-get-2.is at
-    (listed (λ process. process.annex) c.args.description.now.processes.items _ c.in-Annex.k _ c.get-in-Annex.ensures.lookup c.deref-in-Annex.ensures.value))
+    (listed (λ process. process.annex) c.args.description.now.processes.items _ c.in-Annex.k _ c.get-in-Annex.ensures.lookup
+    c.deref-in-Annex.ensures.value))
 
 pub returns-in-Some-get-3 : goal.returns-in-Some-get-3
 returns-in-Some-get-3 c = rw c.in-Node.is (rw c.in-Some-get-3.is at
-    (listed (λ node. node.number) c.args.description.now.nodes.items _ c.in-Node.k _ c.get-in-Node.ensures.lookup c.deref-in-Node.ensures.value))
+    (listed (λ node. node.number) c.args.description.now.nodes.items _ c.in-Node.k _ c.get-in-Node.ensures.lookup
+    c.deref-in-Node.ensures.value))
 
 pub returns-in-None-get-3 : goal.returns-in-None-get-3
 returns-in-None-get-3 c = rw c.in-Node.is (rw c.in-None-get-3.is at
-    (listed (λ node. node.number) c.args.description.now.nodes.items _ c.in-Node.k _ c.get-in-Node.ensures.lookup c.deref-in-Node.ensures.value))
+    (listed (λ node. node.number) c.args.description.now.nodes.items _ c.in-Node.k _ c.get-in-Node.ensures.lookup
+    c.deref-in-Node.ensures.value))
 
 pub returns-in-Some-get-4 : goal.returns-in-Some-get-4
 returns-in-Some-get-4 c = rw c.in-Page.is (rw c.in-Some-get-4.is at
-    (listed (λ page. page.number) c.args.description.now.pages.items _ c.in-Page.k _ c.get-in-Page.ensures.lookup c.deref-in-Page.ensures.value))
+    (listed (λ page. page.number) c.args.description.now.pages.items _ c.in-Page.k _ c.get-in-Page.ensures.lookup
+    c.deref-in-Page.ensures.value))
 
 pub returns-in-None-get-4 : goal.returns-in-None-get-4
 returns-in-None-get-4 c = rw c.in-Page.is (rw c.in-None-get-4.is at
-    (listed (λ page. page.number) c.args.description.now.pages.items _ c.in-Page.k _ c.get-in-Page.ensures.lookup c.deref-in-Page.ensures.value))
+    (listed (λ page. page.number) c.args.description.now.pages.items _ c.in-Page.k _ c.get-in-Page.ensures.lookup
+    c.deref-in-Page.ensures.value))

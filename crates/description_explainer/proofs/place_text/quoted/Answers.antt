@@ -5,7 +5,8 @@ use Rattle.description_explainer.proofs.place_text.quoted.Goals as goal
 
 pub returns-then-contains : goal.returns-then-contains
 returns-then-contains c =
-    let broken : breaks (string_bytes c.in_ok-shown.shown) ≡ false → ⊥ = λ none. true≢false (sym c.if-contains.true ∙ c.contains.ensures.value ∙ ap breaks c.as_bytes.ensures.value ∙ none) in
+    let broken : breaks (string_bytes c.in_ok-shown.shown) ≡ false → ⊥ = λ none. true≢false
+    (sym c.if-contains.true ∙ c.contains.ensures.value ∙ ap breaks c.as_bytes.ensures.value ∙ none) in
     IfOk-weaker c.from_str.result _
     (λ (s : String Global). IfSome (debug_str c.args.key.now) (λ t. string_bytes s ≡ t) × IsOneLine (string_bytes s))
     (λ s is. (

@@ -14,7 +14,8 @@ returns-then-ne-clause-err g c = takes_still c.args.at _ _ c.args.from.now (c.in
 pub returns-then-ne-clause-cause : goal.returns-then-ne-clause-cause
 returns-then-ne-clause-cause g c =
     let other : error_kind c.in-Err.error ≢ Interrupted = search rules in
-    failed_after (g.F.RawFile.errors c.args.file.now) (g.F.RawFile.errors c.loop-tries.file) _ c.loop-tries.tries c.loop-tries.invariant.interrupted
+    failed_after (g.F.RawFile.errors c.args.file.now) (g.F.RawFile.errors c.loop-tries.file) _ c.loop-tries.tries
+    c.loop-tries.invariant.interrupted
     (c.in-Err.ensures.failed other)
 
 pub returns-clause-err : goal.returns-clause-err

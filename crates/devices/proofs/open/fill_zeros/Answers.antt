@@ -11,6 +11,7 @@ returns-clause-ok g c =
 pub returns-clause-failed : goal.returns-clause-failed
 returns-clause-failed g c =
     let calls = g.F.Openable.opening in
-    last_stops c.sync_folder.result c.args.path.now c.args.bytes (calls c.args.file.now) (calls c.resize.new.self) (calls c.resize-2.new.self)
+    last_stops c.sync_folder.result c.args.path.now c.args.bytes (calls c.args.file.now) (calls c.resize.new.self)
+    (calls c.resize-2.new.self)
     (calls c.sync.new.self) (calls c.sync_folder.new.self) c.in_ok-resize.ensures.ok c.in_ok-resize-2.ensures.ok c.in_ok-sync.ensures.ok
     c.sync_folder.ensures.err

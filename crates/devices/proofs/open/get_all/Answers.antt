@@ -7,7 +7,8 @@ get_sectors-requires-clause-buffer g c = omega (arith, c.deref_mut.ensures.len, 
 
 pub get_sectors-requires-clause-few : goal.get_sectors-requires-clause-few
 get_sectors-requires-clause-few g c =
-    let size : length c.in_ok-copy.copy ≡ 512 * c.args.sectors = ap length c.in_ok-copy.ensures ∙ length-replicate (512 * c.args.sectors) 0 in
+    let size : length c.in_ok-copy.copy ≡ 512 * c.args.sectors = ap length c.in_ok-copy.ensures
+    ∙ length-replicate (512 * c.args.sectors) 0 in
     omega (arith, size, c.requires)
 
 pub returns-in_err-get_sectors-clause-length : goal.returns-in_err-get_sectors-clause-length

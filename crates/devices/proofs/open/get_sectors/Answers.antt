@@ -10,7 +10,8 @@ loop-i-preserved g c =
     let size : length part ≡ 512 * c.min-count.result = search rules in
     record {
       bytes =
-          sectors_on _ _ _ c.loop-i.copy c.put.new.self part (128 * i) (65536 * i) (65536 * (i + 1)) (omega arith) c.put.ensures.length (omega (arith, size))
+          sectors_on _ _ _ c.loop-i.copy c.put.new.self part (128 * i) (65536 * i) (65536 * (i + 1)) (omega arith) c.put.ensures.length
+          (omega (arith, size))
           (omega (arith, c.loop-i.invariant.size, c.sectors-sectors.ensures.size))
           (omega (arith, size, c.min-count.ensures, c.loop-i.invariant.size, c.sectors-sectors.ensures.size))
           c.put.ensures.written c.put.ensures.elsewhere c.loop-i.invariant.bytes

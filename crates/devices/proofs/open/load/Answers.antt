@@ -38,7 +38,8 @@ returns-clause-read g c =
       got.0,
       got.1,
       c.in_ok-copy.ensures.size ∙ ap (λ (k : ℕ). 512 * k) whole.1,
-      adds_more (calls c.args.file.now) (calls c.length.new.self) (calls c.get_all.new.file) (measured n ∷ []) (reads 0 got.0) c.in_ok-length.ensures.ok got.2,
+      adds_more (calls c.args.file.now) (calls c.length.new.self) (calls c.get_all.new.file) (measured n ∷ []) (reads 0 got.0)
+          c.in_ok-length.ensures.ok got.2,
     )
 
 pub returns-clause-few : goal.returns-clause-few

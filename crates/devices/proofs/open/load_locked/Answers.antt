@@ -34,7 +34,8 @@ returns-in_err-sync-clause-length g c = ap (option_map resizes) c.in_err-sync.en
 pub returns-clause-read : goal.returns-clause-read
 returns-clause-read g c =
     let calls = g.F.Openable.opening in
-    loads_locked c.load.result c.args.lock (calls c.args.file.now) (calls c.take_lock.new.file) (calls c.sync.new.self) (calls c.load.new.file)
+    loads_locked c.load.result c.args.lock (calls c.args.file.now) (calls c.take_lock.new.file) (calls c.sync.new.self)
+    (calls c.load.new.file)
     c.in_ok-take_lock.ensures.ok c.in_ok-sync.ensures.ok c.load.ensures.read
 
 pub returns-clause-held : goal.returns-clause-held
@@ -48,8 +49,10 @@ returns-clause-long g c is =
       took.0,
       long.0,
       long.1,
-      adds_more (calls c.args.file.now) (calls c.take_lock.new.file) (calls c.load.new.file) (locked c.args.lock took.0 ∷ []) (synced ∷ measured long.0 ∷ [])
-          took.2 (adds_more (calls c.take_lock.new.file) (calls c.sync.new.self) (calls c.load.new.file) (synced ∷ []) (measured long.0 ∷ [])
+      adds_more (calls c.args.file.now) (calls c.take_lock.new.file) (calls c.load.new.file) (locked c.args.lock took.0 ∷ [])
+          (synced ∷ measured long.0 ∷ [])
+          took.2 (adds_more (calls c.take_lock.new.file) (calls c.sync.new.self) (calls c.load.new.file) (synced ∷ [])
+          (measured long.0 ∷ [])
           c.in_ok-sync.ensures.ok long.2),
     )
 

@@ -16,11 +16,13 @@ returns-in_err-fill_zeros-clause-held g c is =
 pub returns-clause-made : goal.returns-clause-made
 returns-clause-made g c =
     let calls = g.F.Openable.opening in
-    fills c.args.path.now c.args.bytes (calls c.args.file.now) (calls c.take_lock.new.file) (calls c.fill_zeros.new.file) c.in_ok-take_lock.ensures.ok
+    fills c.args.path.now c.args.bytes (calls c.args.file.now) (calls c.take_lock.new.file) (calls c.fill_zeros.new.file)
+    c.in_ok-take_lock.ensures.ok
     c.in_ok-fill_zeros.ensures.ok
 
 pub returns-in_err-fill_zeros-clause-failed : goal.returns-in_err-fill_zeros-clause-failed
 returns-in_err-fill_zeros-clause-failed g c is =
     let calls = g.F.Openable.opening in
-    fails_later c.args.path.now c.args.bytes (calls c.args.file.now) (calls c.take_lock.new.file) (calls c.fill_zeros.new.file) c.in_ok-take_lock.ensures.ok
+    fails_later c.args.path.now c.args.bytes (calls c.args.file.now) (calls c.take_lock.new.file) (calls c.fill_zeros.new.file)
+    c.in_ok-take_lock.ensures.ok
     c.in_err-fill_zeros.ensures.failed

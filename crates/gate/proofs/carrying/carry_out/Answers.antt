@@ -23,14 +23,17 @@ change-requires g c =
     let caller = c.args.caller in
     let banks = c.args.banks.now in
     let same = before.ensures.snapshots.geometry in
-    let sound : AreSound mid = before_sound old mid banks c.requires.sound c.requires.counted caller.operation caller.process c.requires.running
+    let sound : AreSound mid = before_sound old mid banks c.requires.sound c.requires.counted caller.operation caller.process
+    c.requires.running
     before.ensures.objects same
     (before.ensures.current c.requires.sound.1.current) (before.ensures.keepable c.requires.sound.0 c.requires.sound.1.keepable) in
-    let may = before_may old mid banks c.requires.sound c.requires.counted caller.operation caller.process c.requires.running before.ensures.objects same
+    let may = before_may old mid banks c.requires.sound c.requires.counted caller.operation caller.process c.requires.running
+    before.ensures.objects same
     c.requires.planned.0 caller c.args.plan banks.listed c.requires.planned.1 sound in
     rw c.writer_count.ensures (record {
       sound = sound;
-      counted = before_counted old mid banks c.requires.sound c.requires.counted caller.operation caller.process c.requires.running before.ensures.objects
+      counted = before_counted old mid banks c.requires.sound c.requires.counted caller.operation caller.process c.requires.running
+          before.ensures.objects
           same;
       may = may;
       within = writers_within caller.operation caller.process caller.annex (drop (writer_count caller.operation) banks.listed) banks.listed
@@ -46,7 +49,8 @@ answer-requires-clause-roles g c =
     let sound = c.requires.sound in
     let same = before.ensures.snapshots.geometry in
     keepable_roles (g.F.Frames.parts before.new.store).geometry (sound.0 + 1) (frames_of (g.F.Frames.parts c.change.new.store))
-    (c.change.ensures.keepable sound.0 (omega (arith, sound.1.sound.age)) (in_geometry same (before.ensures.keepable sound.0 sound.1.keepable)))
+    (c.change.ensures.keepable sound.0 (omega (arith, sound.1.sound.age)) (in_geometry same
+    (before.ensures.keepable sound.0 sound.1.keepable)))
 
 pub answer-requires-clause-root : goal.answer-requires-clause-root
 answer-requires-clause-root g c call is =
@@ -73,9 +77,11 @@ answer-requires-clause-annex g c call is =
     let process = running_process os caller.process c.requires.running in
     let frame = frame_before caller.operation os caller.process process in
     let objects : new ≡ changed us rest plan.change =
-    c.change.ensures.objects ∙ ap (λ (k : ℕ). changed (objects_in (g.F.Frames.parts before.new.store)) (drop k listed) plan.change) c.writer_count.ensures
+    c.change.ensures.objects ∙ ap (λ (k : ℕ). changed (objects_in (g.F.Frames.parts before.new.store)) (drop k listed) plan.change)
+    c.writer_count.ensures
     ∙ ap (λ (vs : List Object). changed vs rest plan.change) before.ensures.objects in
-    let still : is_process (changed us rest plan.change) caller.process ≡ true = subst (λ (vs : List Object). is_process vs caller.process ≡ true) objects is in
+    let still : is_process (changed us rest plan.change) caller.process ≡ true =
+    subst (λ (vs : List Object). is_process vs caller.process ≡ true) objects is in
     let was : is_process us caller.process ≡ true = (tests_at os us frame caller.process).root ∙ process in
     let same : annex_at new caller.process ≡ caller.annex =
     ap (λ (vs : List Object). annex_at vs caller.process) objects
@@ -87,9 +93,11 @@ answer-requires-clause-annex g c call is =
     let announced = annex_listed (g.F.PresentFrames.IsAnnounced c.args.store.now) caller.operation caller.process caller.annex rest listed
     c.requires.planned.1.listed call c.requires.announced in (
       c.change.ensures.snapshots.fetched (annex_at new caller.process) used
-          (before.ensures.snapshots.fetched (annex_at new caller.process) (subst (g.F.Frames.IsFetched c.args.store.now) (sym same) c.requires.fetched.1)),
+          (before.ensures.snapshots.fetched (annex_at new caller.process) (subst (g.F.Frames.IsFetched c.args.store.now) (sym same)
+          c.requires.fetched.1)),
       c.change.ensures.snapshots.announced (annex_at new caller.process) used
-          (before.ensures.snapshots.announced (annex_at new caller.process) (subst (g.F.PresentFrames.IsAnnounced c.args.store.now) (sym same) announced)),
+          (before.ensures.snapshots.announced (annex_at new caller.process)
+          (subst (g.F.PresentFrames.IsAnnounced c.args.store.now) (sym same) announced)),
     )
 
 pub returns-clause-objects : goal.returns-clause-objects
@@ -99,7 +107,8 @@ returns-clause-objects g c =
     let plan = c.args.plan in
     let listed = c.args.banks.now.listed in
     c.answer.ensures.objects ∙ ap (λ (us : List Object). answered caller.operation caller.process us plan.reply)
-    (c.change.ensures.objects ∙ ap (λ (k : ℕ). changed (objects_in (g.F.Frames.parts before.new.store)) (drop k listed) plan.change) c.writer_count.ensures
+    (c.change.ensures.objects ∙ ap (λ (k : ℕ). changed (objects_in (g.F.Frames.parts before.new.store)) (drop k listed) plan.change)
+    c.writer_count.ensures
     ∙ ap (λ (us : List Object). changed us (drop (writer_count caller.operation) listed) plan.change) before.ensures.objects)
 
 pub returns-clause-current : goal.returns-clause-current
@@ -110,8 +119,10 @@ returns-clause-counted g c =
     let before = c.set_state_before_order in
     let us = objects_in (g.F.Frames.parts c.change.new.store) in
     let caller = c.args.caller in
-    subst (λ (h : Geometry). AreCounted h (objects_in (g.F.Frames.parts c.answer.new.store)) c.change.new.banks) before.ensures.snapshots.geometry
-    (subst (λ (vs : List Object). AreCounted (g.F.Frames.parts before.new.store).geometry vs c.change.new.banks) (sym c.answer.ensures.objects)
+    subst (λ (h : Geometry). AreCounted h (objects_in (g.F.Frames.parts c.answer.new.store)) c.change.new.banks)
+    before.ensures.snapshots.geometry
+    (subst (λ (vs : List Object). AreCounted (g.F.Frames.parts before.new.store).geometry vs c.change.new.banks)
+    (sym c.answer.ensures.objects)
     (counted_on (answered_frame caller.operation us caller.process c.args.plan.reply)
     c.change.ensures.counted))
 
@@ -121,7 +132,8 @@ returns-clause-keepable g c age young fits k =
     let first = before.ensures.snapshots.geometry in
     let second = c.change.ensures.snapshots.geometry in
     in_geometry (sym (second ∙ first))
-    (c.answer.ensures.keepable (age + 1) (subst (λ (h : Geometry). FitsCap h c.args.plan.reply.capability) (sym (second ∙ first)) fits) (in_geometry second
+    (c.answer.ensures.keepable (age + 1) (subst (λ (h : Geometry). FitsCap h c.args.plan.reply.capability) (sym (second ∙ first)) fits)
+    (in_geometry second
     (c.change.ensures.keepable age young (in_geometry first (before.ensures.keepable age k)))))
 
 pub returns-clause-beside : goal.returns-clause-beside
@@ -134,7 +146,8 @@ returns-clause-beside g c =
     let caller = c.args.caller in
     let frame = before_frame old mid c.args.banks.now c.requires.sound c.requires.counted caller.operation caller.process c.requires.running
     before.ensures.objects before.ensures.snapshots.geometry in
-    let freed = free_in_frame then new _ c.answer.ensures.objects (answered_frame caller.operation (objects_in then) caller.process c.args.plan.reply) in
+    let freed = free_in_frame then new _ c.answer.ensures.objects (answered_frame caller.operation (objects_in then) caller.process
+    c.args.plan.reply) in
     record {
       renews = renews_after old mid new before.ensures.snapshots.allocations (free_in_frame old mid (objects_in mid) refl frame)
           (renews_then mid then new c.change.ensures.snapshots.renews c.answer.ensures.snapshots.allocations freed);

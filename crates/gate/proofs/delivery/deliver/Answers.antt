@@ -5,8 +5,8 @@ use Rattle.gate.proofs.Standing.{fits_kept, in_geometry}
 use Rattle.gate.proofs.delivery.deliver.Goals as goal
 
 -- a message is delivered to the root, and then to the registers
-deliver_by_parts : (os : List Object) (p : ℕ) (m : Message) → deliver os p m ≡ with_slots_from (with_message os p m.words m.key) (annex_at os p) 28
-    m.capabilities
+deliver_by_parts : (os : List Object) (p : ℕ) (m : Message) → deliver os p m
+    ≡ with_slots_from (with_message os p m.words m.key) (annex_at os p) 28 m.capabilities
 unfolding deliver
 deliver_by_parts os p m = refl
 
@@ -25,5 +25,6 @@ returns-clause-keepable g c = λ age fits keepable.
 pub returns-clause-snapshots : goal.returns-clause-snapshots
 returns-clause-snapshots g c =
     let F = g.F.Frames in
-    keeps_twice F.parts F.IsFetched g.F.PresentFrames.IsAnnounced F.ContinuesTo g.met.F.Frames.continues_twice _ _ _ c.set_message.ensures.snapshots
+    keeps_twice F.parts F.IsFetched g.F.PresentFrames.IsAnnounced F.ContinuesTo g.met.F.Frames.continues_twice _ _ _
+    c.set_message.ensures.snapshots
     c.set_last_slots.ensures.snapshots

@@ -26,24 +26,29 @@ pub returns-then-gate-clause-keepable : goal.returns-then-gate-clause-keepable
 returns-then-gate-clause-keepable g c age young fits k =
     let before = c.set_state_at_gate in
     let first = in_geometry before.ensures.snapshots.geometry (before.ensures.keepable age k) in
-    let all = subst (λ (cs : List Capability). All (FitsCap (g.F.Frames.parts before.new.store).geometry) cs) (sym c.message-message.ensures.capabilities)
+    let all = subst (λ (cs : List Capability). All (FitsCap (g.F.Frames.parts before.new.store).geometry) cs)
+    (sym c.message-message.ensures.capabilities)
     (rw before.ensures.snapshots.geometry fits) in
     let second = in_geometry c.deliver.ensures.snapshots.geometry (c.deliver.ensures.keepable age all first) in
-    in_geometry (sym (c.deliver.ensures.snapshots.geometry ∙ before.ensures.snapshots.geometry)) (c.consume.ensures.keepable age young second)
+    in_geometry (sym (c.deliver.ensures.snapshots.geometry ∙ before.ensures.snapshots.geometry))
+    (c.consume.ensures.keepable age young second)
 
 pub returns-else-gate-clause-keepable : goal.returns-else-gate-clause-keepable
 returns-else-gate-clause-keepable g c age young fits k =
     let before = c.set_state_at_gate in
     let first = in_geometry before.ensures.snapshots.geometry (before.ensures.keepable age k) in
-    let all = subst (λ (cs : List Capability). All (FitsCap (g.F.Frames.parts before.new.store).geometry) cs) (sym c.message-message.ensures.capabilities)
+    let all = subst (λ (cs : List Capability). All (FitsCap (g.F.Frames.parts before.new.store).geometry) cs)
+    (sym c.message-message.ensures.capabilities)
     (rw before.ensures.snapshots.geometry fits) in
-    keepable_later (g.F.Frames.parts c.args.store.now).geometry age (age + 1) (frames_of (g.F.Frames.parts c.deliver.new.store)) (omega arith)
+    keepable_later (g.F.Frames.parts c.args.store.now).geometry age (age + 1) (frames_of (g.F.Frames.parts c.deliver.new.store))
+    (omega arith)
     (in_geometry (sym before.ensures.snapshots.geometry) (c.deliver.ensures.keepable age all first))
 
 pub returns-else-gate-clause-snapshots : goal.returns-else-gate-clause-snapshots
 returns-else-gate-clause-snapshots g c =
     let F = g.F.Frames in
-    keeps_twice F.parts F.IsFetched g.F.PresentFrames.IsAnnounced F.ContinuesTo g.met.F.Frames.continues_twice _ _ _ c.set_state_at_gate.ensures.snapshots
+    keeps_twice F.parts F.IsFetched g.F.PresentFrames.IsAnnounced F.ContinuesTo g.met.F.Frames.continues_twice _ _ _
+    c.set_state_at_gate.ensures.snapshots
     c.deliver.ensures.snapshots
 
 pub returns-then-gate-clause-snapshots : goal.returns-then-gate-clause-snapshots

@@ -19,7 +19,8 @@ fetch_process-requires-clause-process g c =
 pub fetch_process-requires-clause-annex : goal.fetch_process-requires-clause-annex
 fetch_process-requires-clause-annex g c =
     let old = g.F.Frames.parts c.args.store.now in
-    annex_there old c.requires.sound c.args.gate.process (gate_process old c.requires.sound c.args.gate c.requires.requested c.requires.gate)
+    annex_there old c.requires.sound c.args.gate.process (gate_process old c.requires.sound c.args.gate c.requires.requested
+    c.requires.gate)
 
 pub can_enter-requires-clause-process : goal.can_enter-requires-clause-process
 can_enter-requires-clause-process g c =
@@ -33,7 +34,8 @@ announce_gate-requires g c =
     let same : old ≡ now = sym c.in_ok-annex.ensures.fetches.same in
     let process = gate_process old c.requires.sound c.args.gate c.requires.requested c.requires.gate in
     let i = c.args.invocation.now in
-    let there : (n : ℕ) → n < length old.headers → n < length now.headers = λ n known. subst (λ (p : Parts). n < length p.headers) same known in
+    let there : (n : ℕ) → n < length old.headers → n < length now.headers =
+    λ n known. subst (λ (p : Parts). n < length p.headers) same known in
     record {
       may = record {
         usable = g.met.F.Frames.stays_usable c.args.store.now c.fetch_process.new.store c.in_ok-annex.ensures.fetches.snapshots.continues
@@ -83,8 +85,10 @@ returns-in_err-announce_gate g c =
     c.in_ok-annex.ensures.fetches.same) in
     let p = err_from_is_err_and c.from_residual-in_err-announce_gate.result c.from_residual-in_err-announce_gate.ensures.1 in
     rw (p.1, p.2) (unannounced i g.met.F.Frames.continues_twice c.announce_gate.new.store c.in_ok-annex.ensures.fetches
-    _ (effect_through os i c.args.gate) (gate_invoked old.geometry os i c.args.caller c.args.gate c.requires.requested c.requires.gate c.requires.key can)
-    (ap (written_through i.operation i.process c.args.gate.process) c.in_ok-annex.ensures.annex.0) _ c.in_err-announce_gate.ensures.prepares)
+    _ (effect_through os i c.args.gate) (gate_invoked old.geometry os i c.args.caller c.args.gate c.requires.requested c.requires.gate
+    c.requires.key can)
+    (ap (written_through i.operation i.process c.args.gate.process) c.in_ok-annex.ensures.annex.0) _
+    c.in_err-announce_gate.ensures.prepares)
 
 pub returns : goal.returns
 returns g c =
@@ -101,15 +105,19 @@ returns g c =
     let objects = c.enter.ensures.objects ∙ ap (λ (p : Parts). entered (objects_in p) i c.args.gate c.all_sent-sent.result) there
     ∙ ap (λ (cs : List Capability). entered os i c.args.gate cs) c.all_sent-sent.ensures in
     let fits = subst (λ (p : Parts). All (FitsCap p.geometry) (received i c.all_sent-sent.result)) (sym there)
-    (received_fits old.geometry os i c.all_sent-sent.result (now_sound old c.requires.sound) (few_objects old c.requires.sound c.requires.few)
+    (received_fits old.geometry os i c.all_sent-sent.result (now_sound old c.requires.sound)
+    (few_objects old c.requires.sound c.requires.few)
     (running_process os i.process c.requires.running) c.all_sent-sent.ensures) in
     let other = subst (λ (k : Capability). IsNoBankOrder k (slice_index i.words 0)) (sym c.requires.gate ∙ c.requires.requested.invoked)
     (gate_no_bank c.args.gate (slice_index i.words 0)) in
     carried_out i g.met.F.Frames.continues_twice c.enter.new.store c.in_ok-annex.ensures.fetches
-    _ effect invoked (ap (written_through i.operation i.process c.args.gate.process) c.in_ok-annex.ensures.annex.0) c.announce_gate.new.store tt
+    _ effect invoked (ap (written_through i.operation i.process c.args.gate.process) c.in_ok-annex.ensures.annex.0)
+    c.announce_gate.new.store tt
     c.in_ok-announce_gate.ensures.prepares
-    snapshots.failures snapshots.touched snapshots.geometry snapshots.continues objects c.requires.fits c.requires.running c.enter.ensures.current
+    snapshots.failures snapshots.touched snapshots.geometry snapshots.continues objects c.requires.fits c.requires.running
+    c.enter.ensures.current
     (λ age young. c.enter.ensures.keepable age young fits)
-    (renews_invoked old mid (g.F.Frames.parts c.enter.new.store) i effect c.requires.sound (ap (λ (p : Parts). p.headers) there) c.requires.fits
+    (renews_invoked old mid (g.F.Frames.parts c.enter.new.store) i effect c.requires.sound (ap (λ (p : Parts). p.headers) there)
+    c.requires.fits
     c.requires.running other invoked objects snapshots.allocations)
     None (sym (gate_code old.geometry os i c.args.caller c.args.gate c.requires.requested c.requires.gate))

@@ -15,12 +15,14 @@ returns-in-Some-clause-counted g c = search (rules, counted_after, gate_no_bank)
 
 pub returns-in-Some-clause-invoked : goal.returns-in-Some-clause-invoked
 returns-in-Some-clause-invoked g c =
-    invoked_looked c.args.invocation.now g.met.F.Frames.continues_twice c.invoke_gate.new.store c.in_ok-annex.ensures.fetches c.invoke_gate.result
+    invoked_looked c.args.invocation.now g.met.F.Frames.continues_twice c.invoke_gate.new.store c.in_ok-annex.ensures.fetches
+    c.invoke_gate.result
     c.invoke_gate.ensures
 
 pub returns-in-None-clause-invoked : goal.returns-in-None-clause-invoked
 returns-in-None-clause-invoked g c =
-    invoked_looked c.args.invocation.now g.met.F.Frames.continues_twice c.invoke_order.new.store c.in_ok-annex.ensures.fetches c.invoke_order.result
+    invoked_looked c.args.invocation.now g.met.F.Frames.continues_twice c.invoke_order.new.store c.in_ok-annex.ensures.fetches
+    c.invoke_order.result
     c.invoke_order.ensures.invoked
 
 pub invoke_gate-requires-clause-requested : goal.invoke_gate-requires-clause-requested

@@ -3,7 +3,8 @@ use Rattle.std.proofs.Common.{◌<◌}
 use Rattle.gate.proofs.kernel_object.fetched_by.Goals as goal
 
 pub returns-in-Bank-clause-new : goal.returns-in-Bank-clause-new
-returns-in-Bank-clause-new c = subst (λ (x : Change). All (Contains c.with_new.result) (fetched_of x)) (sym c.in-Bank.is) c.with_new.ensures.new
+returns-in-Bank-clause-new c = subst (λ (x : Change). All (Contains c.with_new.result) (fetched_of x)) (sym c.in-Bank.is)
+    c.with_new.ensures.new
 
 pub returns-in-Bank-clause-known : goal.returns-in-Bank-clause-known
 returns-in-Bank-clause-known c count process annex all =

@@ -15,11 +15,14 @@ announce_order-requires g c =
     let os = objects_in old in
     let i = c.args.invocation.now in
     let caller = c.args.caller in
-    let root = running_process os caller.process (subst (λ (p : ℕ). IsTrue (is_running_process os p)) (sym c.requires.requested.process) c.requires.running) in
-    let known : (n : ℕ) → n < length old.headers → n < length now.headers = λ n within. subst (λ (p : Parts). n < length p.headers) same within in
+    let root = running_process os caller.process (subst (λ (p : ℕ). IsTrue (is_running_process os p)) (sym c.requires.requested.process)
+    c.requires.running) in
+    let known : (n : ℕ) → n < length old.headers → n < length now.headers =
+    λ n within. subst (λ (p : Parts). n < length p.headers) same within in
     let there = known caller.process (process_known old caller.process root) in
     let annex = known caller.annex
-    (requested_annex old c.requires.sound i.process caller.annex (running_process os i.process c.requires.running) c.requires.requested.annex) in
+    (requested_annex old c.requires.sound i.process caller.annex (running_process os i.process c.requires.running)
+    c.requires.requested.annex) in
     let inside : (n : ℕ) → n < length os → n < length now.headers = λ n within. known n (inside_known old n within) in
     record {
       may = record {
@@ -31,7 +34,8 @@ announce_order-requires g c =
       annex = annex;
       known = subst (λ (ns : List ℕ). All (λ n. n < length now.headers) ns) (sym c.listed.ensures)
           (listed_known c.requires.requested c.in_ok-plan.ensures.planned root (λ n. n < length now.headers) there annex inside);
-      new = fetched_known c.requires.requested c.in_ok-plan.ensures.planned root (λ n. n < length now.headers) (now_sound old c.requires.sound) inside;
+      new = fetched_known c.requires.requested c.in_ok-plan.ensures.planned root (λ n. n < length now.headers)
+          (now_sound old c.requires.sound) inside;
     }
 
 pub carry_out-requires : goal.carry_out-requires
@@ -53,11 +57,16 @@ carry_out-requires g c =
       running = subst (λ (p : Parts). IsTrue (is_running_process (objects_in p) caller.process)) there running;
       annex = c.requires.requested.annex ∙ ap (annex_at os) (sym c.requires.requested.process)
           ∙ ap (λ (p : Parts). annex_at (objects_in p) caller.process) there;
-      planned = (i, subst (λ (p : Parts). IsPlanned p.geometry (objects_in p) i caller plan banks.listed) there c.in_ok-plan.ensures.planned);
+      planned = (
+        i,
+        subst (λ (p : Parts). IsPlanned p.geometry (objects_in p) i caller plan banks.listed) there
+            c.in_ok-plan.ensures.planned,
+      );
       announced = subst (λ (ns : List ℕ). All (g.F.PresentFrames.IsAnnounced c.announce_order.new.store) ns) c.listed.ensures
           c.in_ok-announce_order.ensures.announced;
       fetched = c.in_ok-announce_order.ensures.fetched;
-      after = subst (λ (p : Parts). IsNow p.geometry (ordered_by (objects_in p) caller (drop (writer_count caller.operation) banks.listed) plan)) there
+      after = subst (λ (p : Parts). IsNow p.geometry (ordered_by (objects_in p) caller (drop (writer_count caller.operation) banks.listed)
+          plan)) there
           after;
     }
 
@@ -68,10 +77,12 @@ returns-in_err-announce_order-clause-invoked g c =
     let os = objects_in old in
     let i = c.args.invocation.now in
     let caller = c.args.caller in
-    let root = running_process os caller.process (subst (λ (q : ℕ). IsTrue (is_running_process os q)) (sym c.requires.requested.process) c.requires.running) in
+    let root = running_process os caller.process (subst (λ (q : ℕ). IsTrue (is_running_process os q)) (sym c.requires.requested.process)
+    c.requires.running) in
     let written = order_written c.requires.requested c.in_ok-plan.ensures.planned root in
     rw (p.1, p.2) (unannounced i g.met.F.Frames.continues_twice c.announce_order.new.store c.in_ok-plan.ensures.fetches
-    _ (on_kernel_object old.geometry os i) (object_invoked old.geometry os i caller c.requires.requested c.requires.object) (c.listed.ensures ∙ written) _
+    _ (on_kernel_object old.geometry os i) (object_invoked old.geometry os i caller c.requires.requested c.requires.object)
+    (c.listed.ensures ∙ written) _
     c.in_err-announce_order.ensures.prepares)
 
 pub returns-clause-invoked : goal.returns-clause-invoked
@@ -85,17 +96,20 @@ returns-clause-invoked g c =
     let listed = c.plan_order.new.banks.listed in
     let planned = c.in_ok-plan.ensures.planned in
     let beside = c.carry_out.ensures.beside in
-    let root = running_process os caller.process (subst (λ (q : ℕ). IsTrue (is_running_process os q)) (sym c.requires.requested.process) c.requires.running) in
+    let root = running_process os caller.process (subst (λ (q : ℕ). IsTrue (is_running_process os q)) (sym c.requires.requested.process)
+    c.requires.running) in
     let written = order_written c.requires.requested planned root in
     let fits = subst (λ (p : Parts). FitsCap p.geometry plan.reply.capability) (sym there)
     (order_fits c.requires.requested planned root (now_sound old c.requires.sound) c.requires.fits c.requires.running
     (few_objects old c.requires.sound c.requires.few)) in
     let renews = subst (λ (p : Parts). Renews p (g.F.Frames.parts c.carry_out.new.store)) there beside.renews in
     carried_out i g.met.F.Frames.continues_twice c.carry_out.new.store c.in_ok-plan.ensures.fetches
-    _ (on_kernel_object old.geometry os i) (object_invoked old.geometry os i caller c.requires.requested c.requires.object) (c.listed.ensures ∙ written)
+    _ (on_kernel_object old.geometry os i) (object_invoked old.geometry os i caller c.requires.requested c.requires.object)
+    (c.listed.ensures ∙ written)
     c.announce_order.new.store tt
     c.in_ok-announce_order.ensures.prepares beside.failures beside.touched beside.geometry beside.continues
-    (c.carry_out.ensures.objects ∙ ap (λ (p : Parts). finished (objects_in p) caller (drop (writer_count caller.operation) listed) plan) there
+    (c.carry_out.ensures.objects ∙ ap (λ (p : Parts). finished (objects_in p) caller (drop (writer_count caller.operation) listed) plan)
+    there
     ∙ sym (order_objects c.requires.requested planned root))
     c.requires.fits c.requires.running c.carry_out.ensures.current (λ age young. c.carry_out.ensures.keepable age young fits)
     (record { each = renews.each }) (Some plan.reply.code)

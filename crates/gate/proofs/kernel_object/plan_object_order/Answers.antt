@@ -33,7 +33,8 @@ pub returns-clause-planned : goal.returns-clause-planned
 returns-clause-planned g c =
     let old = g.F.Frames.parts c.args.store.now in
     let now = g.F.Frames.parts c.fetch_named.new.store in
-    object_planned old.geometry (objects_in old) (objects_in now) c.args.invocation.now c.args.caller c.plan-plan.result c.needed_arguments-arguments.result
+    object_planned old.geometry (objects_in old) (objects_in now) c.args.invocation.now c.args.caller c.plan-plan.result
+    c.needed_arguments-arguments.result
     c.args.banks.now.listed c.list_target.new.banks.listed
     (ap (λ (p : Parts). objects_in p) c.in_ok-fetch_named.ensures.fetches.same) (now_sound old c.requires.sound)
     (few_objects old c.requires.sound c.requires.few) c.requires.fits c.requires.requested

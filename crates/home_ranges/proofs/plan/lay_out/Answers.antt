@@ -16,7 +16,8 @@ returns-then-geometry-clause-refused c may = elim c.then-geometry.branch [
 pub returns-clause-allowed : goal.returns-clause-allowed
 returns-clause-allowed c =
     laid_out c.args.version c.args.geometry c.args.ranges.now c.new.result
-    (rw (c.half_extent-half.ensures, c.lay_ranges-first.ensures.end, c.lay_ranges-first.ensures.laid) at c.new.ensures.some) c.new.ensures.fits
+    (rw (c.half_extent-half.ensures, c.lay_ranges-first.ensures.end, c.lay_ranges-first.ensures.laid) at c.new.ensures.some)
+    c.new.ensures.fits
 
 pub returns-clause-refused : goal.returns-clause-refused
 returns-clause-refused c =

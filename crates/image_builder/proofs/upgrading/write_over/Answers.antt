@@ -32,9 +32,11 @@ returns-in-Ok g c =
     let same = same_state c.args.layout s _ _ _ _ _ _ laid generation count age entries frames in
     record {
       total = search rules;
-      encodes = subst (Encodes (g.E.Device.disk c.write_saved.new.device).seen (g.E.Device.disk c.write_saved.new.device).sectors) same c.in-Ok.ensures.denotes;
+      encodes = subst (Encodes (g.E.Device.disk c.write_saved.new.device).seen (g.E.Device.disk c.write_saved.new.device).sectors) same
+          c.in-Ok.ensures.denotes;
       crash = λ x left. subst (Encodes x (g.E.Device.disk c.write_saved.new.device).sectors) same (c.in-Ok.ensures.crash x left);
-      zeros = λ x left. subst (λ (state : SavedState). EndInZeros state.plan state.header.generation state.directory x) same (c.in-Ok.ensures.zeros x left);
+      zeros = λ x left. subst (λ (state : SavedState). EndInZeros state.plan state.header.generation state.directory x) same
+          (c.in-Ok.ensures.zeros x left);
       elsewhere = search rules;
       small = search rules;
       opened = search rules;

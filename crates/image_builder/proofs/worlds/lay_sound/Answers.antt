@@ -10,13 +10,15 @@ returns-in_err-headers-clause-refused c =
 pub check_frames-requires-clause-laid : goal.check_frames-requires-clause-laid
 check_frames-requires-clause-laid c =
     let known = c.in_ok-headers.ensures in
-    let laid = world_laid c.args.description.now c.in_ok-headers.field-0 known.named known.described known.keepable known.headers known.contents in
+    let laid = world_laid c.args.description.now c.in_ok-headers.field-0 known.named known.described known.keepable known.headers
+    known.contents in
     rw c.new-frames.ensures laid
 
 pub returns-clause-laid : goal.returns-clause-laid
 returns-clause-laid c =
     let known = c.in_ok-headers.ensures in
-    let laid = world_laid c.args.description.now c.in_ok-headers.field-0 known.named known.described known.keepable known.headers known.contents in
+    let laid = world_laid c.args.description.now c.in_ok-headers.field-0 known.named known.described known.keepable known.headers
+    known.contents in
     let checked : AreLaid c.args.description.now c.new-frames.result.headers c.new-frames.result.contents = rw c.new-frames.ensures laid in
     rw (
       c.into_parts-headers.ensures.headers,

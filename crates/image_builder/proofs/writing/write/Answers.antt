@@ -18,7 +18,8 @@ returns-clause-any_moment g c =
     let hs = c.deref.result.now in
     let cs = c.deref-2.result.now in
     let laid : AreLaid d hs cs = rw (c.deref.ensures.value, c.deref-2.ensures.value) c.requires.laid in
-    left_writing d hs cs laid c.requires.limits c.requires.sound (g.D.Device.disk c.args.device.now) (g.D.Device.disk c.write_image.new.device)
+    left_writing d hs cs laid c.requires.limits c.requires.sound (g.D.Device.disk c.args.device.now)
+    (g.D.Device.disk c.write_image.new.device)
     c.args.superblock.now c.requires.plan c.in_ok-write_image.ensures.any_moment
 
 pub returns-in_err-write_image-clause-any_moment : goal.returns-in_err-write_image-clause-any_moment
@@ -27,5 +28,6 @@ returns-in_err-write_image-clause-any_moment g c =
     let hs = c.deref.result.now in
     let cs = c.deref-2.result.now in
     let laid : AreLaid d hs cs = rw (c.deref.ensures.value, c.deref-2.ensures.value) c.requires.laid in
-    left_writing d hs cs laid c.requires.limits c.requires.sound (g.D.Device.disk c.args.device.now) (g.D.Device.disk c.write_image.new.device)
+    left_writing d hs cs laid c.requires.limits c.requires.sound (g.D.Device.disk c.args.device.now)
+    (g.D.Device.disk c.write_image.new.device)
     c.args.superblock.now c.requires.plan c.in_err-write_image.ensures.any_moment

@@ -8,11 +8,13 @@ returns-in-Ok-clause-describes g c =
     let p = g.F.Frames.parts c.args.store.now in
     let entry_of = c.in-Ok.ensures.entry_of in
     described p.geometry (world_at c.args.age (frames_of p)) c.requires.sound.sound c.tell_objects.new.description
-    (c.in-Ok.ensures.same.geometry ∙ c.geometry.ensures.geometry) c.in-Ok.ensures.same.age entry_of.banks entry_of.processes entry_of.nodes entry_of.pages
+    (c.in-Ok.ensures.same.geometry ∙ c.geometry.ensures.geometry) c.in-Ok.ensures.same.age entry_of.banks entry_of.processes entry_of.nodes
+    entry_of.pages
 
 pub returns-in-Ok-clause-brief : goal.returns-in-Ok-clause-brief
 returns-in-Ok-clause-brief g c =
     let p = g.F.Frames.parts c.args.store.now in
     let entry_of = c.in-Ok.ensures.entry_of in
     brief p.geometry (world_at c.args.age (frames_of p)) c.requires.sound.sound c.tell_objects.new.description
-    (c.in-Ok.ensures.same.geometry ∙ c.geometry.ensures.geometry) c.in-Ok.ensures.same.age entry_of.banks entry_of.processes entry_of.nodes entry_of.pages
+    (c.in-Ok.ensures.same.geometry ∙ c.geometry.ensures.geometry) c.in-Ok.ensures.same.age entry_of.banks entry_of.processes entry_of.nodes
+    entry_of.pages

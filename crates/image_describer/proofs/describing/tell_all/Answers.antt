@@ -7,7 +7,8 @@ pub loop-number-init : goal.loop-number-init
 loop-number-init g c =
     let os = objects_in (g.F.Frames.parts c.args.store.now) in
     record {
-      entry_of = subst (TellBelow g.E.DescribedEntry.number_of (g.E.DescribedEntry.Tells os) g.E.DescribedEntry.kind os 0) (sym c.requires.none)
+      entry_of = subst (TellBelow g.E.DescribedEntry.number_of (g.E.DescribedEntry.Tells os) g.E.DescribedEntry.kind os 0)
+          (sym c.requires.none)
           (tell_none g.E.DescribedEntry.number_of (g.E.DescribedEntry.Tells os) g.E.DescribedEntry.kind os);
       looked = search rules;
     }
@@ -20,7 +21,8 @@ loop-number-preserved g c =
     record {
       entry_of = tell_next g.E.DescribedEntry.number_of (g.E.DescribedEntry.Tells os) g.E.DescribedEntry.kind os c.loop-number.number
           c.loop-number.entries.items c.add.new.entries.items c.in_ok-entry.entry c.loop-number.invariant.entry_of
-          (subst (λ (us : List Object). MayTell g.E.DescribedEntry.number_of (g.E.DescribedEntry.Tells us) g.E.DescribedEntry.kind us c.loop-number.number
+          (subst (λ (us : List Object). MayTell g.E.DescribedEntry.number_of (g.E.DescribedEntry.Tells us) g.E.DescribedEntry.kind us
+          c.loop-number.number
           c.in_ok-entry.entry) same c.in_ok-entry.ensures.entry_of)
           c.in_ok-add.ensures;
       looked = looked_twice g.met.F.Frames.continues_twice c.loop-number.invariant.looked (looked_once c.in_ok-entry.ensures.only_reads);
@@ -29,9 +31,11 @@ loop-number-preserved g c =
 pub returns-clause-entry_of : goal.returns-clause-entry_of
 returns-clause-entry_of g c =
     let p = g.F.Frames.parts c.args.store.now in
-    tell_all g.E.DescribedEntry.number_of (g.E.DescribedEntry.Tells (objects_in p)) g.E.DescribedEntry.kind (objects_in p) c.loop-number.number
+    tell_all g.E.DescribedEntry.number_of (g.E.DescribedEntry.Tells (objects_in p)) g.E.DescribedEntry.kind (objects_in p)
+    c.loop-number.number
     c.loop-number.entries.items c.loop-number.invariant.entry_of g.met.E.DescribedEntry.is_kept
-    (role_past p c.table.result.now c.loop-number.number c.table.ensures (omega (arith, c.count-number-end.ensures, c.loop-number-test.false)))
+    (role_past p c.table.result.now c.loop-number.number c.table.ensures (omega
+    (arith, c.count-number-end.ensures, c.loop-number-test.false)))
 
 pub entry_of-requires-clause-sound : goal.entry_of-requires-clause-sound
 entry_of-requires-clause-sound g c = subst AreSound (sym c.loop-number.invariant.looked.same) c.requires.sound

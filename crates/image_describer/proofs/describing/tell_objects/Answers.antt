@@ -17,7 +17,8 @@ tell_all-requires-4-clause-sound g c =
     ∙ c.in_ok-tell_all.ensures.only_reads.same)) c.requires.sound
 
 pub returns-in_err-tell_all-clause-only_reads : goal.returns-in_err-tell_all-clause-only_reads
-returns-in_err-tell_all-clause-only_reads g c = read_failed c.from_residual.result c.from_residual.ensures.1 c.in_err-tell_all.ensures.only_reads
+returns-in_err-tell_all-clause-only_reads g c = read_failed c.from_residual.result c.from_residual.ensures.1
+    c.in_err-tell_all.ensures.only_reads
 
 pub returns-in_err-tell_all-2-clause-only_reads : goal.returns-in_err-tell_all-2-clause-only_reads
 returns-in_err-tell_all-2-clause-only_reads g c =
@@ -43,9 +44,12 @@ returns-clause-entry_of g c =
     let three = c.in_ok-tell_all-3.ensures.only_reads.same ∙ two in
     on_ok_weaker c.tell_all-4.result (λ last. record {
       banks = c.in_ok-tell_all.ensures.entry_of;
-      processes = subst (λ (q : Parts). TellAll (λ p. p.root) (TellsProcess (objects_in q)) role.Root (objects_in q) c.tell_all-2.new.entries.items) one
+      processes = subst (λ (q : Parts). TellAll (λ p. p.root) (TellsProcess (objects_in q)) role.Root (objects_in q)
+          c.tell_all-2.new.entries.items) one
           c.in_ok-tell_all-2.ensures.entry_of;
-      nodes = subst (λ (q : Parts). TellAll (λ n. n.number) (TellsNode (objects_in q)) role.Node (objects_in q) c.tell_all-3.new.entries.items) two
+      nodes = subst (λ (q : Parts). TellAll (λ n. n.number) (TellsNode (objects_in q)) role.Node (objects_in q)
+          c.tell_all-3.new.entries.items) two
           c.in_ok-tell_all-3.ensures.entry_of;
-      pages = subst (λ (q : Parts). TellAll (λ p. p.number) (TellsPage (objects_in q)) role.Page (objects_in q) c.tell_all-4.new.entries.items) three last;
+      pages = subst (λ (q : Parts). TellAll (λ p. p.number) (TellsPage (objects_in q)) role.Page (objects_in q)
+          c.tell_all-4.new.entries.items) three last;
     }) c.tell_all-4.ensures.entry_of

@@ -7,8 +7,10 @@ pub loop-i-preserved : goal.loop-i-preserved
 loop-i-preserved g c =
     let xs = c.args.items.now in
     let i = c.loop-i.i in
-    names_next g.E.SparseEntry.index _ _ xs i c.loop-i.entries.items c.add.new.entries.items c.of_item.result _ c.loop-i.invariant c.loop-i-test.true
-    (c.index-items-i.is ∙ sym (get_or_from_slice_get xs i _ g.E.SparseEntry.default (slice_get-get_or xs i c.index-items-i.result c.loop-i-test.true)))
+    names_next g.E.SparseEntry.index _ _ xs i c.loop-i.entries.items c.add.new.entries.items c.of_item.result _ c.loop-i.invariant
+    c.loop-i-test.true
+    (c.index-items-i.is ∙ sym (get_or_from_slice_get xs i _ g.E.SparseEntry.default
+    (slice_get-get_or xs i c.index-items-i.result c.loop-i-test.true)))
     c.of_item.ensures c.in_ok-add.ensures
 
 pub returns : goal.returns

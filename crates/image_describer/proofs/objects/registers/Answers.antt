@@ -7,7 +7,8 @@ pub fetch-requires-clause-known : goal.fetch-requires-clause-known
 fetch-requires-clause-known g c =
     let p = g.F.Frames.parts c.args.store.now in
     let Known = λ (n : ℕ). n < length p.headers in
-    All-cons Known c.args.annex [] (known_used p c.args.annex (annex_used (content_at (objects_in p) c.args.annex) c.requires.annex)) (All-nil Known)
+    All-cons Known c.args.annex [] (known_used p c.args.annex (annex_used (content_at (objects_in p) c.args.annex) c.requires.annex))
+    (All-nil Known)
 
 pub fetch-requires-clause-may : goal.fetch-requires-clause-may
 fetch-requires-clause-may g c =

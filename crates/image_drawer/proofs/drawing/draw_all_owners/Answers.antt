@@ -12,7 +12,8 @@ returns-in_err-draw_owners g c =
     (flat_map-four owner_line (flat_map (λ b. joined b.owner b.number) c.args.description.now.banks.items)
     (flat_map (λ p. joined p.owner p.root) c.args.description.now.processes.items)
     (flat_map (λ n. joined n.owner n.number) c.args.description.now.nodes.items)
-    (flat_map (λ p. joined p.owner p.number) c.args.description.now.pages.items)) _ _ _ (rw c.as_slice.ensures.value at c.in_err-draw_owners.ensures))
+    (flat_map (λ p. joined p.owner p.number) c.args.description.now.pages.items)) _ _ _
+    (rw c.as_slice.ensures.value at c.in_err-draw_owners.ensures))
 
 pub returns-in_err-draw_owners-2 : goal.returns-in_err-draw_owners-2
 returns-in_err-draw_owners-2 g c =
@@ -24,7 +25,8 @@ returns-in_err-draw_owners-2 g c =
     (flat_map-four owner_line (flat_map (λ b. joined b.owner b.number) c.args.description.now.banks.items)
     (flat_map (λ p. joined p.owner p.root) c.args.description.now.processes.items)
     (flat_map (λ n. joined n.owner n.number) c.args.description.now.nodes.items)
-    (flat_map (λ p. joined p.owner p.number) c.args.description.now.pages.items)) _ _ _ _ (rw c.as_slice.ensures.value at c.in_ok-draw_owners.ensures)
+    (flat_map (λ p. joined p.owner p.number) c.args.description.now.pages.items)) _ _ _ _
+    (rw c.as_slice.ensures.value at c.in_ok-draw_owners.ensures)
     (rw c.as_slice-2.ensures.value at c.in_err-draw_owners-2.ensures))
 
 pub returns-in_err-draw_owners-3 : goal.returns-in_err-draw_owners-3
@@ -37,7 +39,8 @@ returns-in_err-draw_owners-3 g c =
     (flat_map-four owner_line (flat_map (λ b. joined b.owner b.number) c.args.description.now.banks.items)
     (flat_map (λ p. joined p.owner p.root) c.args.description.now.processes.items)
     (flat_map (λ n. joined n.owner n.number) c.args.description.now.nodes.items)
-    (flat_map (λ p. joined p.owner p.number) c.args.description.now.pages.items)) _ _ _ _ _ (rw c.as_slice.ensures.value at c.in_ok-draw_owners.ensures)
+    (flat_map (λ p. joined p.owner p.number) c.args.description.now.pages.items)) _ _ _ _ _
+    (rw c.as_slice.ensures.value at c.in_ok-draw_owners.ensures)
     (rw c.as_slice-2.ensures.value at c.in_ok-draw_owners-2.ensures) (rw c.as_slice-3.ensures.value at c.in_err-draw_owners-3.ensures))
 
 pub returns : goal.returns
@@ -49,6 +52,7 @@ returns g c =
     (flat_map-four owner_line (flat_map (λ b. joined b.owner b.number) c.args.description.now.banks.items)
     (flat_map (λ p. joined p.owner p.root) c.args.description.now.processes.items)
     (flat_map (λ n. joined n.owner n.number) c.args.description.now.nodes.items)
-    (flat_map (λ p. joined p.owner p.number) c.args.description.now.pages.items)) _ _ _ _ _ _ (rw c.as_slice.ensures.value at c.in_ok-draw_owners.ensures)
+    (flat_map (λ p. joined p.owner p.number) c.args.description.now.pages.items)) _ _ _ _ _ _
+    (rw c.as_slice.ensures.value at c.in_ok-draw_owners.ensures)
     (rw c.as_slice-2.ensures.value at c.in_ok-draw_owners-2.ensures) (rw c.as_slice-3.ensures.value at c.in_ok-draw_owners-3.ensures)
     (rw c.as_slice-4.ensures.value at c.draw_owners-4.ensures)

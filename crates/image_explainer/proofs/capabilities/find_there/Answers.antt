@@ -32,7 +32,8 @@ returns-in-Node-clause-none g c =
     let p = g.F.Frames.parts c.args.store.now in
     let known = (g.met.F.Frames.known_fetched c.args.store.now c.args.number c.requires.fetched).0 in
     let held = content_behind c.frame.result in
-    none_there (frames_of p) held c.args.number (content_read p c.args.number held known c.frame.ensures) c.in-Node.slots.now c.find_in.result
+    none_there (frames_of p) held c.args.number (content_read p c.args.number held known c.frame.ensures) c.in-Node.slots.now
+    c.find_in.result
     (ap (λ (r : ContentRef). caps_in (content_behind r)) c.in-Node.is) c.find_in.ensures.none
 
 pub returns-in-Root-clause-none : goal.returns-in-Root-clause-none
@@ -49,7 +50,8 @@ returns-in-Annex-clause-none g c =
     let p = g.F.Frames.parts c.args.store.now in
     let known = (g.met.F.Frames.known_fetched c.args.store.now c.args.number c.requires.fetched).0 in
     let held = content_behind c.frame.result in
-    none_there (frames_of p) held c.args.number (content_read p c.args.number held known c.frame.ensures) c.in-Annex.registers.now c.find_in-in-Annex.result
+    none_there (frames_of p) held c.args.number (content_read p c.args.number held known c.frame.ensures) c.in-Annex.registers.now
+    c.find_in-in-Annex.result
     (ap (λ (r : ContentRef). caps_in (content_behind r)) c.in-Annex.is) c.find_in-in-Annex.ensures.none
 
 pub returns-in_default-clause-none : goal.returns-in_default-clause-none

@@ -8,8 +8,10 @@ returns-in-Ok g c = λ device opens.
     let over = g.met.S.WholeStore.is_over in
     let new = c.find_in_objects-found.new.store in
     let still = g.met.S.WholeStore.still c.args.store new c.in-Ok.ensures.only_reads.snapshots.continues in
-    explains_found g.D.Device.disk device c.into_device-device.result (g.S.Frames.parts c.args.store) (g.S.ObjectStore.view c.args.store) opens
-    (c.into_device-device.ensures ∙ (over new).beneath ∙ ap (λ (d : DurableState g.row.D.Denot). d.beneath) still ∙ sym (over c.args.store).beneath)
+    explains_found g.D.Device.disk device c.into_device-device.result (g.S.Frames.parts c.args.store) (g.S.ObjectStore.view c.args.store)
+    opens
+    (c.into_device-device.ensures ∙ (over new).beneath ∙ ap (λ (d : DurableState g.row.D.Denot). d.beneath) still
+    ∙ sym (over c.args.store).beneath)
     c.in-Ok.found c.in-Ok.ensures.found
 
 pub returns-in-Err : goal.returns-in-Err
@@ -21,7 +23,8 @@ returns-in-Err g c = λ device opens.
     let beneath = (over new).beneath ∙ ap (λ (d : DurableState g.row.D.Denot). d.beneath) still ∙ sym (over c.args.store).beneath in
     let same : (g.S.Frames.parts new).failures ≡ (g.S.Frames.parts c.args.store).failures =
     failures new ∙ ap (λ (d : g.row.D.Denot). (g.D.Device.disk d).failures) beneath ∙ sym (failures c.args.store) in
-    explains_refused g.D.Device.disk device c.into_device-device.result (g.S.Frames.parts c.args.store) (g.S.ObjectStore.view c.args.store) opens
+    explains_refused g.D.Device.disk device c.into_device-device.result (g.S.Frames.parts c.args.store) (g.S.ObjectStore.view c.args.store)
+    opens
     (c.into_device-device.ensures ∙ beneath) c.into.result
     (λ failed. absurd (omega (arith, same, c.in-Err.ensures.only_reads.cause.0 (ap Err (c.into.ensures.0.0 failed)))))
     c.into.ensures.1

@@ -7,7 +7,8 @@ pub unreachable-requires : goal.unreachable-requires
 unreachable-requires g c =
     let disk = g.D.Device.disk in
     let image : Image = (disk c.args.device.now).seen in
-    let copy : AreSectors image 0 c.read.new.into = copied_before (disk c.read.new.self).seen image c.read.new.into c.in-Ok.ensures.bytes c.read.ensures.seen in
+    let copy : AreSectors image 0 c.read.new.into = copied_before (disk c.read.new.self).seen image c.read.new.into c.in-Ok.ensures.bytes
+    c.read.ensures.seen in
     whole_not_bad (disk c.args.device.now).sectors image c.requires.bad.0
     (subst (λ (n : ℕ). IsWhole n image) c.sectors-size.ensures.count (c.in-Continue.ensures image copy)) c.requires.bad.1
 
@@ -15,5 +16,6 @@ pub returns-clause-found : goal.returns-clause-found
 returns-clause-found g c =
     let disk = g.D.Device.disk in
     let image : Image = (disk c.args.device.now).seen in
-    let copy : AreSectors image 0 c.read.new.into = copied_before (disk c.read.new.self).seen image c.read.new.into c.in-Ok.ensures.bytes c.read.ensures.seen in
+    let copy : AreSectors image 0 c.read.new.into = copied_before (disk c.read.new.self).seen image c.read.new.into c.in-Ok.ensures.bytes
+    c.read.ensures.seen in
     subst (λ (n : ℕ). IsFault n image c.in-Break.fault) c.sectors-size.ensures.count (c.in-Break.ensures image copy)

@@ -3,7 +3,8 @@ use Rattle.image_explainer.proofs.Matching.{below_more}
 use Rattle.image_explainer.proofs.processes.find_annex.Goals as goal
 
 pub loop-annex-preserved : goal.loop-annex-preserved
-loop-annex-preserved g c = below_more (HasRoot (frames_of (g.F.Frames.parts c.args.store.now))) c.loop-annex.annex c.loop-annex.invariant c.in-None.ensures.none
+loop-annex-preserved g c = below_more (HasRoot (frames_of (g.F.Frames.parts c.args.store.now))) c.loop-annex.annex c.loop-annex.invariant
+    c.in-None.ensures.none
 
 pub returns-clause-none : goal.returns-clause-none
 returns-clause-none g c = λ a annex.

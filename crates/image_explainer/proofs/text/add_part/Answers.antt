@@ -5,7 +5,8 @@ use Rattle.image_explainer.proofs.text.add_part.Goals as goal
 
 pub returns-in-Calls-clause-text : goal.returns-in-Calls-clause-text
 returns-in-Calls-clause-text c =
-    joined_4 c.args.line.now _ _ c.push-in-Calls.new.self c.number-in-Calls.new.self c.push-in-Calls.ensures c.number-in-Calls.ensures.text _
+    joined_4 c.args.line.now _ _ c.push-in-Calls.new.self c.number-in-Calls.new.self c.push-in-Calls.ensures c.number-in-Calls.ensures.text
+    _
     c.push-in-Calls-2.new.self c.push-in-Calls-2.ensures _ c.number-in-Calls-2.new.self c.number-in-Calls-2.ensures.text
     ∙ ap (λ (x : FramePart). c.args.line.now ++ frame_part_text x) (sym c.in-Calls.is)
 

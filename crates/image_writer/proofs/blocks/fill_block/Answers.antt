@@ -5,8 +5,11 @@ use Rattle.image_writer.proofs.HomeFrames.{frame_there}
 use Rattle.image_writer.proofs.blocks.fill_block.Goals as goal
 
 pub loop-k-init : goal.loop-k-init
-loop-k-init c =
-    ((λ k lt. absurd (omega (arith, lt))), none_ended c.args.home.now c.first-first.result c.args.block.now c.requires.blank, c.requires.block)
+loop-k-init c = (
+  (λ k lt. absurd (omega (arith, lt))),
+  none_ended c.args.home.now c.first-first.result c.args.block.now c.requires.blank,
+  c.requires.block,
+)
 
 pub bounds-contents-n : goal.bounds-contents-n
 bounds-contents-n c =
@@ -30,8 +33,10 @@ loop-k-preserved c =
     let at : ℕ = (shape_of p (first + k)).offset in
     let before = rw (c.shape.ensures.value) at c.put_frame.ensures.before in
     let put = rw (c.shape.ensures.value, c.geometry-geometry.ensures.value) at c.put_frame.ensures.put in
-    let here : shape_bytes (shape_of p (first + k)) new ≡ frame_bytes p.geometry (first + k) (frame_at frames (first + k)) = grind (arith, nat_tests, frame_there) in (
-      one_frame_more first k old new plan have c.loop-k-test.true (λ (a : ℕ). frame_bytes p.geometry a (frame_at frames a)) c.loop-k.invariant.0 here
+    let here : shape_bytes (shape_of p (first + k)) new ≡ frame_bytes p.geometry (first + k) (frame_at frames (first + k)) =
+    grind (arith, nat_tests, frame_there) in (
+      one_frame_more first k old new plan have c.loop-k-test.true (λ (a : ℕ). frame_bytes p.geometry a (frame_at frames a))
+          c.loop-k.invariant.0 here
           (λ s le. sym (front_shape s at new le) ∙ ap (shape_bytes s) before ∙ front_shape s at old le),
       ended_more first k old new plan have c.loop-k-test.true c.loop-k.invariant.1
           (rw c.shape.ensures.value at c.put_frame.ensures.behind),

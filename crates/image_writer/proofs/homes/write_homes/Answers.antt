@@ -16,21 +16,28 @@ loop-number-preserved g c =
       | then-first-number+in_ok-write_shared w ↦
           let first = subst (IsFirstOf p n) w.if-first-number.true c.first.ensures.first in
           let writes = rw w.place-at.ensures.value at w.write_shared.ensures.writes in
-          let same : (g.D.Device.disk w.write_shared.new.device).failures ≡ (g.D.Device.disk c.loop-number.device).failures = search rules in
+          let same : (g.D.Device.disk w.write_shared.new.device).failures ≡ (g.D.Device.disk c.loop-number.device).failures =
+          search rules in
           rw w.device-is (
-            one_more (g.D.Device.disk c.args.device.now).seen (g.D.Device.disk c.loop-number.device).seen (g.D.Device.disk w.write_shared.new.device).seen
-                p n c.requires.plan lt writes.elsewhere frames c.loop-number.invariant.0 (rw w.place-at.ensures.value at w.in_ok-write_shared.ensures.written),
-            stays_between (g.D.Device.disk c.args.device.now).seen (g.D.Device.disk c.loop-number.device).seen (g.D.Device.disk w.write_shared.new.device).seen
+            one_more (g.D.Device.disk c.args.device.now).seen (g.D.Device.disk c.loop-number.device).seen
+                (g.D.Device.disk w.write_shared.new.device).seen
+                p n c.requires.plan lt writes.elsewhere frames c.loop-number.invariant.0
+                (rw w.place-at.ensures.value at w.in_ok-write_shared.ensures.written),
+            stays_between (g.D.Device.disk c.args.device.now).seen (g.D.Device.disk c.loop-number.device).seen
+                (g.D.Device.disk w.write_shared.new.device).seen
                 p n c.requires.plan lt writes.elsewhere c.loop-number.invariant.1,
             writes.size ∙ c.loop-number.invariant.2,
             same ∙ c.loop-number.invariant.3,
-            leaves_closed (home_place p n) (place_length p n) {old = g.D.Device.disk c.loop-number.device} {new = g.D.Device.disk w.write_shared.new.device}
+            leaves_closed (home_place p n) (place_length p n) {old = g.D.Device.disk c.loop-number.device}
+                {new = g.D.Device.disk w.write_shared.new.device}
                 (inr (places_within p n c.requires.plan lt).0) c.loop-number.invariant.4 writes,
             closed_on (home_place p n)
-                (place_length p n) {old = g.D.Device.disk c.args.device.now} {mid = g.D.Device.disk c.loop-number.device} {new = g.D.Device.disk
+                (place_length p n) {old = g.D.Device.disk c.args.device.now} {mid = g.D.Device.disk c.loop-number.device}
+                {new = g.D.Device.disk
                 w.write_shared.new.device}
                 c.loop-number.invariant.5 (inr (places_within p n c.requires.plan lt).0) c.loop-number.invariant.4 writes,
-            one_more_ends (g.D.Device.disk c.args.device.now).seen (g.D.Device.disk c.loop-number.device).seen (g.D.Device.disk w.write_shared.new.device).seen
+            one_more_ends (g.D.Device.disk c.args.device.now).seen (g.D.Device.disk c.loop-number.device).seen
+                (g.D.Device.disk w.write_shared.new.device).seen
                 p n c.requires.plan lt writes.elsewhere frames first c.loop-number.invariant.6
                 (rw w.place-at.ensures.value at w.in_ok-write_shared.ensures.written),
           )
@@ -44,7 +51,8 @@ loop-number-preserved g c =
             c.loop-number.invariant.3,
             c.loop-number.invariant.4,
             c.loop-number.invariant.5,
-            still_ends p n c.first.result (g.D.Device.disk c.loop-number.device).seen c.requires.plan lt before start.home c.loop-number.invariant.6,
+            still_ends p n c.first.result (g.D.Device.disk c.loop-number.device).seen c.requires.plan lt before start.home
+                c.loop-number.invariant.6,
           )
     ]
 

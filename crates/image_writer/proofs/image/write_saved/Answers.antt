@@ -8,12 +8,14 @@ returns-clause-crash g c =
     let size = c.open_gate.ensures.size ∙ c.write_parts.ensures.size in
     let fs = frames_in c.args.headers.now c.args.contents.now in
     durable_is c.open_gate.result (g.D.Device.disk c.open_gate.new.device).may_leave
-    (λ (i : Image). Encodes i (g.D.Device.disk c.open_gate.new.device).sectors (state_of c.args.superblock.now c.args.header c.args.entries.now fs))
+    (λ (i : Image). Encodes i (g.D.Device.disk c.open_gate.new.device).sectors
+    (state_of c.args.superblock.now c.args.header c.args.entries.now fs))
     (g.D.Device.disk c.open_gate.new.device).seen
     (on_ok_weaker c.open_gate.result
     (λ gate. denotes c.args.superblock.now c.args.header c.args.entries.now fs (g.D.Device.disk c.write_parts.new.device).seen
     (g.D.Device.disk c.open_gate.new.device).seen
-    c.in_ok-write_parts.ensures.written c.requires.first c.open_gate.ensures.elsewhere (ap is_open gate) (g.D.Device.disk c.open_gate.new.device).sectors
+    c.in_ok-write_parts.ensures.written c.requires.first c.open_gate.ensures.elsewhere (ap is_open gate)
+    (g.D.Device.disk c.open_gate.new.device).sectors
     c.requires.header c.requires.directory c.requires.count
     (omega (arith, size, c.requires.inside)) c.requires.keepable)
     c.open_gate.ensures.written)
@@ -37,8 +39,10 @@ returns-clause-elsewhere g c = grind (arith, nat_tests, five, elsewhere_on, wide
 pub returns-clause-any_moment : goal.returns-clause-any_moment
 returns-clause-any_moment g c =
     opening_run c.args.superblock.now c.args.header c.args.entries.now (frames_in c.args.headers.now c.args.contents.now)
-    {old = g.D.Device.disk c.args.device.now} {mid = g.D.Device.disk c.write_parts.new.device} {new = g.D.Device.disk c.open_gate.new.device}
-    c.in_ok-write_parts.ensures.written c.requires.first c.requires.header c.requires.directory c.requires.count c.requires.inside c.requires.keepable
+    {old = g.D.Device.disk c.args.device.now} {mid = g.D.Device.disk c.write_parts.new.device}
+    {new = g.D.Device.disk c.open_gate.new.device}
+    c.in_ok-write_parts.ensures.written c.requires.first c.requires.header c.requires.directory c.requires.count c.requires.inside
+    c.requires.keepable
     c.write_parts.ensures.any_moment c.open_gate.ensures.any_moment
 
 pub open_gate-requires-clause-inside : goal.open_gate-requires-clause-inside

@@ -6,7 +6,8 @@ pub returns-clause-slots : goal.returns-clause-slots
 returns-clause-slots g c =
     let change = rw c.requires.same at c.write_directory.ensures.writes.elsewhere in
     on_ok_weaker c.write_directory.result
-    (λ written. slots_stay c.args.home.now c.args.generation (directory_sector c.args.home.now c.args.generation) (directory_length (length c.args.entries.now))
+    (λ written. slots_stay c.args.home.now c.args.generation (directory_sector c.args.home.now c.args.generation)
+    (directory_length (length c.args.entries.now))
     c.args.entries.now (frames_in c.args.headers.now c.args.contents.now)
     (g.D.Device.disk c.write_slots.new.device).seen (g.D.Device.disk c.write_directory.new.device).seen c.requires.directory refl change
     c.in_ok-write_slots.ensures.slots)

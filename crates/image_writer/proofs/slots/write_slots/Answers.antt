@@ -44,7 +44,8 @@ loop-index-preserved g c =
           (place_length p e.object) {old = g.D.Device.disk c.loop-index.device} {new = g.D.Device.disk c.write_shared.new.device}
           (inr behind) c.loop-index.invariant.4 writes,
       closed_on (slot_sector p c.args.generation e.slot)
-          (place_length p e.object) {old = g.D.Device.disk c.args.device.now} {mid = g.D.Device.disk c.loop-index.device} {new = g.D.Device.disk
+          (place_length p e.object) {old = g.D.Device.disk c.args.device.now} {mid = g.D.Device.disk c.loop-index.device}
+          {new = g.D.Device.disk
           c.write_shared.new.device}
           c.loop-index.invariant.5 (inr behind) c.loop-index.invariant.4 writes,
     )

@@ -17,7 +17,8 @@ returns-clause-built g c table is =
     let new = g.W.Output.written c.write_to.new.writer in
     let told = built_told g.D.Device.disk table c.args.device.now c.build.new.device _
     (c.args.blueprint.now, is, c.sectors.ensures.within, c.sectors.ensures.value) (c.in-Ok.ensures.built table is) in
-    rw c.of_write.ensures (text_written old new (line_of (built_text c.sectors.result)) (BuildsImage g.D.Device.disk table c.args.device.now c.build.new.device
+    rw c.of_write.ensures (text_written old new (line_of (built_text c.sectors.result))
+    (BuildsImage g.D.Device.disk table c.args.device.now c.build.new.device
     old new) (λ a wrote. told (Wrote old new) wrote) (λ front. told (WroteFront old new) front) c.write_to.result
     (rw (c.word.ensures, c.numbered-line.ensures.text) at c.write_to.ensures))
 

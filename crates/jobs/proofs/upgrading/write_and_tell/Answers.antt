@@ -4,9 +4,11 @@ use Rattle.jobs.proofs.upgrading.write_and_tell.Goals as goal
 
 pub returns-in-Ok-clause-upgraded : goal.returns-in-Ok-clause-upgraded
 returns-in-Ok-clause-upgraded g c = λ old opened.
-    total_reported c.args.layout g.D.Device.disk g.E.Device.disk old c.args.new.now c.write_to.new.new (g.W.Output.written c.args.writer.now)
+    total_reported c.args.layout g.D.Device.disk g.E.Device.disk old c.args.new.now c.write_to.new.new
+    (g.W.Output.written c.args.writer.now)
     (g.W.Output.written c.tell_total.new.writer)
-    c.in-Ok.total (c.in-Ok.ensures.upgraded old opened) c.tell_total.result c.tell_total.ensures.reported c.tell_total.ensures.front c.tell_total.ensures.fault
+    c.in-Ok.total (c.in-Ok.ensures.upgraded old opened) c.tell_total.result c.tell_total.ensures.reported c.tell_total.ensures.front
+    c.tell_total.ensures.fault
 
 pub returns-in-Ok-clause-reads : goal.returns-in-Ok-clause-reads
 returns-in-Ok-clause-reads g c = λ old opened.

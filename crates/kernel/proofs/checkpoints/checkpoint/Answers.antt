@@ -8,7 +8,8 @@ use Rattle.kernel.proofs.checkpoints.checkpoint.Goals as goal
 pub returns-then-is_worn-clause-serves : goal.returns-then-is_worn-clause-serves
 returns-then-is_worn-clause-serves g c =
     refused _ _ _ g.met.D.Device.only_now g.met.S.ObjectStore.sound_holds c.args.live.now command.Checkpoint refusal.Worn
-    (λ h up. worn h (running g.D.Device.disk g.S.ObjectStore.view g.S.Frames.parts c.args.live.now) (c.is_worn.ensures.worn c.if-is_worn.true))
+    (λ h up. worn h (running g.D.Device.disk g.S.ObjectStore.view g.S.Frames.parts c.args.live.now)
+    (c.is_worn.ensures.worn c.if-is_worn.true))
 
 pub freeze-requires : goal.freeze-requires
 freeze-requires g c =
@@ -24,7 +25,8 @@ pub returns-clause-serves : goal.returns-clause-serves
 returns-clause-serves g c =
     let said = c.in_ok-size.ensures in
     begun _ _ _ g.met.D.Device.only_now g.met.S.ObjectStore.sound_holds c.args.live.now c.freeze.new.self c.in_ok-size.size
-    (c.is_worn.ensures.young c.if-is_worn.false) (none_there (g.S.ObjectStore.view c.args.live.now.store).snapshots.frozen said.answer.0) said.answer.1
+    (c.is_worn.ensures.young c.if-is_worn.false) (none_there (g.S.ObjectStore.view c.args.live.now.store).snapshots.frozen said.answer.0)
+    said.answer.1
     said.same said.size said.snapshots said.beneath said.usable
 
 pub returns-in_err-size : goal.returns-in_err-size
@@ -33,9 +35,11 @@ returns-in_err-size g c =
     let snapshots = (g.S.ObjectStore.view c.args.live.now.store).snapshots in
     let said = c.in_err-size.ensures in
     rw (p.1, p.2) (record {
-      serves = freeze_refused _ _ _ g.met.D.Device.only_now g.met.S.ObjectStore.sound_holds c.args.live.now c.freeze.new.self _ said.unchanged
+      serves = freeze_refused _ _ _ g.met.D.Device.only_now g.met.S.ObjectStore.sound_holds c.args.live.now c.freeze.new.self _
+          said.unchanged
           (c.is_worn.ensures.young c.if-is_worn.false) said.answer;
-      cause = freeze_cause _ _ (left_in whole snapshots) snapshots.saved.entries _ said.answer (ap (λ d. (g.D.Device.disk d).failures) said.beneath);
+      cause = freeze_cause _ _ (left_in whole snapshots) snapshots.saved.entries _ said.answer
+          (ap (λ d. (g.D.Device.disk d).failures) said.beneath);
       only_reads = freeze_looks (left_in whole snapshots) snapshots.saved.entries _ said.answer;
       no_fault = tt;
     })

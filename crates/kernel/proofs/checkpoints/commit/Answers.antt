@@ -13,7 +13,8 @@ returns-clause-serves g c =
     let there = some_left (g.S.ObjectStore.view c.args.live.now.store).snapshots.frozen 0 (sym said.answer.1) in
     commit_went _ _ _ g.met.D.Device.only_now g.met.S.ObjectStore.sound_holds c.args.live.now c.commit.new.self
     said.size there.0 there.1 there.2 (said.any_moment there.0 there.1 there.2)
-    (said.same (unfailed (failures c.args.live.now.store) (failures c.commit.new.self) said.answer.0)) c.in_ok-generation.generation said.answer.2
+    (said.same (unfailed (failures c.args.live.now.store) (failures c.commit.new.self) said.answer.0)) c.in_ok-generation.generation
+    said.answer.2
     (said.snapshots there.0 there.1) said.usable
 
 pub returns-in_err-generation : goal.returns-in_err-generation
@@ -26,6 +27,7 @@ returns-in_err-generation g c =
           said.size _ said.answer said.unchanged said.any_moment;
       cause = commit_cause _ _ (left_in whole snapshots) snapshots.saved.generation _ said.answer;
       only_reads = commit_looks (g.D.Device.disk (g.S.ObjectStore.view c.args.live.now.store).beneath)
-          (g.D.Device.disk (g.S.ObjectStore.view c.commit.new.self).beneath) (left_in whole snapshots) snapshots.saved.generation _ said.answer;
+          (g.D.Device.disk (g.S.ObjectStore.view c.commit.new.self).beneath) (left_in whole snapshots) snapshots.saved.generation _
+          said.answer;
       no_fault = tt;
     })

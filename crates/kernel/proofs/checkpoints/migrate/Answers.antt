@@ -9,7 +9,8 @@ returns-clause-serves g c =
     let failures = g.met.S.ObjectStore.failures_are in
     migrate_went _ _ _ g.met.D.Device.only_now g.met.S.ObjectStore.sound_holds c.args.live.now c.migrate.new.self
     said.size c.args.count said.any_moment
-    (said.same (unfailed (failures c.args.live.now.store) (failures c.migrate.new.self) (counted_ok said.cause))) c.in_ok-left.left said.left
+    (said.same (unfailed (failures c.args.live.now.store) (failures c.migrate.new.self) (counted_ok said.cause))) c.in_ok-left.left
+    said.left
     said.snapshots said.usable
 
 pub returns-in_err-left-clause-serves : goal.returns-in_err-left-clause-serves

@@ -7,7 +7,8 @@ pub returns-clause-serves : goal.returns-clause-serves
 returns-clause-serves g c =
     let said = c.in_ok-left.ensures in
     let failures = g.met.S.ObjectStore.failures_are in
-    let there = some_left_after (g.S.ObjectStore.view c.args.live.now.store).snapshots.frozen c.args.count c.in_ok-left.left said.answer.1 in
+    let there = some_left_after (g.S.ObjectStore.view c.args.live.now.store).snapshots.frozen c.args.count c.in_ok-left.left said.answer.1
+    in
     stabilize_went _ _ _ g.met.D.Device.only_now g.met.S.ObjectStore.sound_holds c.args.live.now c.stabilize.new.self
     said.size there.0 there.1 said.any_moment c.args.count
     (said.same (unfailed (failures c.args.live.now.store) (failures c.stabilize.new.self) said.answer.0)) c.in_ok-left.left there.2

@@ -10,7 +10,8 @@ returns-clause-serves g c =
     let said = c.invoke.ensures in
     let s = c.invoke.new.store in
     acted _ _ _ g.met.D.Device.only_now g.met.S.ObjectStore.sound_holds l s
-    (g.met.S.ObjectStore.continues l.store s said.continues) (g.met.S.ObjectStore.failures_are l.store) (g.met.S.ObjectStore.failures_are s) c.invoke.new.banks c.invoke.new.age
+    (g.met.S.ObjectStore.continues l.store s said.continues) (g.met.S.ObjectStore.failures_are l.store) (g.met.S.ObjectStore.failures_are s)
+    c.invoke.new.banks c.invoke.new.age
     (command.Invoke c.args.invocation.now) (answer_with c.invoke.result) said.later said.serves said.counted
 
 pub returns-clause-cause : goal.returns-clause-cause

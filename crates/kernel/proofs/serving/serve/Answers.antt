@@ -9,7 +9,8 @@ returns-in-Load-clause-serves g c =
     let failures = g.met.S.ObjectStore.failures_are in
     let said = c.load.ensures in
     rw c.in-Load.is (acted _ _ _ g.met.D.Device.only_now g.met.S.ObjectStore.sound_holds l c.load.new.store
-    (g.met.S.ObjectStore.continues l.store c.load.new.store said.snapshots.continues) (failures l.store) (failures c.load.new.store) l.banks l.age (command.Load c.in-Load.process c.in-Load.address)
+    (g.met.S.ObjectStore.continues l.store c.load.new.store said.snapshots.continues) (failures l.store) (failures c.load.new.store) l.banks
+    l.age (command.Load c.in-Load.process c.in-Load.address)
     (answer_of c.load.result) (omega arith) (said.serves l.age (up_sound _ _ _ l c.requires.up))
     (counted_still said.snapshots.same (up_counted _ _ _ l c.requires.up)))
 
@@ -19,7 +20,8 @@ returns-in-Store-clause-serves g c =
     let failures = g.met.S.ObjectStore.failures_are in
     let said = c.store.ensures in
     rw c.in-Store.is (acted _ _ _ g.met.D.Device.only_now g.met.S.ObjectStore.sound_holds l c.store.new.store
-    (g.met.S.ObjectStore.continues l.store c.store.new.store said.continues) (failures l.store) (failures c.store.new.store) l.banks l.age (command.Store c.in-Store.process c.in-Store.address
+    (g.met.S.ObjectStore.continues l.store c.store.new.store said.continues) (failures l.store) (failures c.store.new.store) l.banks l.age
+    (command.Store c.in-Store.process c.in-Store.address
     c.in-Store.value) (answer_of c.store.result) (omega arith) (said.serves l.age (up_sound _ _ _ l c.requires.up))
     (said.counted l.banks (up_counted _ _ _ l c.requires.up)))
 
@@ -29,8 +31,10 @@ returns-in-Show-clause-serves g c =
     let failures = g.met.S.ObjectStore.failures_are in
     let said = c.show.ensures in
     rw c.in-Show.is (acted _ _ _ g.met.D.Device.only_now g.met.S.ObjectStore.sound_holds l c.show.new.store
-    (g.met.S.ObjectStore.continues l.store c.show.new.store said.snapshots.continues) (failures l.store) (failures c.show.new.store) l.banks l.age (command.Show c.in-Show.number) (answer_of c.show.result)
-    (omega arith) (said.serves l.age (up_sound _ _ _ l c.requires.up)) (counted_still said.snapshots.same (up_counted _ _ _ l c.requires.up)))
+    (g.met.S.ObjectStore.continues l.store c.show.new.store said.snapshots.continues) (failures l.store) (failures c.show.new.store) l.banks
+    l.age (command.Show c.in-Show.number) (answer_of c.show.result)
+    (omega arith) (said.serves l.age (up_sound _ _ _ l c.requires.up)) (counted_still said.snapshots.same
+    (up_counted _ _ _ l c.requires.up)))
 
 pub returns-in-Evict-clause-serves : goal.returns-in-Evict-clause-serves
 returns-in-Evict-clause-serves g c = rw c.in-Evict.is c.evict.ensures.serves

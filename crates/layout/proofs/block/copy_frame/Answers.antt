@@ -23,5 +23,6 @@ pub returns-clause-copied : goal.returns-clause-copied
 returns-clause-copied c =
     let o : ℕ = c.args.shape.offset in
     let b : ℕ = c.args.shape.bytes in
-    copied_there c.args.shape c.args.from.now c.args.to.now c.copy_from_slice.new.self (o + b - o) c.requires.from (omega (arith, c.requires.to))
+    copied_there c.args.shape c.args.from.now c.args.to.now c.copy_from_slice.new.self (o + b - o) c.requires.from
+    (omega (arith, c.requires.to))
     c.copy_from_slice.ensures.after

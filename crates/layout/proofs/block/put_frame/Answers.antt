@@ -9,7 +9,8 @@ returns-clause-put c =
     let size : length c.encode_frame.new.into ≡ 512 * frame_length c.args.geometry c.args.number = search rules in
     let n : o + c.frame_size-size.result - o ≡ length c.encode_frame.new.into = omega (arith, size, c.frame_size-size.ensures) in
     let room = has_room c.args.geometry c.args.number c.args.shape c.requires.shape in
-    frame_put c.args.geometry c.args.number c.args.shape _ c.args.block.now c.encode_frame.new.into (o + c.frame_size-size.result - o) c.requires.shape
+    frame_put c.args.geometry c.args.number c.args.shape _ c.args.block.now c.encode_frame.new.into (o + c.frame_size-size.result - o)
+    c.requires.shape
     c.encode_frame.ensures size n (omega (arith, n, size, room, c.requires.block))
 
 pub returns-clause-behind : goal.returns-clause-behind
@@ -18,5 +19,6 @@ returns-clause-behind c =
     let size : length c.encode_frame.new.into ≡ 512 * frame_length c.args.geometry c.args.number = search rules in
     let n : o + c.frame_size-size.result - o ≡ length c.encode_frame.new.into = omega (arith, size, c.frame_size-size.ensures) in
     let room = has_room c.args.geometry c.args.number c.args.shape c.requires.shape in
-    blank_behind c.args.geometry c.args.number c.args.shape _ c.args.block.now c.encode_frame.new.into (o + c.frame_size-size.result - o) c.requires.shape
+    blank_behind c.args.geometry c.args.number c.args.shape _ c.args.block.now c.encode_frame.new.into (o + c.frame_size-size.result - o)
+    c.requires.shape
     c.encode_frame.ensures size n (omega (arith, n, size, room, c.requires.block))

@@ -8,7 +8,8 @@ returns-then-read-clause-found c = search (rules, three_read, as_numbers)
 
 pub returns-else-read-clause-refused : goal.returns-else-read-clause-refused
 returns-else-read-clause-refused c =
-    let read = three_read c.args.bytes.now c.number_at-head.result c.number_at-object.result c.number_at-count.result c.requires c.number_at-head.ensures
+    let read = three_read c.args.bytes.now c.number_at-head.result c.number_at-object.result c.number_at-count.result c.requires
+    c.number_at-head.ensures
     c.number_at-object.ensures c.number_at-count.ensures in (
       refl,
       none_spelt c.args.geometry c.args.age c.args.bytes.now c.number_at-head.result c.number_at-object.result c.number_at-count.result

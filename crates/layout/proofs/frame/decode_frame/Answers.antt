@@ -14,5 +14,9 @@ returns-then-number-geometry-clause-refused c =
     IfErr-weaker c.decode_node_frame.result
     (λ (e : BadImage). (e ≡ BadFrame) × ((f : Frame) → IsNodeFrame g age f → bytes ≡ node_frame_bytes f → ⊥))
     (λ (e : BadImage). (e ≡ BadFrame) × ((f : Frame) → IsFrameOf g age c.args.number bytes f → ⊥))
-    (λ e held. (held.0, λ f is. let node = node_of_frame g age c.args.number bytes f c.if-number-geometry.true is in held.1 f node.0 node.1))
+    (λ e held. (
+      held.0,
+      λ f is. let node = node_of_frame g age c.args.number bytes f c.if-number-geometry.true is in
+          held.1 f node.0 node.1,
+    ))
     c.decode_node_frame.ensures.refused

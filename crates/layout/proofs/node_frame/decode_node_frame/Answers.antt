@@ -12,7 +12,11 @@ pub returns-in_err-decode_slots-clause-refused : goal.returns-in_err-decode_slot
 returns-in_err-decode_slots-clause-refused c =
     let p = err_from_is_err_and c.from_residual.result c.from_residual.ensures.1 in
     let refused = c.in_err-decode_slots.ensures.refused in
-    rw (p.1) (p.2 ∙ refused.0, λ f is e. refused.1 (slots_of f.content) is.slots (node_parts c.args.geometry c.args.age f c.args.bytes.now is e).middle)
+    rw (p.1) (
+      p.2 ∙ refused.0,
+      λ f is e. refused.1 (slots_of f.content) is.slots
+          (node_parts c.args.geometry c.args.age f c.args.bytes.now is e).middle,
+    )
 
 pub returns-then-is_body-clause-found : goal.returns-then-is_body-clause-found
 returns-then-is_body-clause-found c =
@@ -22,12 +26,15 @@ returns-then-is_body-clause-found c =
     let words : List ℕ = c.args.scratch.now.words in
     let read = c.in_ok-decode_slots.ensures.found in
     let body : Body = c.body_in-body.result in
-    let is = subst (λ (s : List Cap). IsBody role header.owner s (content_of body s [])) c.as_slice-slots.ensures.value (c.is_body.ensures.0 c.if-is_body.true)
+    let is = subst (λ (s : List Cap). IsBody role header.owner s (content_of body s [])) c.as_slice-slots.ensures.value
+    (c.is_body.ensures.0 c.if-is_body.true)
     in
     node_found c.args.geometry c.args.age role header slots (content_of body slots words) c.args.bytes.now
-    (omega arith, (omega arith, (omega arith, (omega arith, tt)))) c.decode_front-role.ensures.role (c.has_counts-has_counts.ensures.0 c.if-has_counts.true)
+    (omega arith, (omega arith, (omega arith, (omega arith, tt)))) c.decode_front-role.ensures.role
+    (c.has_counts-has_counts.ensures.0 c.if-has_counts.true)
     read.0 (any_words role header.owner body slots words is)
-    c.decode_front-role.ensures.bytes read.1 (c.is_blank_from-is_blank.ensures.0 c.if-is_blank.true ∙ ap (λ (n : ℕ). zeros (n - 800)) c.requires)
+    c.decode_front-role.ensures.bytes read.1 (c.is_blank_from-is_blank.ensures.0 c.if-is_blank.true
+    ∙ ap (λ (n : ℕ). zeros (n - 800)) c.requires)
 
 pub returns-else-has_counts-clause-refused : goal.returns-else-has_counts-clause-refused
 returns-else-has_counts-clause-refused c =
@@ -38,11 +45,13 @@ returns-else-has_counts-clause-refused c =
     let fits : AllFit (front_list role header) = (omega arith, (omega arith, (omega arith, (omega arith, tt)))) in (
       refl,
       λ f is e.
-          let reported = node_reported c.args.geometry c.args.age role header slots f c.args.bytes.now _ fits c.decode_front-role.ensures.role read.0
+          let reported = node_reported c.args.geometry c.args.age role header slots f c.args.bytes.now _ fits
+          c.decode_front-role.ensures.role read.0
           c.decode_front-role.ensures.bytes read.1 is e in
           elim c.else-has_counts.branch [
             | else-has_counts-via-then-has_counts+then-is_blank+else-is_body w ↦
-                let body : c.body_in-body.result ≡ body_in role slots = c.body_in-body.ensures ∙ ap (body_in role) c.as_slice-slots.ensures.value in
+                let body : c.body_in-body.result ≡ body_in role slots = c.body_in-body.ensures
+                ∙ ap (body_in role) c.as_slice-slots.ensures.value in
                 let is_body = subst (λ (b : Body). IsBody role header.owner slots (content_of b slots [])) (sym body)
                 (body_reported f role header slots c.args.age reported is.follows is.front) in
                 false≢true (sym w.if-is_body.false ∙

@@ -15,15 +15,18 @@ returns-in-Root c =
 pub returns-in-Bank : goal.returns-in-Bank
 returns-in-Bank c =
     node_written _ c.encode_front.new.into c.put_slots-in-Bank.new.into (c.number_cap.result ∷ []) 31 c.encode_front.ensures.before
-    (ap slots_behind c.in-Bank.is ∙ ap (λ (x : Cap). x ∷ replicate 31 void_held) (sym c.number_cap.ensures)) refl c.put_slots-in-Bank.ensures
+    (ap slots_behind c.in-Bank.is ∙ ap (λ (x : Cap). x ∷ replicate 31 void_held) (sym c.number_cap.ensures)) refl
+    c.put_slots-in-Bank.ensures
 
 pub returns-in-Free : goal.returns-in-Free
 returns-in-Free c =
-    node_written _ c.encode_front.new.into c.put_slots.new.into [] 32 c.encode_front.ensures.before (ap slots_behind c.in-Free.is) refl c.put_slots.ensures
+    node_written _ c.encode_front.new.into c.put_slots.new.into [] 32 c.encode_front.ensures.before (ap slots_behind c.in-Free.is) refl
+    c.put_slots.ensures
 
 pub returns-in-Page : goal.returns-in-Page
 returns-in-Page c =
-    node_written _ c.encode_front.new.into c.put_slots-in-Page.new.into [] 32 c.encode_front.ensures.before (ap slots_behind c.in-Page.is) refl
+    node_written _ c.encode_front.new.into c.put_slots-in-Page.new.into [] 32 c.encode_front.ensures.before (ap slots_behind c.in-Page.is)
+    refl
     c.put_slots-in-Page.ensures
 
 pub returns-in-Node : goal.returns-in-Node

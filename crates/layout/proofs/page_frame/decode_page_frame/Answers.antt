@@ -20,7 +20,8 @@ returns-then-role-eq1-clause-found c =
     page_found c.args.age role header c.args.scratch.now.slots words body.Page c.args.bytes.now
     (omega arith, (omega arith, (omega arith, (omega arith, tt)))) c.decode_front-role.ensures.role (ap page_body_in (sym is))
     (c.has_counts.ensures.0 counted) c.decode_words.ensures.words (inl is)
-    c.decode_front-role.ensures.bytes (c.is_blank_between.ensures.0 blank) (sym (take_rest c.args.bytes.now 512) ∙ c.decode_words.ensures.bytes)
+    c.decode_front-role.ensures.bytes (c.is_blank_between.ensures.0 blank) (sym (take_rest c.args.bytes.now 512)
+    ∙ c.decode_words.ensures.bytes)
 
 pub returns-then-is_free_page-clause-found : goal.returns-then-is_free_page-clause-found
 returns-then-is_free_page-clause-found c =
@@ -41,7 +42,8 @@ returns-then-not-has_counts-clause-refused c =
     let fits : AllFit (front_list role header) = (omega arith, (omega arith, (omega arith, (omega arith, tt)))) in (
       refl,
       λ f is e.
-          let spelling = page_spelling c.args.age role header f c.args.bytes.now (drop 32 c.args.bytes.now) fits c.decode_front-role.ensures.role
+          let spelling = page_spelling c.args.age role header f c.args.bytes.now (drop 32 c.args.bytes.now) fits
+          c.decode_front-role.ensures.role
           c.decode_front-role.ensures.bytes is e in
           elim c.then-not-has_counts.branch [
             | then-not-has_counts-via-then-not-has_counts w ↦
@@ -60,7 +62,8 @@ returns-clause-refused c =
     let fits : AllFit (front_list role header) = (omega arith, (omega arith, (omega arith, (omega arith, tt)))) in (
       refl,
       λ f is e.
-          let spelling = page_spelling c.args.age role header f c.args.bytes.now (drop 32 c.args.bytes.now) fits c.decode_front-role.ensures.role
+          let spelling = page_spelling c.args.age role header f c.args.bytes.now (drop 32 c.args.bytes.now) fits
+          c.decode_front-role.ensures.role
           c.decode_front-role.ensures.bytes is e in
           elim spelling.kind [
             | inl one ↦ absurd (omega (arith, one, c.if-role-eq1.false))

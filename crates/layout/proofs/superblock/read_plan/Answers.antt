@@ -13,9 +13,12 @@ returns-then-used-gt-MAX_RANGES-clause-none c = λ p is e.
     let second : ℕ = c.number_at-second.result in
     let eight : length all ≡ 8 = omega arith in
     let version = version_from c.args.bytes.now second c.args.version c.number_at-second.ensures (omega arith) c.requires.version in
-    let read = eight_read _ magic second _ _ _ _ _ _ all (magic_read c.args.bytes.now c.requires.mark) c.number_at-second.ensures c.number_at.ensures
-    c.number_at-2.ensures c.number_at-3.ensures c.number_at-half_0.ensures c.number_at-half_1.ensures c.number_at-total.ensures c.read_ranges.ensures.bytes in
-    let reported = plan_reported p c.args.version _ magic second g all _ _ _ (omega arith) c.read_ranges.ensures.fits eight read version is e in
+    let read = eight_read _ magic second _ _ _ _ _ _ all (magic_read c.args.bytes.now c.requires.mark) c.number_at-second.ensures
+    c.number_at.ensures
+    c.number_at-2.ensures c.number_at-3.ensures c.number_at-half_0.ensures c.number_at-half_1.ensures c.number_at-total.ensures
+    c.read_ranges.ensures.bytes in
+    let reported = plan_reported p c.args.version _ magic second g all _ _ _ (omega arith) c.read_ranges.ensures.fits eight read version is
+    e in
     elim c.then-used-gt-MAX_RANGES.branch [
       | then-used-gt-MAX_RANGES-via-then-used-gt-MAX_RANGES w ↦ omega (arith, reported.used_is, reported.few)
       | then-used-gt-MAX_RANGES-via-else-used-gt-MAX_RANGES+then-not-are_unused w ↦
@@ -31,12 +34,15 @@ returns-clause-found c =
     let second : ℕ = c.number_at-second.result in
     let eight : length all ≡ 8 = omega arith in
     let version = version_from c.args.bytes.now second c.args.version c.number_at-second.ensures (omega arith) c.requires.version in
-    let read = eight_read _ magic second _ _ _ _ _ _ all (magic_read c.args.bytes.now c.requires.mark) c.number_at-second.ensures c.number_at.ensures
-    c.number_at-2.ensures c.number_at-3.ensures c.number_at-half_0.ensures c.number_at-half_1.ensures c.number_at-total.ensures c.read_ranges.ensures.bytes in
+    let read = eight_read _ magic second _ _ _ _ _ _ all (magic_read c.args.bytes.now c.requires.mark) c.number_at-second.ensures
+    c.number_at.ensures
+    c.number_at-2.ensures c.number_at-3.ensures c.number_at-half_0.ensures c.number_at-half_1.ensures c.number_at-total.ensures
+    c.read_ranges.ensures.bytes in
     let used : ℕ = second / 4294967296 in
     let others : All (λ r. r ≡ unused) (drop used all) = grind (arith, nat_tests, last_ranges) in
     plan_read c.args.bytes.now _ c.new.result
-    (plan_found c.args.version _ second g all _ _ _ used read version refl (omega arith) eight others c.requires.mark.blank) c.new.ensures.some
+    (plan_found c.args.version _ second g all _ _ _ used read version refl (omega arith) eight others c.requires.mark.blank)
+    c.new.ensures.some
 
 pub returns-clause-none : goal.returns-clause-none
 returns-clause-none c =
@@ -45,8 +51,11 @@ returns-clause-none c =
     let second : ℕ = c.number_at-second.result in
     let eight : length all ≡ 8 = omega arith in
     let version = version_from c.args.bytes.now second c.args.version c.number_at-second.ensures (omega arith) c.requires.version in
-    let read = eight_read _ magic second _ _ _ _ _ _ all (magic_read c.args.bytes.now c.requires.mark) c.number_at-second.ensures c.number_at.ensures
-    c.number_at-2.ensures c.number_at-3.ensures c.number_at-half_0.ensures c.number_at-half_1.ensures c.number_at-total.ensures c.read_ranges.ensures.bytes in
+    let read = eight_read _ magic second _ _ _ _ _ _ all (magic_read c.args.bytes.now c.requires.mark) c.number_at-second.ensures
+    c.number_at.ensures
+    c.number_at-2.ensures c.number_at-3.ensures c.number_at-half_0.ensures c.number_at-half_1.ensures c.number_at-total.ensures
+    c.read_ranges.ensures.bytes in
     none_read_of c.args.bytes.now _ c.new.result
     (λ p is e. plan_same p c.args.version second g all _ _ _
-    (plan_reported p c.args.version _ magic second g all _ _ _ (omega arith) c.read_ranges.ensures.fits eight read version is e)) c.new.ensures.none
+    (plan_reported p c.args.version _ magic second g all _ _ _ (omega arith) c.read_ranges.ensures.fits eight read version is e))
+    c.new.ensures.none

@@ -9,21 +9,26 @@ pub returns-then-magic-ne-SUPERBLOCK_MAGIC-clause-none : goal.returns-then-magic
 returns-then-magic-ne-SUPERBLOCK_MAGIC-clause-none c = λ mark.
     elim c.then-magic-ne-SUPERBLOCK_MAGIC.branch [
       | then-magic-ne-SUPERBLOCK_MAGIC-via-then-magic-ne-SUPERBLOCK_MAGIC w ↦
-          w.if-magic-ne-SUPERBLOCK_MAGIC.true (magic_from c.args.bytes.now c.number_at-magic.result c.number_at-magic.ensures (omega arith) mark)
+          w.if-magic-ne-SUPERBLOCK_MAGIC.true (magic_from c.args.bytes.now c.number_at-magic.result c.number_at-magic.ensures (omega arith)
+          mark)
       | then-magic-ne-SUPERBLOCK_MAGIC-via-else-magic-ne-SUPERBLOCK_MAGIC+then-not-is_blank_from w ↦
-          false≢true (sym w.if-not-is_blank_from.true ∙ w.is_blank_from.ensures.1 (mark.blank ∙ ap (λ (n : ℕ). zeros (n - 256)) (sym c.requires)))
+          false≢true (sym w.if-not-is_blank_from.true ∙ w.is_blank_from.ensures.1
+          (mark.blank ∙ ap (λ (n : ℕ). zeros (n - 256)) (sym c.requires)))
     ]
 
 pub returns-clause-mark : goal.returns-clause-mark
 returns-clause-mark c =
-    let blank : drop 256 c.args.bytes.now ≡ zeros 256 = c.is_blank_from.ensures.0 c.if-not-is_blank_from.false ∙ ap (λ (n : ℕ). zeros (n - 256)) c.requires in
-    marked c.args.bytes.now c.number_at-magic.result c.number_at-second.result c.number_at-magic.ensures c.number_at-second.ensures (omega arith)
+    let blank : drop 256 c.args.bytes.now ≡ zeros 256 = c.is_blank_from.ensures.0 c.if-not-is_blank_from.false
+    ∙ ap (λ (n : ℕ). zeros (n - 256)) c.requires in
+    marked c.args.bytes.now c.number_at-magic.result c.number_at-second.result c.number_at-magic.ensures c.number_at-second.ensures
+    (omega arith)
     c.with_number.result c.if-magic-ne-SUPERBLOCK_MAGIC.false blank
     c.with_number.ensures.some
 
 pub returns-clause-version : goal.returns-clause-version
 returns-clause-version c =
-    versions_reported c.args.bytes.now c.number_at-magic.result c.number_at-second.result c.number_at-magic.ensures c.number_at-second.ensures (omega arith)
+    versions_reported c.args.bytes.now c.number_at-magic.result c.number_at-second.result c.number_at-magic.ensures
+    c.number_at-second.ensures (omega arith)
     c.with_number.result c.with_number.ensures.some
 
 pub returns-clause-none : goal.returns-clause-none

@@ -6,4 +6,5 @@ pub returns-clause-yes : goal.returns-clause-yes
 returns-clause-yes c tested =
     let there = rw c.new-home.ensures at c.place.ensures.value in
     let before = rw c.new-home.ensures at c.place-2.ensures.value in
-    first_of (rw c.new-home.ensures at c.place.ensures.plan) c.requires.directory c.requires.within (λ some same. not_same tested (there ∙ same ∙ sym before))
+    first_of (rw c.new-home.ensures at c.place.ensures.plan) c.requires.directory c.requires.within
+    (λ some same. not_same tested (there ∙ same ∙ sym before))

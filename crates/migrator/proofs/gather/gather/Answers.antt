@@ -38,11 +38,13 @@ loop-k-preserved g c =
     let old = c.loop-k.block in
     let new = c.gather_one.new.block in
     let same : (g.D.Device.disk c.gather_one.new.device).failures ≡ (g.D.Device.disk c.loop-k.device).failures = search rules in
-    let here = subst (λ (i : Image). shape_bytes (shape_of p (first + k)) new ≡ frame_in i p c.args.generation c.args.directory.now (first + k))
+    let here = subst (λ (i : Image). shape_bytes (shape_of p (first + k)) new
+    ≡ frame_in i p c.args.generation c.args.directory.now (first + k))
     (agrees_is (g.D.Device.disk c.loop-k.device).seen image c.loop-k.invariant.0.seen) c.in_ok-gather_one.ensures.gathered in (
       reads_more c.loop-k.invariant.0 c.gather_one.ensures.reads,
       same ∙ c.loop-k.invariant.1,
-      one_frame_more first k old new plan have c.loop-k-test.true (frame_in image p c.args.generation c.args.directory.now) c.loop-k.invariant.2 here
+      one_frame_more first k old new plan have c.loop-k-test.true (frame_in image p c.args.generation c.args.directory.now)
+          c.loop-k.invariant.2 here
           (λ s le. c.gather_one.ensures.others s (inr le)),
       ended_more first k old new plan have c.loop-k-test.true c.loop-k.invariant.3
           (λ blank. c.gather_one.ensures.behind ∙ blank ∙ ap (λ (n : ℕ). zeros (n - end)) (sym c.gather_one.ensures.size)),
@@ -51,12 +53,15 @@ loop-k-preserved g c =
 
 pub returns-clause-gathered : goal.returns-clause-gathered
 returns-clause-gathered g c =
-    all_in c.loop-k.block (rw (c.new-home.ensures) at c.first-first.ensures.first) (rw (c.new-home.ensures) at c.sharers-k-end.ensures.all) c.loop-k.k
-    (omega (arith, c.loop-k-test.false)) (frame_in (g.D.Device.disk c.args.device.now).seen c.args.plan.now c.args.generation c.args.directory.now)
+    all_in c.loop-k.block (rw (c.new-home.ensures) at c.first-first.ensures.first) (rw (c.new-home.ensures) at c.sharers-k-end.ensures.all)
+    c.loop-k.k
+    (omega (arith, c.loop-k-test.false)) (frame_in (g.D.Device.disk c.args.device.now).seen c.args.plan.now c.args.generation
+    c.args.directory.now)
     c.loop-k.invariant.2
 
 pub returns-clause-zeros : goal.returns-clause-zeros
 returns-clause-zeros g c =
     let most : c.loop-k.k ≤ c.sharers-k-end.result = search rules in
-    all_ended c.loop-k.block (rw (c.new-home.ensures) at c.first-first.ensures.first) (rw (c.new-home.ensures) at c.sharers-k-end.ensures.all) c.loop-k.k
+    all_ended c.loop-k.block (rw (c.new-home.ensures) at c.first-first.ensures.first)
+    (rw (c.new-home.ensures) at c.sharers-k-end.ensures.all) c.loop-k.k
     (omega (arith, c.loop-k-test.false)) most c.loop-k.invariant.3

@@ -7,7 +7,8 @@ use Rattle.migrator.proofs.gather.gather_one.Goals.{in-Some, in-None}
 
 pub slot_sector-at-requires : goal.slot_sector-at-requires
 slot_sector-at-requires g c = record {
-  slot = rw c.new-log.ensures (frame_slot_fits c.args.plan.now c.args.number c.requires.directory (sym c.find_frame_slot.ensures ∙ c.in-Some.is));
+  slot = rw c.new-log.ensures (frame_slot_fits c.args.plan.now c.args.number c.requires.directory
+      (sym c.find_frame_slot.ensures ∙ c.in-Some.is));
 }
 
 pub returns-clause-gathered : goal.returns-clause-gathered
@@ -16,11 +17,14 @@ returns-clause-gathered g c =
     let new = (g.D.Device.disk c.copy_place.new.device).seen in
     let seen = agrees_is new old c.copy_place.ensures.reads.seen in
     elim c.match-find_frame_slot.branch [
-      | in-Some w ↦ one_gathered c.copy_place.result old new c.args.plan.now c.args.generation c.args.directory.now c.args.number c.copy_place.new.block
+      | in-Some w ↦ one_gathered c.copy_place.result old new c.args.plan.now c.args.generation c.args.directory.now c.args.number
+          c.copy_place.new.block
           c.shape.ensures.value seen (sym w.in-Some.is ∙ c.find_frame_slot.ensures)
           (w.at-is ∙ w.slot_sector-at.ensures.value ∙ ap (λ (p : Plan). slot_sector p c.args.generation w.in-Some.slot) c.new-log.ensures)
           c.copy_place.ensures.copied
-      | in-None w ↦ one_gathered c.copy_place.result old new c.args.plan.now c.args.generation c.args.directory.now c.args.number c.copy_place.new.block
+      | in-None w ↦ one_gathered c.copy_place.result old new c.args.plan.now c.args.generation c.args.directory.now c.args.number
+          c.copy_place.new.block
           c.shape.ensures.value seen (sym w.in-None.is ∙ c.find_frame_slot.ensures)
-          (w.at-is ∙ w.place-at.ensures.value ∙ ap (λ (p : Plan). home_place p c.args.number) c.new-home.ensures) c.copy_place.ensures.copied
+          (w.at-is ∙ w.place-at.ensures.value ∙ ap (λ (p : Plan). home_place p c.args.number) c.new-home.ensures)
+          c.copy_place.ensures.copied
     ]

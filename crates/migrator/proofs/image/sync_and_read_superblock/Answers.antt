@@ -8,4 +8,5 @@ returns-clause-refused g c = rw (
       (g.D.Device.disk c.args.device.now).seen c.sync.ensures.seen,
   ← c.sync.ensures.size,
 )
-    (refused_plan c.read_superblock.result (g.D.Device.disk c.sync.new.self).seen (g.D.Device.disk c.sync.new.self).sectors c.read_superblock.ensures.refused)
+    (refused_plan c.read_superblock.result (g.D.Device.disk c.sync.new.self).seen (g.D.Device.disk c.sync.new.self).sectors
+    c.read_superblock.ensures.refused)

@@ -6,19 +6,23 @@ use Rattle.migrator.proofs.image.take_frame.Goals as goal
 pub returns-in-Ok-clause-spelt : goal.returns-in-Ok-clause-spelt
 returns-in-Ok-clause-spelt g c =
     let found = subst (λ (i : Image). IsFrameOf c.args.plan.now.geometry c.args.header.age c.args.number
-    (frame_in i c.args.plan.now c.args.header.generation c.args.directory.now c.args.number) (frame_of c.in_ok-read.read c.read_saved.new.scratch))
+    (frame_in i c.args.plan.now c.args.header.generation c.args.directory.now c.args.number)
+    (frame_of c.in_ok-read.read c.read_saved.new.scratch))
     (agrees_is (g.D.Device.disk c.read_saved.new.device).seen (g.D.Device.disk c.args.device.now).seen c.read_saved.ensures.reads.seen)
     c.in_ok-read.ensures.found in
-    (spelt_read (g.D.Device.disk c.args.device.now).seen c.args.plan.now c.args.header.age c.args.header.generation c.args.directory.now c.args.number
+    (spelt_read (g.D.Device.disk c.args.device.now).seen c.args.plan.now c.args.header.age c.args.header.generation c.args.directory.now
+    c.args.number
     (frame_of c.in_ok-read.read c.read_saved.new.scratch) found).0
 
 pub returns-in-Ok-clause-took : goal.returns-in-Ok-clause-took
 returns-in-Ok-clause-took g c = λ fs took.
     let found = subst (λ (i : Image). IsFrameOf c.args.plan.now.geometry c.args.header.age c.args.number
-    (frame_in i c.args.plan.now c.args.header.generation c.args.directory.now c.args.number) (frame_of c.in_ok-read.read c.read_saved.new.scratch))
+    (frame_in i c.args.plan.now c.args.header.generation c.args.directory.now c.args.number)
+    (frame_of c.in_ok-read.read c.read_saved.new.scratch))
     (agrees_is (g.D.Device.disk c.read_saved.new.device).seen (g.D.Device.disk c.args.device.now).seen c.read_saved.ensures.reads.seen)
     c.in_ok-read.ensures.found in
-    let same = (spelt_read (g.D.Device.disk c.args.device.now).seen c.args.plan.now c.args.header.age c.args.header.generation c.args.directory.now
+    let same = (spelt_read (g.D.Device.disk c.args.device.now).seen c.args.plan.now c.args.header.age c.args.header.generation
+    c.args.directory.now
     c.args.number (frame_of c.in_ok-read.read c.read_saved.new.scratch) found).1 in
     subst (λ (f : Frame). g.I.Intake.Took c.take.new.self (fs ++ f ∷ [])) (sym same) (c.in-Ok.ensures.took fs took)
 

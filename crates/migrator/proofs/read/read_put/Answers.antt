@@ -15,4 +15,5 @@ failure-requires g c =
 pub returns-in-Err-clause-cause : goal.returns-in-Err-clause-cause
 returns-in-Err-clause-cause g c =
     failure_counts (only_failed (λ i. slot_bytes i c.args.plan.now c.args.generation c.args.slot c.args.number)
-    c.read_slot.ensures.reads.seen c.requires.spelt c.in-Err.fault (rw c.new-log.ensures at c.in-Err.ensures.refused)) c.in-Err.ensures.cause
+    c.read_slot.ensures.reads.seen c.requires.spelt c.in-Err.fault (rw c.new-log.ensures at c.in-Err.ensures.refused))
+    c.in-Err.ensures.cause

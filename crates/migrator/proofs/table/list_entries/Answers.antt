@@ -15,4 +15,5 @@ pub returns-clause-entries : goal.returns-clause-entries
 returns-clause-entries c =
     let l = c.loop in
     let done : l.counter ≡ c.args.taken = search rules in
-    entries_done c.args.places.now (entries_from l.from (drop l.from c.args.places.now)) l.invariant.entries (l.invariant.count ∙ done ∙ c.requires.taken)
+    entries_done c.args.places.now (entries_from l.from (drop l.from c.args.places.now)) l.invariant.entries
+    (l.invariant.count ∙ done ∙ c.requires.taken)

@@ -19,7 +19,8 @@ loop-i-preserved c =
       | else-not-contains w ↦
           elim w.else-not-contains.branch [
             | else-not-contains-via-then-not-contains+else-not-contains-2 w' ↦
-                let step = touched_count_listed t ns i c.loop-i-test.true known (sym w'.contains-then-not-contains.ensures.value ∙ w'.if-not-contains-2.false)
+                let step = touched_count_listed t ns i c.loop-i-test.true known
+                (sym w'.contains-then-not-contains.ensures.value ∙ w'.if-not-contains-2.false)
                 in
                 record { counted = omega (arith, step); few = omega arith }
             | else-not-contains-via-else-not-contains w' ↦

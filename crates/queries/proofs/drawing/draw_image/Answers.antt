@@ -22,5 +22,9 @@ returns-in-Ok g c =
 
 pub returns-in-Err : goal.returns-in-Err
 returns-in-Err g c =
-    let r = c.unopened.ensures in
-    (Err (fault.Open c.in-Err.refused.fault), (r.status, r.fault), r.reported, rw r.device (c.in-Err.ensures.refused, refl {a = g.W.Output.written c.args.writer.now}))
+    let r = c.unopened.ensures in (
+      Err (fault.Open c.in-Err.refused.fault),
+      (r.status, r.fault),
+      r.reported,
+      rw r.device (c.in-Err.ensures.refused, refl {a = g.W.Output.written c.args.writer.now}),
+    )

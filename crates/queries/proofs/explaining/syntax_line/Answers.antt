@@ -10,5 +10,12 @@ returns c =
     let here : c.position_after-line.result ≡ position_from 1 1 (take at c.args.text.now) =
     c.position_after-line.ensures ∙ ap (λ (bytes : List ℕ). position_from 1 1 (take at bytes)) c.as_bytes.ensures.value in
     IfOk-weaker c.format.result _ (λ (line : String Global). IsSyntaxLine c.args.text.now (string_bytes line))
-    (λ s is. (at, why, within, c.why_not_toml-why.ensures, is ∙ ap (λ (p : ℕ × ℕ). position_text p (why ++ codes " (bad description)")) here))
+    (λ s is. (
+      at,
+      why,
+      within,
+      c.why_not_toml-why.ensures,
+      is ∙ ap (λ (p : ℕ × ℕ). position_text p (why ++ codes " (bad description)"))
+          here,
+    ))
     c.format.ensures.ok

@@ -13,11 +13,17 @@ returns-in-Ok g c =
       c.tell_reach-outcome.result,
       (r.status, r.fault),
       r.reported,
-      rw r.device (reaches_image read.1 _ read.2 c.args.format c.args.named.now c.args.trusted.now c.args.question (g.W.Output.written c.args.writer.now)
-          (g.W.Output.written c.tell_reach-outcome.new.writer) c.tell_reach-outcome.result (rw c.deref.ensures.value at c.tell_reach-outcome.ensures)),
+      rw r.device (reaches_image read.1 _ read.2 c.args.format c.args.named.now c.args.trusted.now c.args.question
+          (g.W.Output.written c.args.writer.now)
+          (g.W.Output.written c.tell_reach-outcome.new.writer) c.tell_reach-outcome.result
+          (rw c.deref.ensures.value at c.tell_reach-outcome.ensures)),
     )
 
 pub returns-in-Err : goal.returns-in-Err
 returns-in-Err g c =
-    let r = c.unopened.ensures in
-    (Err (fault.Open c.in-Err.refused.fault), (r.status, r.fault), r.reported, rw r.device (c.in-Err.ensures.refused, refl {a = g.W.Output.written c.args.writer.now}))
+    let r = c.unopened.ensures in (
+      Err (fault.Open c.in-Err.refused.fault),
+      (r.status, r.fault),
+      r.reported,
+      rw r.device (c.in-Err.ensures.refused, refl {a = g.W.Output.written c.args.writer.now}),
+    )

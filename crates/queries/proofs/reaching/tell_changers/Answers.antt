@@ -14,5 +14,6 @@ returns-in-Ok g c =
     let text = changers_text c.args.format c.args.objects.now c.in-Ok.inside in
     let is : IsChangersText c.args.format c.args.objects.now c.args.purpose c.args.processes.now c.args.trusted.now c.args.object text =
     record { there = c.requires.there; marks = c.in-Ok.inside; changers = c.in-Ok.ensures.changers; spelled = refl } in
-    rw c.of_write.ensures (text_written old new text (TellsOf c.args.format c.args.objects.now c.args.processes.now c.args.trusted.now (Changers c.args.purpose c.args.object) old new)
+    rw c.of_write.ensures (text_written old new text (TellsOf c.args.format c.args.objects.now c.args.processes.now c.args.trusted.now
+    (Changers c.args.purpose c.args.object) old new)
     (λ a wrote. (text, is, wrote)) (λ front. (text, is, front)) c.print_changers.result c.print_changers.ensures)

@@ -8,5 +8,6 @@ returns g c =
     let os = c.args.objects.now in
     let named = c.args.named.now in
     let are = named_starts os named (sym c.is_empty.ensures ∙ c.if-is_empty.false) c.requires.named in
-    tells_of_starts c.args.format os named named c.args.trusted.now c.args.question (g.W.Output.written c.args.writer.now) (g.W.Output.written c.tell_of.new.writer) are
+    tells_of_starts c.args.format os named named c.args.trusted.now c.args.question (g.W.Output.written c.args.writer.now)
+    (g.W.Output.written c.tell_of.new.writer) are
     c.tell_of.result c.tell_of.ensures

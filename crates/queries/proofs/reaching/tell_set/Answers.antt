@@ -14,5 +14,6 @@ returns-in-Ok g c =
     let text = reach_text c.args.format c.args.objects.now c.in-Ok.inside in
     let is : IsSetText c.args.format c.args.objects.now c.args.purpose c.args.processes.now c.args.trusted.now text =
     record { marks = c.in-Ok.inside; reach = c.in-Ok.ensures.reach; bounds = c.in-Ok.ensures.bounds; spelled = refl } in
-    rw c.of_write.ensures (text_written old new text (TellsOf c.args.format c.args.objects.now c.args.processes.now c.args.trusted.now (Set c.args.purpose) old new)
+    rw c.of_write.ensures (text_written old new text (TellsOf c.args.format c.args.objects.now c.args.processes.now c.args.trusted.now
+    (Set c.args.purpose) old new)
     (λ a wrote. (text, is, wrote)) (λ front. (text, is, front)) c.print_reach.result c.print_reach.ensures)

@@ -17,5 +17,6 @@ returns-in-Ok-read-clause-read g c = (
 )
 
 pub returns-clause-refused : goal.returns-clause-refused
-returns-clause-refused g c = no_memory g.D.Device.disk _ _ (reads_saved g.met.D.Device.seen_left g.S.WholeStore.durable g.met.S.WholeStore.is_over
+returns-clause-refused g c = no_memory g.D.Device.disk _ _ (reads_saved g.met.D.Device.seen_left g.S.WholeStore.durable
+    g.met.S.WholeStore.is_over
     c.in-Ok.ensures.opened c.read-read.new.store _ c.read-read.ensures.same c.into_device-device.ensures)

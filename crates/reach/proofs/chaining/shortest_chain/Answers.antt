@@ -7,12 +7,14 @@ use Rattle.reach.proofs.chaining.shortest_chain.Goals as goal
 pub returns-then-not-contains-clause-shortest : goal.returns-then-not-contains-clause-shortest
 returns-then-not-contains-clause-shortest c =
     let searched = c.in_ok-levels.ensures in
-    no_chain c.args.objects.now (links c.args.purpose (is_member c.args.trusted.now)) c.args.starts.now searched.0 c.in_ok-levels.levels searched.1 searched.2 c.args.object (sym c.if-not-contains.ensures)
+    no_chain c.args.objects.now (links c.args.purpose (is_member c.args.trusted.now)) c.args.starts.now searched.0 c.in_ok-levels.levels
+    searched.1 searched.2 c.args.object (sym c.if-not-contains.ensures)
 
 pub returns-then-not-contains-clause-reach : goal.returns-then-not-contains-clause-reach
 returns-then-not-contains-clause-reach c inside reach =
     let searched = c.in_ok-levels.ensures in
-    only_reach c.args.objects.now (links c.args.purpose (is_member c.args.trusted.now)) c.args.starts.now searched.0 c.in_ok-levels.levels searched.1 searched.2 inside reach c.args.object
+    only_reach c.args.objects.now (links c.args.purpose (is_member c.args.trusted.now)) c.args.starts.now searched.0 c.in_ok-levels.levels
+    searched.1 searched.2 inside reach c.args.object
     ∙ sym c.if-not-contains.ensures
 
 pub loop-step-smaller : goal.loop-step-smaller
@@ -29,10 +31,12 @@ pub returns-clause-shortest : goal.returns-clause-shortest
 returns-clause-shortest c =
     let searched = c.in_ok-levels.ensures in
     let reversed : c.reverse.new.self.items ≡ reverse c.loop-step.steps.items = search rules in
-    rw reversed (back_shortest _ _ _ _ _ searched.1 searched.2 _ _ _ c.loop-step.invariant (sym c.in_default.ensures) (sym c.if-not-contains.ensures))
+    rw reversed (back_shortest _ _ _ _ _ searched.1 searched.2 _ _ _ c.loop-step.invariant (sym c.in_default.ensures)
+    (sym c.if-not-contains.ensures))
 
 pub returns-clause-reach : goal.returns-clause-reach
 returns-clause-reach c inside reach =
     let searched = c.in_ok-levels.ensures in
-    only_reach c.args.objects.now (links c.args.purpose (is_member c.args.trusted.now)) c.args.starts.now searched.0 c.in_ok-levels.levels searched.1 searched.2 inside reach c.args.object
+    only_reach c.args.objects.now (links c.args.purpose (is_member c.args.trusted.now)) c.args.starts.now searched.0 c.in_ok-levels.levels
+    searched.1 searched.2 inside reach c.args.object
     ∙ sym c.if-not-contains.ensures

@@ -17,9 +17,12 @@ loop-inside-preserved c =
     let at = c.loop-inside.at in
     let there = known os at (λ (x : Content Capability). not (is_free x)) refl (ap not i.there) in
     record {
-      adds = subst (λ (o : Object). Adds os c.args.number o.owner c.args.inside.now c.set.new.self) (get_or_default os at free c.index-objects-at.result there)
-          (rw c.set.ensures (adds_next _ _ _ _ _ i c.requires.sound (omega (arith, there, i.count, c.requires.count)) (sym c.loop-inside-test.ensures)));
-      count = ap (λ (l : List Bool). length l) c.set-in-loop-inside.ensures ∙ length-set c.loop-inside.to_follow at true ∙ c.loop-inside.invariant.count;
+      adds = subst (λ (o : Object). Adds os c.args.number o.owner c.args.inside.now c.set.new.self)
+          (get_or_default os at free c.index-objects-at.result there)
+          (rw c.set.ensures (adds_next _ _ _ _ _ i c.requires.sound (omega (arith, there, i.count, c.requires.count))
+          (sym c.loop-inside-test.ensures)));
+      count = ap (λ (l : List Bool). length l) c.set-in-loop-inside.ensures ∙ length-set c.loop-inside.to_follow at true
+          ∙ c.loop-inside.invariant.count;
     }
 
 pub returns-clause-adds : goal.returns-clause-adds

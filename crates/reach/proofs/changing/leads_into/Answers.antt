@@ -12,7 +12,8 @@ some_convey_into-requires-clause-known c =
 pub some_convey_into-requires-in-Annex-clause-known : goal.some_convey_into-requires-in-Annex-clause-known
 some_convey_into-requires-in-Annex-clause-known c =
     let is = content_is _ _ _ _ c.requires.known c.in-Annex.is in
-    slots_known _ _ _ _ c.requires.sound c.requires.count (ap (λ (x : Content Capability). slots_in x) is ∙ sym c.as_slice-in-Annex.ensures.value)
+    slots_known _ _ _ _ c.requires.sound c.requires.count (ap (λ (x : Content Capability). slots_in x) is
+    ∙ sym c.as_slice-in-Annex.ensures.value)
 
 pub returns-in-Node-clause-some : goal.returns-in-Node-clause-some
 returns-in-Node-clause-some c is_so =
@@ -26,18 +27,21 @@ pub returns-in-Annex-clause-some : goal.returns-in-Annex-clause-some
 returns-in-Annex-clause-some c is_so =
     let is = content_is _ _ _ _ c.requires.known c.in-Annex.is in (
       sym c.if-contains.ensures,
-      slots_lead _ _ _ _ (is_marked c.args.inside.now) (ap (λ (x : Content Capability). slots_in x) is ∙ sym c.as_slice-in-Annex.ensures.value)
+      slots_lead _ _ _ _ (is_marked c.args.inside.now) (ap (λ (x : Content Capability). slots_in x) is
+          ∙ sym c.as_slice-in-Annex.ensures.value)
           (c.some_convey_into-in-Annex.ensures.some is_so),
     )
 
 pub returns-in-Node-clause-none : goal.returns-in-Node-clause-none
 returns-in-Node-clause-none c none out =
     let is = content_is _ _ _ _ c.requires.known c.in-Node.is in
-    slots_settle _ _ _ (links c.args.purpose (is_marked c.args.trusted.now)) (others (is_marked c.args.inside.now)) (ap (λ (x : Content Capability). is_root x) is)
+    slots_settle _ _ _ (links c.args.purpose (is_marked c.args.trusted.now)) (others (is_marked c.args.inside.now))
+    (ap (λ (x : Content Capability). is_root x) is)
     (ap (λ (x : Content Capability). slots_in x) is ∙ sym c.as_slice.ensures.value) (c.some_convey_into.ensures.none none)
 
 pub returns-in-Annex-clause-none : goal.returns-in-Annex-clause-none
 returns-in-Annex-clause-none c none out =
     let is = content_is _ _ _ _ c.requires.known c.in-Annex.is in
-    slots_settle _ _ _ (links c.args.purpose (is_marked c.args.trusted.now)) (others (is_marked c.args.inside.now)) (ap (λ (x : Content Capability). is_root x) is)
+    slots_settle _ _ _ (links c.args.purpose (is_marked c.args.trusted.now)) (others (is_marked c.args.inside.now))
+    (ap (λ (x : Content Capability). is_root x) is)
     (ap (λ (x : Content Capability). slots_in x) is ∙ sym c.as_slice-in-Annex.ensures.value) (c.some_convey_into-in-Annex.ensures.none none)

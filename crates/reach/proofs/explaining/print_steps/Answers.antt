@@ -7,7 +7,8 @@ pub returns-in_err-write_to : goal.returns-in_err-write_to
 returns-in_err-write_to g c =
     let p = err_from_is_err_and c.from_residual.result c.from_residual.ensures.1 in
     rw (p.1, p.2) (writes_fail _ _ _ _ _ _ _ _
-    (plain_split (step_line c.args.format c.args.objects.now) c.args.steps.now c.loop-step.step-index (record { from = 0; way = way.Annex; to = 0 }) c.loop-step-test.true)
+    (plain_split (step_line c.args.format c.args.objects.now) c.args.steps.now c.loop-step.step-index
+    (record { from = 0; way = way.Annex; to = 0 }) c.loop-step-test.true)
     c.loop-step.invariant (rw (← c.line_of_step.ensures.text) c.in_err-write_to.ensures))
 
 pub loop-step-preserved : goal.loop-step-preserved

@@ -7,7 +7,8 @@ returns-in_err-print_counted g c =
     let p = err_from_is_err_and c.from_residual.result c.from_residual.ensures.1 in
     let os = c.args.objects.now in
     let marks = c.args.inside.now in
-    rw (p.1, p.2) (text_fails _ _ _ (counted_text c.args.format (codes "closed") os marks) (flat_map (member_pulls c.args.format os marks) (enumerate_from 0 os)) _ refl
+    rw (p.1, p.2) (text_fails _ _ _ (counted_text c.args.format (codes "closed") os marks)
+    (flat_map (member_pulls c.args.format os marks) (enumerate_from 0 os)) _ refl
     c.in_err-print_counted.ensures)
 
 pub returns : goal.returns

@@ -13,7 +13,8 @@ module _ (os : List Object) where
       let test : not (is_process os x) ≡ false = ap not (before 0 0 (omega arith)) in
       rw test (find_first xs i (λ k d below. before (suc k) d (omega (arith, below))) (omega (arith, lt)) other)
 
-  find_none : (xs : List ℕ) → ((k d : ℕ) → k < length xs → IsTrue (is_process os (slice_index_or xs k d))) → find (λ n. not (is_process os n)) xs ≡ None
+  find_none : (xs : List ℕ) → ((k d : ℕ) → k < length xs → IsTrue (is_process os (slice_index_or xs k d))) →
+      find (λ n. not (is_process os n)) xs ≡ None
   find_none [] all = refl
   find_none (x ∷ xs) all =
       let test : not (is_process os x) ≡ false = ap not (all 0 0 (omega arith)) in

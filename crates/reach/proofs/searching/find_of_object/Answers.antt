@@ -13,7 +13,8 @@ find_held-requires-clause-known c =
 pub find_held-requires-in-Annex-clause-known : goal.find_held-requires-in-Annex-clause-known
 find_held-requires-in-Annex-clause-known c =
     let is = content_is _ _ _ _ c.requires.known c.in-Annex.is in
-    slots_known _ _ _ _ c.requires.sound c.requires.count (ap (λ (x : Content Capability). slots_in x) is ∙ sym c.as_slice-in-Annex.ensures.value)
+    slots_known _ _ _ _ c.requires.sound c.requires.count (ap (λ (x : Content Capability). slots_in x) is
+    ∙ sym c.as_slice-in-Annex.ensures.value)
 
 pub returns-in-Node : goal.returns-in-Node
 returns-in-Node c =
@@ -27,5 +28,7 @@ returns-in-Annex c =
 
 pub returns-in-Bank : goal.returns-in-Bank
 returns-in-Bank c =
-    let is = content_is c.args.objects.now c.args.number c.index-objects-number.result (content.Bank c.in-Bank.limit) c.requires.known c.in-Bank.is in
-    finds_of_bank c.args.objects.now (links c.args.purpose (is_marked c.args.trusted.now)) c.args.number c.args.level c.args.levels.now c.find_owned.new.levels c.in-Bank.limit is c.find_owned.ensures
+    let is = content_is c.args.objects.now c.args.number c.index-objects-number.result (content.Bank c.in-Bank.limit) c.requires.known
+    c.in-Bank.is in
+    finds_of_bank c.args.objects.now (links c.args.purpose (is_marked c.args.trusted.now)) c.args.number c.args.level c.args.levels.now
+    c.find_owned.new.levels c.in-Bank.limit is c.find_owned.ensures

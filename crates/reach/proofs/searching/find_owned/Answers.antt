@@ -14,8 +14,13 @@ loop-number-preserved c =
       | then-is_owned w ↦
           let test = c.is_owned.ensures.0 w.if-is_owned.true in
           rw (w.levels-is) (owned_next_step os at _ _ _ _ _ _ refl refl refl
-          (ap (λ (p : Object). is_free p.content) is ∙ test.0) (ap (λ (p : Object). p.owner) is ∙ test.1) c.loop-number.invariant w.add.ensures)
+          (ap (λ (p : Object). is_free p.content) is ∙ test.0) (ap (λ (p : Object). p.owner) is ∙ test.1) c.loop-number.invariant
+          w.add.ensures)
       | else-is_owned w ↦ rw (w.levels-is) (owned_skip os at _ _ _ _ (λ free owned.
-          let reported = c.is_owned.ensures.1 (sym (ap (λ (p : Object). is_free p.content) is) ∙ free, sym (ap (λ (p : Object). p.owner) is) ∙ owned) in
+          let reported = c.is_owned.ensures.1 (
+            sym (ap (λ (p : Object). is_free p.content) is) ∙ free,
+            sym (ap (λ (p : Object). p.owner) is)
+                ∙ owned,
+          ) in
           let wrong = w.if-is_owned.false in cc) c.loop-number.invariant)
     ]

@@ -11,7 +11,8 @@ returns-in-Ok-examine-clause-opened g c =
     let s = c.in-Ok.store in
     let t = c.examine.new.store in
     let said = c.in-Ok-examine.ensures in
-    recovers disk view parts device.counts_now device.seen_left laws.sound_holds laws.geometry_is c.args.device s t c.in-Ok.ensures.opened said.snapshots
+    recovers disk view parts device.counts_now device.seen_left laws.sound_holds laws.geometry_is c.args.device s t c.in-Ok.ensures.opened
+    said.snapshots
     (laws.continues s t said.snapshots.continues) (laws.continues_peeks s t said.snapshots.continues)
     c.in-Ok-examine.banks c.saved-age.result.age c.saved-age.ensures.age said.same
     (found_still (parts s) (parts t) (disk (view s).beneath) (disk (view t).beneath) (laws.failures_are s) (laws.failures_are t) said.same)
@@ -27,11 +28,14 @@ returns-in-Err-examine-clause-refused g c =
     let s = c.in-Ok.store in
     let t = c.examine.new.store in
     let said = c.in-Err-examine.ensures in
-    refuses disk view parts device.counts_now device.seen_left laws.sound_holds laws.geometry_is c.args.device s t c.in-Ok.ensures.opened said.snapshots
+    refuses disk view parts device.counts_now device.seen_left laws.sound_holds laws.geometry_is c.args.device s t c.in-Ok.ensures.opened
+    said.snapshots
     (laws.continues s t said.snapshots.continues) (laws.continues_peeks s t said.snapshots.continues)
     c.in-Err-examine.fault
-    (risen_later (parts s) (parts t) (disk (view s).beneath) (disk (view t).beneath) (laws.failures_are s) (laws.failures_are t) said.snapshots.later)
-    (refused_cause (parts s) (parts t) (disk (view s).beneath) (disk (view t).beneath) (laws.failures_are s) (laws.failures_are t) c.in-Err-examine.fault
+    (risen_later (parts s) (parts t) (disk (view s).beneath) (disk (view t).beneath) (laws.failures_are s) (laws.failures_are t)
+    said.snapshots.later)
+    (refused_cause (parts s) (parts t) (disk (view s).beneath) (disk (view t).beneath) (laws.failures_are s) (laws.failures_are t)
+    c.in-Err-examine.fault
     said.cause) (refused_for c.in-Err-examine.fault said.bad) c.into_device.result c.into_device.ensures
 
 pub examine-requires-clause-usable : goal.examine-requires-clause-usable

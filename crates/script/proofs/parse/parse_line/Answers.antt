@@ -22,9 +22,11 @@ returns-in-Some-store_in-clause-reads c =
 pub returns-in-Some-last_registers-clause-says : goal.returns-in-Some-last_registers-clause-says
 returns-in-Some-last_registers-clause-says c =
     let sent = c.in-Some-last_registers.sent in
-    says_said c.args.line.now (invoked c.in-Some-order_in.order sent) (c.in-Some-order_in.ensures.reads sent c.in-Some-last_registers.ensures)
+    says_said c.args.line.now (invoked c.in-Some-order_in.order sent) (c.in-Some-order_in.ensures.reads sent
+    c.in-Some-last_registers.ensures)
 
 pub returns-in-Some-last_registers-clause-reads : goal.returns-in-Some-last_registers-clause-reads
 returns-in-Some-last_registers-clause-reads c =
     let sent = c.in-Some-last_registers.sent in
-    reads_said c.args.line.now (invoked c.in-Some-order_in.order sent) (c.in-Some-order_in.ensures.reads sent c.in-Some-last_registers.ensures)
+    reads_said c.args.line.now (invoked c.in-Some-order_in.order sent) (c.in-Some-order_in.ensures.reads sent
+    c.in-Some-last_registers.ensures)

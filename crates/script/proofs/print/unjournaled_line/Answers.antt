@@ -4,7 +4,8 @@ use Rattle.script.proofs.print.unjournaled_line.Goals as goal
 
 pub returns-in-NotPage-clause-text : goal.returns-in-NotPage-clause-text
 unfolding digits
-returns-in-NotPage-clause-text c = c.new.ensures ∙ ap (λ (why : Unjournaled). codes "not journaled " ++ decimal (unjournaled_number why)) (sym c.in-NotPage.is)
+returns-in-NotPage-clause-text c = c.new.ensures ∙ ap (λ (why : Unjournaled). codes "not journaled " ++ decimal (unjournaled_number why))
+    (sym c.in-NotPage.is)
 
 pub returns-in-Renewed-clause-text : goal.returns-in-Renewed-clause-text
 unfolding digits

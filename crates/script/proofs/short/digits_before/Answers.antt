@@ -6,7 +6,8 @@ pub returns-then-byte-eq-SPACE : goal.returns-then-byte-eq-SPACE
 returns-then-byte-eq-SPACE c = λ within.
     digits_read c.args.text.now c.args.at c.loop-place.place c.loop-place.number c.loop-place.invariant.begun
     (omega (arith, c.loop-place-test.true, c.digits_end-place-end.ensures.within))
-    (omega (arith, c.loop-place-test.true, c.digits_end-place-end.ensures.few)) (omega (arith, c.if-byte-eq-SPACE.true, c.from-byte.ensures))
+    (omega (arith, c.loop-place-test.true, c.digits_end-place-end.ensures.few))
+    (omega (arith, c.if-byte-eq-SPACE.true, c.from-byte.ensures))
     c.requires.some c.loop-place.invariant.values
 
 pub overflow_mul-number : goal.overflow_mul-number

@@ -6,7 +6,8 @@ pub overflow_mul-number : goal.overflow_mul-number
 overflow_mul-number c = omega (
   arith,
   value_below c.args.text.now c.args.at (c.loop-place.place - c.args.at) 18 _
-      (omega (arith, c.loop-place.invariant.begun, c.loop-place.invariant.within)) (omega (arith, c.loop-place-test.true, c.if-text-at-gt19.false))
+      (omega (arith, c.loop-place.invariant.begun, c.loop-place.invariant.within))
+      (omega (arith, c.loop-place-test.true, c.if-text-at-gt19.false))
       c.loop-place.invariant.values,
 )
 
@@ -14,7 +15,8 @@ pub overflow_add-number : goal.overflow_add-number
 overflow_add-number c = omega (
   arith,
   value_below c.args.text.now c.args.at (c.loop-place.place - c.args.at) 18 _
-      (omega (arith, c.loop-place.invariant.begun, c.loop-place.invariant.within)) (omega (arith, c.loop-place-test.true, c.if-text-at-gt19.false))
+      (omega (arith, c.loop-place.invariant.begun, c.loop-place.invariant.within))
+      (omega (arith, c.loop-place-test.true, c.if-text-at-gt19.false))
       c.loop-place.invariant.values,
   c.from-byte.ensures,
   c.if-byte-gt-LAST_DIGIT.false,

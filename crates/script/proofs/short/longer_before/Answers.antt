@@ -9,6 +9,7 @@ returns-then-text-at-eq32 c = λ within.
 
 pub returns-then-text-at-eq32-2 : goal.returns-then-text-at-eq32-2
 returns-then-text-at-eq32-2 c = λ within.
-    three_digits c.args.text.now c.args.at c.in-Some.first c.in-Some-digit_at.second _ _ (omega (arith, c.if-text-at.true)) c.in-Some.ensures
+    three_digits c.args.text.now c.args.at c.in-Some.first c.in-Some-digit_at.second _ _ (omega (arith, c.if-text-at.true))
+    c.in-Some.ensures
     (λ zero. omega (arith, zero, c.if-first-eq0.false, c.in-Some.ensures)) c.in-Some-digit_at.ensures c.in-Some-digit_at-2.ensures
     c.if-text-at-eq32-2.true (omega arith)

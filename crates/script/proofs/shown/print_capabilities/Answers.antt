@@ -17,4 +17,5 @@ loop-index-preserved g c = subst (Wrote _ _) (sym (lines_more (capability_line c
 
 pub returns : goal.returns
 unfolding capability_lines
-returns g c = subst (Wrote _ _) (lines_all (capability_line c.args.name.now) c.args.capabilities.now c.loop-index.index (omega arith)) c.loop-index.invariant
+returns g c = subst (Wrote _ _) (lines_all (capability_line c.args.name.now) c.args.capabilities.now c.loop-index.index (omega arith))
+    c.loop-index.invariant

@@ -11,7 +11,8 @@ returns-in_err-print_word g c =
     c.loop-index.invariant c.in_err-print_word.ensures)
 
 pub loop-index-preserved : goal.loop-index-preserved
-loop-index-preserved g c = rw (lines_more word_line _ _ 0 c.loop-index-test.true) (wrote_trans _ _ _ _ _ c.loop-index.invariant c.in_ok-print_word.ensures)
+loop-index-preserved g c = rw (lines_more word_line _ _ 0 c.loop-index-test.true)
+    (wrote_trans _ _ _ _ _ c.loop-index.invariant c.in_ok-print_word.ensures)
 
 pub returns : goal.returns
 unfolding word_lines

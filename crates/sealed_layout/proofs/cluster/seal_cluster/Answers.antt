@@ -13,5 +13,6 @@ returns-clause-frames c =
 
 pub returns-clause-size : goal.returns-clause-size
 returns-clause-size c =
-    long c.args.cluster.now c.blank_from.new.bytes c.seal.new.row c.args.nodes c.requires.nodes c.requires.cluster c.seal.auto.row c.blank_from.ensures
+    long c.args.cluster.now c.blank_from.new.bytes c.seal.new.row c.args.nodes c.requires.nodes c.requires.cluster c.seal.auto.row
+    c.blank_from.ensures
     c.seal.ensures.body

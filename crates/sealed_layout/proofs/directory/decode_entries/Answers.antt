@@ -10,7 +10,8 @@ unfolding entries_bytes
 returns-then-not-decode_sector-clause-none c = λ es len fits e.
     let size =
     length_numbers es ∙ ap (λ (n : ℕ). 2 * n) len
-    ∙ sym (length-take-le (2 * length c.args.into.now) (replicate 60 0) (omega (arith, c.requires.entries, length-replicate {A = ℕ} 60 0))) in
+    ∙ sym (length-take-le (2 * length c.args.into.now) (replicate 60 0) (omega (arith, c.requires.entries, length-replicate {A = ℕ} 60 0)))
+    in
     let only = c.decode_sector.ensures.only (entry_numbers es) size (numbers_fit es fits) e in
     false≢true (sym c.if-not-decode_sector.true ∙ only.0)
 

@@ -8,7 +8,8 @@ overflow_add-count c =
     omega (
       arith,
       c.requires,
-      few_counted c.args.number c.args.numbers.now c.loop-other.other-index c.loop-other.count c.loop-other-test.true c.loop-other.invariant,
+      few_counted c.args.number c.args.numbers.now c.loop-other.other-index c.loop-other.count c.loop-other-test.true
+          c.loop-other.invariant,
     )
 
 pub loop-other-preserved : goal.loop-other-preserved
@@ -17,7 +18,9 @@ loop-other-preserved c =
     let i = c.loop-other.other-index in
     elim c.if-other-number.branch [
       | then-other-number w ↦
-          w.count-is ∙ counted_here c.args.number xs i c.loop-other.count c.loop-other-test.true c.loop-other.invariant w.if-other-number.true
+          w.count-is ∙ counted_here c.args.number xs i c.loop-other.count c.loop-other-test.true c.loop-other.invariant
+          w.if-other-number.true
       | else-other-number w ↦
-          w.count-is ∙ counted_not c.args.number xs i c.loop-other.count c.loop-other-test.true c.loop-other.invariant w.if-other-number.false
+          w.count-is ∙ counted_not c.args.number xs i c.loop-other.count c.loop-other-test.true c.loop-other.invariant
+          w.if-other-number.false
     ]

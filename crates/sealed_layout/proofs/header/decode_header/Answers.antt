@@ -9,7 +9,8 @@ pub returns-then-numbers-eq-HEADER_MAGIC-clause-some : goal.returns-then-numbers
 unfolding header_bytes
 returns-then-numbers-eq-HEADER_MAGIC-clause-some c =
     let ns : List ℕ = c.decode_sector-is_sector.new.into in
-    let read : ns ≡ header_numbers (header_from ns) = header_read ns c.decode_sector-is_sector.ensures.size c.if-numbers-eq-HEADER_MAGIC.true in
+    let read : ns ≡ header_numbers (header_from ns) = header_read ns c.decode_sector-is_sector.ensures.size
+    c.if-numbers-eq-HEADER_MAGIC.true in
     c.decode_sector-is_sector.ensures.found c.if-is_sector.true ∙ ap sector_bytes read ∙ ap header_bytes (sym c.header_from.ensures)
 
 pub returns-else-is_sector-clause-none : goal.returns-else-is_sector-clause-none

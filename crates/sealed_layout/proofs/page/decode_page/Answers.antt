@@ -9,7 +9,8 @@ returns-then-has_words-clause-some c = record {
   header = c.in_ok-header.ensures.some.0;
   first = c.in_ok-header.ensures.some.1;
   words =
-      subst (λ (words : List ℕ). HasWords words c.in_ok-header.header) (take_rest c.args.frame.now 512) (c.has_words.ensures.0 c.if-has_words.true);
+      subst (λ (words : List ℕ). HasWords words c.in_ok-header.header) (take_rest c.args.frame.now 512)
+      (c.has_words.ensures.0 c.if-has_words.true);
 }
 
 pub returns-else-has_words-clause-none : goal.returns-else-has_words-clause-none

@@ -30,7 +30,8 @@ returns-else-is_sector-clause-none c = λ h is fits e.
     let found = page_found c.args.age h ns is only.1 in
     elim c.else-is_sector.branch [
       | else-is_sector-via-then-is_sector+then-number-numbers+else-is_page_header w ↦
-          false≢true (sym w.if-is_page_header.false ∙ w.is_page_header.ensures.1 (subst (IsPageHeader c.args.age) (sym (made ∙ found.0)) is))
+          false≢true (sym w.if-is_page_header.false ∙ w.is_page_header.ensures.1
+          (subst (IsPageHeader c.args.age) (sym (made ∙ found.0)) is))
       | else-is_sector-via-then-is_sector+else-number-numbers w ↦
           w.if-number-numbers.false (w.number.ensures ∙ ap role_in made ∙ found.1)
       | else-is_sector-via-else-is_sector w ↦ false≢true (sym w.if-is_sector.false ∙ only.0)

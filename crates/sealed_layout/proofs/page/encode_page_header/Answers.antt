@@ -7,4 +7,5 @@ unfolding page_header_bytes
 returns c =
     let h = c.args.header in
     c.encode_sector.ensures
-    ∙ ap (λ (n : ℕ). sector_bytes (n ∷ h.object.allocations ∷ h.object.calls ∷ h.object.owner ∷ h.words.a ∷ h.words.b ∷ h.words.c ∷ [])) c.number.ensures
+    ∙ ap (λ (n : ℕ). sector_bytes (n ∷ h.object.allocations ∷ h.object.calls ∷ h.object.owner ∷ h.words.a ∷ h.words.b ∷ h.words.c ∷ []))
+    c.number.ensures

@@ -16,7 +16,8 @@ returns-then-numbers-eq-VERSION-clause-some c =
     sym (take_all 24 (drop 8 ns) (omega (arith, length-drop 8 ns, c.decode_sector-is_sector.ensures.size))) ∙ c.take_ranges.ensures in
     let read : ns ≡ superblock_numbers (row_from ns) rs =
     row_read ns rs c.decode_sector-is_sector.ensures.size c.if-numbers-eq-SUPERBLOCK_MAGIC.true c.if-numbers-eq-VERSION.true ranges in
-    let second : get_or ns 1 0 < 2 ^ 64 = c.decode_sector-is_sector.ensures.fits 1 0 (omega (arith, c.decode_sector-is_sector.ensures.size)) in
+    let second : get_or ns 1 0 < 2 ^ 64 = c.decode_sector-is_sector.ensures.fits 1 0 (omega (arith, c.decode_sector-is_sector.ensures.size))
+    in
     let used : c.row_from.result.used ≡ get_or ns 1 0 / 2 ^ 32 = ap (λ (row : SuperblockRow). row.used) c.row_from.ensures in (
       omega (arith, used, used_small (get_or ns 1 0) second),
       c.decode_sector-is_sector.ensures.found c.if-is_sector.true ∙ ap sector_bytes read
@@ -32,6 +33,7 @@ returns-else-is_sector-clause-none c = λ row rs small eight fits e.
     elim c.else-is_sector.branch [
       | else-is_sector-via-then-is_sector+then-numbers-eq-SUPERBLOCK_MAGIC+else-numbers-eq-VERSION w ↦
           w.if-numbers-eq-VERSION.false (row_version row rs ns only.1)
-      | else-is_sector-via-then-is_sector+else-numbers-eq-SUPERBLOCK_MAGIC w ↦ w.if-numbers-eq-SUPERBLOCK_MAGIC.false (row_magic row rs ns only.1)
+      | else-is_sector-via-then-is_sector+else-numbers-eq-SUPERBLOCK_MAGIC w ↦ w.if-numbers-eq-SUPERBLOCK_MAGIC.false
+          (row_magic row rs ns only.1)
       | else-is_sector-via-else-is_sector w ↦ false≢true (sym w.if-is_sector.false ∙ only.0)
     ]

@@ -18,7 +18,8 @@ returns-in_err-sync-clause-any_moment g c =
 
 pub returns-in_err-order-clause-seen : goal.returns-in_err-order-clause-seen
 returns-in_err-order-clause-seen g c =
-    let same : Agrees (g.D.Device.disk c.read_order.new.device).seen (g.D.Device.disk c.args.device.now).seen = search rules in keeps_same same
+    let same : Agrees (g.D.Device.disk c.read_order.new.device).seen (g.D.Device.disk c.args.device.now).seen = search rules in
+    keeps_same same
 
 pub returns-in_err-order-clause-any_moment : goal.returns-in_err-order-clause-any_moment
 returns-in_err-order-clause-any_moment g c =
@@ -36,19 +37,23 @@ close_in_order-requires-clause-durable g c = search (rules, agrees_is)
 
 pub returns-clause-none : goal.returns-clause-none
 returns-clause-none g c =
-    on_ok_weaker c.close_in_order.result (λ closed. none_committed (g.D.Device.disk c.close_in_order.new.device).seen closed) c.close_in_order.ensures.closed
+    on_ok_weaker c.close_in_order.result (λ closed. none_committed (g.D.Device.disk c.close_in_order.new.device).seen closed)
+    c.close_in_order.ensures.closed
 
 pub returns-clause-seen : goal.returns-clause-seen
 returns-clause-seen g c =
     let mid = (g.D.Device.disk c.read_order.new.device).seen in
     let old = (g.D.Device.disk c.args.device.now).seen in
     let same : Agrees mid old = search rules in
-    subst (λ (image : Image). KeepsOrHasNone image (g.D.Device.disk c.close_in_order.new.device).seen) (agrees_is mid old same) c.close_in_order.ensures.seen
+    subst (λ (image : Image). KeepsOrHasNone image (g.D.Device.disk c.close_in_order.new.device).seen) (agrees_is mid old same)
+    c.close_in_order.ensures.seen
 
 pub returns-clause-any_moment : goal.returns-clause-any_moment
 returns-clause-any_moment g c =
     let peeks : Peeks (g.D.Device.disk c.args.device.now) (g.D.Device.disk c.read_order.new.device) = search rules in
     let same : Agrees (g.D.Device.disk c.read_order.new.device).seen (g.D.Device.disk c.args.device.now).seen = search rules in
-    closing_run {old = g.D.Device.disk c.args.device.now} {mid = g.D.Device.disk c.read_order.new.device} {new = g.D.Device.disk c.close_in_order.new.device}
+    closing_run {old = g.D.Device.disk c.args.device.now} {mid = g.D.Device.disk c.read_order.new.device}
+    {new = g.D.Device.disk c.close_in_order.new.device}
     (g.met.D.Device.seen_left c.args.device.now) same
-    (peek_run {old = g.D.Device.disk c.args.device.now} {new = g.D.Device.disk c.read_order.new.device} peeks) c.close_in_order.ensures.any_moment
+    (peek_run {old = g.D.Device.disk c.args.device.now} {new = g.D.Device.disk c.read_order.new.device} peeks)
+    c.close_in_order.ensures.any_moment

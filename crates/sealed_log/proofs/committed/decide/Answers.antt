@@ -8,7 +8,8 @@ use Rattle.sealed_log.proofs.committed.decide.Goals as goal
 
 pub returns-clause-ok : goal.returns-clause-ok
 returns-clause-ok c =
-    subst (λ (xs : List SlotNumbers). IfOk c.committed.result (λ (s : ℕ). IsCommitted (slots_of xs) s)) c.numbers_of.ensures c.committed.ensures.ok
+    subst (λ (xs : List SlotNumbers). IfOk c.committed.result (λ (s : ℕ). IsCommitted (slots_of xs) s)) c.numbers_of.ensures
+    c.committed.ensures.ok
 
 pub returns-clause-err : goal.returns-clause-err
 returns-clause-err c =

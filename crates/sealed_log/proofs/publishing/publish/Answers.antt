@@ -9,7 +9,8 @@ use Rattle.sealed_log.proofs.publishing.publish.Goals as goal
 
 pub returns-in_err-put_sector-clause-any_moment : goal.returns-in_err-put_sector-clause-any_moment
 returns-in_err-put_sector-clause-any_moment g c =
-    header_run {h = c.args.header} {at = c.header_sector.result} {old = g.D.Device.disk c.args.device.now} {new = g.D.Device.disk c.put_sector.new.device}
+    header_run {h = c.args.header} {at = c.header_sector.result} {old = g.D.Device.disk c.args.device.now}
+    {new = g.D.Device.disk c.put_sector.new.device}
     (c.header_sector.ensures.value ∙ ap (λ (k : ℕ). header_sector k) c.slot_of-slot.ensures.value)
     c.requires.one c.requires.next c.put_sector.ensures.any_moment
 
@@ -20,13 +21,16 @@ returns-clause-committed g c =
     let gate_place : c.gate_sector.result ≡ gate_at c.args.header =
     c.gate_sector.ensures.value ∙ ap (λ (k : ℕ). gate_sector k) c.slot_of-slot.ensures.value in
     let ready =
-    make_ready c.args.header c.header_sector.result c.encode_header.new.into (g.D.Device.disk c.args.device.now) (g.D.Device.disk c.put_sector.new.device)
-    place c.slot_of-slot.ensures.fits c.requires.one c.requires.next (g.met.D.Device.seen_left c.args.device.now) c.put_sector.ensures.elsewhere
+    make_ready c.args.header c.header_sector.result c.encode_header.new.into (g.D.Device.disk c.args.device.now)
+    (g.D.Device.disk c.put_sector.new.device)
+    place c.slot_of-slot.ensures.fits c.requires.one c.requires.next (g.met.D.Device.seen_left c.args.device.now)
+    c.put_sector.ensures.elsewhere
     c.in_ok-put_sector.ensures.written c.encode_header.ensures c.in_ok-put_sector.ensures.durable in
     on_ok_weaker c.put_sector-2.result
     (λ written. has_new {h = c.args.header} {old = g.D.Device.disk c.args.device.now} {mid = g.D.Device.disk c.put_sector.new.device} ready
     {c = (g.D.Device.disk c.put_sector-2.new.device).seen}
-    (subst (λ (i : ℕ). Elsewhere i 1 (g.D.Device.disk c.put_sector.new.device).seen (g.D.Device.disk c.put_sector-2.new.device).seen) gate_place
+    (subst (λ (i : ℕ). Elsewhere i 1 (g.D.Device.disk c.put_sector.new.device).seen (g.D.Device.disk c.put_sector-2.new.device).seen)
+    gate_place
     c.put_sector-2.ensures.elsewhere)
     (subst (λ (i : ℕ). (g.D.Device.disk c.put_sector-2.new.device).seen i ≡ gate_bytes c.args.header.header.sequence) gate_place
     (written ∙ c.encode_gate.ensures)))
@@ -43,8 +47,10 @@ returns-clause-any_moment g c =
     let gate_place : c.gate_sector.result ≡ gate_at c.args.header =
     c.gate_sector.ensures.value ∙ ap (λ (k : ℕ). gate_sector k) c.slot_of-slot.ensures.value in
     let ready =
-    make_ready c.args.header c.header_sector.result c.encode_header.new.into (g.D.Device.disk c.args.device.now) (g.D.Device.disk c.put_sector.new.device)
-    place c.slot_of-slot.ensures.fits c.requires.one c.requires.next (g.met.D.Device.seen_left c.args.device.now) c.put_sector.ensures.elsewhere
+    make_ready c.args.header c.header_sector.result c.encode_header.new.into (g.D.Device.disk c.args.device.now)
+    (g.D.Device.disk c.put_sector.new.device)
+    place c.slot_of-slot.ensures.fits c.requires.one c.requires.next (g.met.D.Device.seen_left c.args.device.now)
+    c.put_sector.ensures.elsewhere
     c.in_ok-put_sector.ensures.written c.encode_header.ensures c.in_ok-put_sector.ensures.durable in
     gate_run {h = c.args.header} {old = g.D.Device.disk c.args.device.now} {mid = g.D.Device.disk c.put_sector.new.device} ready
     {at = c.gate_sector.result} {new = g.D.Device.disk c.put_sector-2.new.device} gate_place
@@ -59,8 +65,10 @@ returns-clause-in_order g c =
     let gate_place : c.gate_sector.result ≡ gate_at c.args.header =
     c.gate_sector.ensures.value ∙ ap (λ (k : ℕ). gate_sector k) c.slot_of-slot.ensures.value in
     let ready =
-    make_ready c.args.header c.header_sector.result c.encode_header.new.into (g.D.Device.disk c.args.device.now) (g.D.Device.disk c.put_sector.new.device)
-    place c.slot_of-slot.ensures.fits c.requires.one c.requires.next (g.met.D.Device.seen_left c.args.device.now) c.put_sector.ensures.elsewhere
+    make_ready c.args.header c.header_sector.result c.encode_header.new.into (g.D.Device.disk c.args.device.now)
+    (g.D.Device.disk c.put_sector.new.device)
+    place c.slot_of-slot.ensures.fits c.requires.one c.requires.next (g.met.D.Device.seen_left c.args.device.now)
+    c.put_sector.ensures.elsewhere
     c.in_ok-put_sector.ensures.written c.encode_header.ensures c.in_ok-put_sector.ensures.durable in
     gate_order {h = c.args.header} {old = g.D.Device.disk c.args.device.now} {mid = g.D.Device.disk c.put_sector.new.device} ready
     {at = c.gate_sector.result} {new = g.D.Device.disk c.put_sector-2.new.device} gate_place

@@ -12,9 +12,11 @@ differs : (one other : List ℕ) (r : Bool) → r ≡ bytes_eq one other → r �
 differs one other r is apart = grind (arith, nat_tests, bytes_eq-Decides)
 
 pub loop-topic-preserved : goal.loop-topic-preserved
-loop-topic-preserved c = All-more (λ (t : Topic). t.word.now ≢ c.args.word.now) c.args.topics.now c.loop-topic.topic-index _ c.loop-topic-test.true
+loop-topic-preserved c = All-more (λ (t : Topic). t.word.now ≢ c.args.word.now) c.args.topics.now c.loop-topic.topic-index _
+    c.loop-topic-test.true
     c.loop-topic.invariant (differs _ c.args.word.now c.eq.result c.eq.ensures c.if-eq.false)
 
 pub returns : goal.returns
-returns c = subst (All (λ (t : Topic). t.word.now ≢ c.args.word.now)) (take_all c.loop-topic.topic-index c.args.topics.now c.loop-topic-test.false)
+returns c = subst (All (λ (t : Topic). t.word.now ≢ c.args.word.now)) (take_all c.loop-topic.topic-index c.args.topics.now
+    c.loop-topic-test.false)
     c.loop-topic.invariant

@@ -13,6 +13,8 @@ returns-in_err-print_shown-in-Ok-clause-lists g c =
 
 pub loop-number-preserved : goal.loop-number-preserved
 loop-number-preserved g c =
-    more_listed g.D.Device.disk g.S.ObjectStore.view g.S.Frames.parts c.loop-number.number c.in-Ok.answer c.args.kernel.now c.loop-number.kernel
-    c.shown.new.kernel (g.W.Output.written c.args.writer.now) (g.W.Output.written c.loop-number.writer) (g.W.Output.written c.print_shown.new.writer)
+    more_listed g.D.Device.disk g.S.ObjectStore.view g.S.Frames.parts c.loop-number.number c.in-Ok.answer c.args.kernel.now
+    c.loop-number.kernel
+    c.shown.new.kernel (g.W.Output.written c.args.writer.now) (g.W.Output.written c.loop-number.writer)
+    (g.W.Output.written c.print_shown.new.writer)
     c.loop-number.invariant c.in-Ok.ensures c.in_ok-print_shown-in-Ok.ensures

@@ -5,7 +5,8 @@ use Rattle.shell.proofs.typed_lines.read_line.Given as goal
 
 abbrev pub invariant-loop-line : goal.invariant-loop-line
 invariant-loop-line g l = record {
-  same : Takes (lines_ahead l.fn.line.items (g.R.RawReader.rest (read_from l.fn.reader))) (lines_ahead l.line.items (g.R.RawReader.rest (read_from l.reader))) [];
+  same : Takes (lines_ahead l.fn.line.items (g.R.RawReader.rest (read_from l.fn.reader)))
+      (lines_ahead l.line.items (g.R.RawReader.rest (read_from l.reader))) [];
   none_failed : failed_reads l.reader ≡ failed_reads l.fn.reader;
   fewer : left_to_read l.reader + length l.line.items ≤ left_to_read l.fn.reader + length l.fn.line.items;
 }

@@ -7,7 +7,10 @@ loop-step-init g c = record { climbs = climb_starts c.requires.bank; shifting = 
 
 pub overflow_add-usages : goal.overflow_add-usages
 overflow_add-usages g c =
-    record { fits = (still_fits c.requires.tree c.loop-step.invariant.climbs c.requires.each c.requires.fits c.loop-step.invariant.shifting).few }
+    record {
+      fits = (still_fits c.requires.tree c.loop-step.invariant.climbs c.requires.each c.requires.fits
+          c.loop-step.invariant.shifting).few;
+    }
 
 pub overflow_sub-usages : goal.overflow_sub-usages
 overflow_sub-usages g c =

@@ -35,7 +35,8 @@ loop-number-preserved g c =
     let p = g.F.Frames.parts c.args.store.now in
     let os = objects_in p in
     let n = c.loop-number.number in
-    let inside : n < length os = inside_read p c.table.result.now c.count-number-end.result n c.table.ensures c.count-number-end.ensures c.loop-number-test.true
+    let inside : n < length os = inside_read p c.table.result.now c.count-number-end.result n c.table.ensures c.count-number-end.ensures
+    c.loop-number-test.true
     in
     elim c.if-not-is_free.branch [
       | then-not-is_free w ↦
@@ -44,7 +45,8 @@ loop-number-preserved g c =
             size = ap length w.usages-is ∙ w.shift.ensures.size ∙ c.loop-number.invariant.size;
             each = λ b bank.
                 ap (λ (us : List ℕ). slice_index us b) w.usages-is
-                ∙ used_raised os c.requires.tree b n w.owner.result c.loop-number.usages w.shift.new.usages bank inside c.loop-number.auto.number used
+                ∙ used_raised os c.requires.tree b n w.owner.result c.loop-number.usages w.shift.new.usages bank inside
+                c.loop-number.auto.number used
                 w.owner.ensures (raised_of w.shift.ensures) (c.loop-number.invariant.each b bank);
           }
       | else-not-is_free w ↦
@@ -52,7 +54,8 @@ loop-number-preserved g c =
           record {
             size = ap length w.usages-is ∙ c.loop-number.invariant.size;
             each = λ b bank.
-                ap (λ (us : List ℕ). slice_index us b) w.usages-is ∙ c.loop-number.invariant.each b bank ∙ sym (used_free os b n inside none);
+                ap (λ (us : List ℕ). slice_index us b) w.usages-is ∙ c.loop-number.invariant.each b bank
+                ∙ sym (used_free os b n inside none);
           }
     ]
 
@@ -60,4 +63,5 @@ pub returns-clause-counted : goal.returns-clause-counted
 returns-clause-counted g c = λ b bank.
     let p = g.F.Frames.parts c.args.store.now in
     c.loop-number.invariant.each b bank ∙ sym (used_whole (objects_in p) b c.loop-number.number
-    (past_read p c.table.result.now c.count-number-end.result c.loop-number.number c.table.ensures c.count-number-end.ensures c.loop-number-test.false))
+    (past_read p c.table.result.now c.count-number-end.result c.loop-number.number c.table.ensures c.count-number-end.ensures
+    c.loop-number-test.false))

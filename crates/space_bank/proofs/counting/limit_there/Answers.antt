@@ -7,7 +7,8 @@ pub returns-in-Bank : goal.returns-in-Bank
 returns-in-Bank g c =
     let p = g.F.Frames.parts c.args.store.now in
     let known = (g.met.F.Frames.known_fetched c.args.store.now c.args.number c.requires).0 in
-    sym (ap (λ (r : ContentRef). limit_in (content_behind r)) c.in-Bank.is) ∙ limit_held p c.args.number (content_behind c.frame.result) known c.frame.ensures
+    sym (ap (λ (r : ContentRef). limit_in (content_behind r)) c.in-Bank.is)
+    ∙ limit_held p c.args.number (content_behind c.frame.result) known c.frame.ensures
 
 pub returns-in_default : goal.returns-in_default
 returns-in_default g c =

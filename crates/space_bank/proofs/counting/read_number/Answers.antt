@@ -10,5 +10,6 @@ returns-then-ne-clause-kept g c =
     let roles = keepable_roles p.geometry (2 ^ 64 - 1) (frames_of p) c.requires.may.keepable in
     let is = role_read p c.table.result.now c.header.result c.args.number roles c.table.ensures c.header.ensures in
     sym (kept_other c.args.role (content_at (objects_in p) c.args.number) (λ same.
-    let wrong : true ≡ not true = sym c.if-ne.true ∙ c.ne.ensures ∙ ap not (true_same the_type c.header.result.role c.args.role (is ∙ same)) in
+    let wrong : true ≡ not true = sym c.if-ne.true ∙ c.ne.ensures ∙ ap not (true_same the_type c.header.result.role c.args.role (is ∙ same))
+    in
     cc))

@@ -14,5 +14,6 @@ loop-number-preserved g c =
       size = omega (arith, inv.size, c.push_reserved.ensures.len);
       room = omega (arith, inv.room, c.push_reserved.ensures.capacity);
       same = ok.fetches.same ∙ inv.same;
-      continues = g.met.F.Frames.continues_twice c.args.store.now c.loop-number.store c.read_number.new.store inv.continues ok.fetches.snapshots.continues;
+      continues = g.met.F.Frames.continues_twice c.args.store.now c.loop-number.store c.read_number.new.store inv.continues
+          ok.fetches.snapshots.continues;
     }

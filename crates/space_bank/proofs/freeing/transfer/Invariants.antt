@@ -9,5 +9,6 @@ invariant-loop-number g l =
       objects : AreTransferred (take l.number-index l.numbers) l.bank (objects_in p) (objects_in q);
       current : AreCurrent (frames_of p) → AreCurrent (frames_of q);
       keepable : (age : ℕ) → AreKeepable p.geometry age (frames_of p) → AreKeepable p.geometry age (frames_of q);
-      snapshots : KeepsRest g.F.Frames.parts g.F.Frames.IsFetched g.F.PresentFrames.IsAnnounced g.F.Frames.ContinuesTo l.initial.store l.store;
+      snapshots : KeepsRest g.F.Frames.parts g.F.Frames.IsFetched g.F.PresentFrames.IsAnnounced g.F.Frames.ContinuesTo l.initial.store
+          l.store;
     }

@@ -10,14 +10,17 @@ loop-number-preserved g c =
     let test = is_listed os c.args.bank c.args.deep in
     let n = c.in-Some.number in
     let next : IsNextUsed os c.loop-number.from n = c.in-Some.ensures.some os c.requires.free in
-    let so = listed_up_to test c.args.listed.now.items c.loop-number.listed.items c.loop-number.from n next.past c.loop-number.invariant.listed
+    let so = listed_up_to test c.args.listed.now.items c.loop-number.listed.items c.loop-number.from n next.past
+    c.loop-number.invariant.listed
     (λ m past before. free_not_listed os c.args.bank m c.args.deep c.requires.bank (next.least m past before)) in
     elim c.if-is_listed.branch [
       | then-is_listed w ↦
-          let inner = listed_inner os c.args.bank n c.args.deep c.requires.prime c.requires.other (sym c.is_listed.ensures ∙ w.if-is_listed.true) in
+          let inner = listed_inner os c.args.bank n c.args.deep c.requires.prime c.requires.other
+          (sym c.is_listed.ensures ∙ w.if-is_listed.true) in
           record {
             listed = listed_more test c.args.listed.now.items c.loop-number.listed.items c.if-is_listed.listed.items n so
-                (sym c.is_listed.ensures ∙ w.if-is_listed.true) (ap (λ (v : Vec ℕ Global). v.items) w.listed-is ∙ w.push_reserved.ensures.items);
+                (sym c.is_listed.ensures ∙ w.if-is_listed.true) (ap (λ (v : Vec ℕ Global). v.items) w.listed-is
+                ∙ w.push_reserved.ensures.items);
             count = omega (arith, next.past, c.loop-number.invariant.count, ap vec_len w.listed-is, w.push_reserved.ensures.len);
             room = ap vec_capacity w.listed-is ∙ w.push_reserved.ensures.capacity ∙ c.loop-number.invariant.room;
             within = omega (arith, next.inside);

@@ -10,7 +10,8 @@ returns-clause-runs g c =
     ∙ ap (λ (n : ℕ). in_memory c.args.answers.now.items n) c.new-writer.ensures.failures in
     subst (λ (v : Vec ℕ Global). RunsText g.S.ObjectStore.view g.S.Frames.parts c.args.kernel.now c.run-outcome.new.kernel c.args.text.now
     c.args.answers.now.items v.items c.run-outcome.result) (sym c.into_inner.ensures)
-    (runs_text g.S.ObjectStore.view g.S.Frames.parts c.crashes_in_runs_are_survived.ensures c.args.kernel.now c.run-outcome.new.kernel c.args.text.now
+    (runs_text g.S.ObjectStore.view g.S.Frames.parts c.crashes_in_runs_are_survived.ensures c.args.kernel.now c.run-outcome.new.kernel
+    c.args.text.now
     c.args.answers.now.items c.run-outcome.new.writer.inner.items c.run-outcome.new.writer.failures.number
     (in_memory writer.inner.items writer.failures.number) begins
     (Some c.new-reader.result.rest.now) (Some c.run-outcome.new.reader.rest.now) (ap (λ (bytes : List ℕ). Some bytes) c.new-reader.ensures)

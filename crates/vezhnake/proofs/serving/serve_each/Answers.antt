@@ -18,7 +18,8 @@ returns-then-is_last-clause-served g c =
     let in_replies : c.loop-index.index < length c.loop-index.replies = search rules in
     let is : slice_index_or (map command_of c.args.commands.now) c.loop-index.index None ≡ Some c.in-Some.command = search rules in
     served_next g.S.ObjectStore.view g.S.Frames.parts c.crashes_in_runs_are_survived.ensures c.args.kernel.now c.loop-index.kernel
-    c.reply_to-reply.new.kernel (map command_of c.args.commands.now) c.loop-index.replies c.loop-index.index c.in-Some.command c.reply_to-reply.result
+    c.reply_to-reply.new.kernel (map command_of c.args.commands.now) c.loop-index.replies c.loop-index.index c.in-Some.command
+    c.reply_to-reply.result
     in_commands in_replies is c.loop-index.invariant.served c.reply_to-reply.ensures
 
 pub loop-index-preserved : goal.loop-index-preserved
@@ -28,11 +29,13 @@ loop-index-preserved g c =
     let in_replies : c.loop-index.index < length c.loop-index.replies = search rules in
     let is : slice_index_or (map command_of c.args.commands.now) c.loop-index.index None ≡ Some c.in-Some.command = search rules in
     record {
-      served = served_next g.S.ObjectStore.view g.S.Frames.parts c.crashes_in_runs_are_survived.ensures c.args.kernel.now c.loop-index.kernel
+      served = served_next g.S.ObjectStore.view g.S.Frames.parts c.crashes_in_runs_are_survived.ensures c.args.kernel.now
+          c.loop-index.kernel
           c.reply_to-reply.new.kernel (map command_of c.args.commands.now) c.loop-index.replies c.loop-index.index c.in-Some.command
           c.reply_to-reply.result in_commands in_replies is c.loop-index.invariant.served c.reply_to-reply.ensures;
       rest = behind_next c.loop-index.replies c.args.replies.now c.loop-index.index c.reply_to-reply.result c.loop-index.invariant.rest;
       sized = length-set c.loop-index.replies c.loop-index.index c.reply_to-reply.result ∙ c.loop-index.invariant.sized;
-      goes_on = still_accepted c.args.stops c.is_last.result c.loop-index.replies c.loop-index.index c.reply_to-reply.result in_replies c.is_last.ensures
+      goes_on = still_accepted c.args.stops c.is_last.result c.loop-index.replies c.loop-index.index c.reply_to-reply.result in_replies
+          c.is_last.ensures
           c.if-is_last.false c.loop-index.invariant.goes_on;
     }

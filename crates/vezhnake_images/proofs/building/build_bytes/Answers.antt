@@ -14,6 +14,7 @@ returns-in-Ok-build_device c =
     let part = c.read_all.new.bytes in
     let same : length part ≡ c.sectors.result * 512 = search rules in
     subst (λ (n : ℕ). PutsImage c.args.text.now c.args.image.now (part ++ drop n c.args.image.now) n true) same
-    (image_put c.args.text.now c.args.image.now part c.in-Ok.blueprint c.in-Ok-build_device.device c.in-Ok.ensures.ok c.in-Ok-build_device.ensures.ok
+    (image_put c.args.text.now c.args.image.now part c.in-Ok.blueprint c.in-Ok-build_device.device c.in-Ok.ensures.ok
+    c.in-Ok-build_device.ensures.ok
     (same ∙ in_bytes c.sectors.result _ c.sectors.ensures.value) c.read_all.ensures.bytes
     (subst (λ (n : ℕ). n ≤ length c.args.image.now) (sym same) within))

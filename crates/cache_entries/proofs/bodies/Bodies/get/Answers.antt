@@ -5,7 +5,8 @@ pub returns-in-Free : goal.returns-in-Free
 returns-in-Free c = rw c.in-Free.is at (held c.self.invariant c.self.view_is c.requires c.index.ensures)
 
 pub returns-in-Page : goal.returns-in-Page
-returns-in-Page c = rw (c.in-Page.is, c.item.ensures, ← c.as_array.ensures) at (held c.self.invariant c.self.view_is c.requires c.index.ensures)
+returns-in-Page c = rw (c.in-Page.is, c.item.ensures, ← c.as_array.ensures) at
+    (held c.self.invariant c.self.view_is c.requires c.index.ensures)
 
 pub returns-in-Node : goal.returns-in-Node
 returns-in-Node c = rw (c.in-Node.is, c.item-in-Node.ensures) at (held c.self.invariant c.self.view_is c.requires c.index.ensures)

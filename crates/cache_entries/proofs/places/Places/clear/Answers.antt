@@ -11,7 +11,8 @@ returns c =
     let count : length i.places.items ≡ length c.args.self.now.places = grind (arith, nat_tests, length-map) in
     let most_is : most ≡ c.args.self.now.most = ap (λ (o : OrderState). o.most) view in
     let len : c.len-most.result ≡ most = c.len-most.ensures ∙ i.numbers.ok.0 in
-    rw (← most_is) (none_placed (keys_of c.restore_order.new.order.entries) i.numbers.items c.fill.new.self.items most (length c.args.self.now.places)
+    rw (← most_is) (none_placed (keys_of c.restore_order.new.order.entries) i.numbers.items c.fill.new.self.items most
+    (length c.args.self.now.places)
     c.self.invariant.some (c.restore_order.ensures most c.self.invariant.filled) (omega arith)
     (c.fill.ensures.items (λ y is. is) ∙ ap (λ (k : ℕ). replicate k c.len-most.result) (i.places.ok.0 ∙ count)
     ∙ ap (replicate (length c.args.self.now.places)) len)).view

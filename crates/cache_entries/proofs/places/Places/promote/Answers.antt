@@ -6,10 +6,14 @@ use Rattle.cache_entries.proofs.places.Places.promote.Goals as goal
 
 pub index-requires : goal.index-requires
 index-requires c =
-    omega (arith, place_known c.self.invariant c.args.number (listed_place c.self.invariant c.self.view_is c.args.number c.requires), c.self.inside.places.ok.0)
+    omega (
+      arith,
+      place_known c.self.invariant c.args.number (listed_place c.self.invariant c.self.view_is c.args.number c.requires),
+      c.self.inside.places.ok.0,
+    )
 
-after : (c : goal.After-promote) → Spreads (keys_of c.promote.new.self.entries) c.self.inside.numbers.items c.self.inside.places.items c.self.inside.count
-    (used_last c.args.number c.args.self.now)
+after : (c : goal.After-promote) → Spreads (keys_of c.promote.new.self.entries) c.self.inside.numbers.items c.self.inside.places.items
+    c.self.inside.count (used_last c.args.number c.args.self.now)
 after c =
     let below = listed_place c.self.invariant c.self.view_is c.args.number c.requires in
     let p = c.index.result.now in

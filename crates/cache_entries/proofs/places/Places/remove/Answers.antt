@@ -15,8 +15,10 @@ after c =
     let p = c.index.result.now in
     let keys = keys_of c.self.inside.order.entries in
     let same = known_place c.self.invariant c.args.number below p c.index.ensures in
-    rw (c.len.ensures ∙ c.self.inside.numbers.ok.0) (removed c.self.invariant c.args.number below c.self.view_is (keys_of c.demote.new.self.entries)
-    (c.self.inside.count - 1) (ap (λ (l : LruCache ℕ (Unit {0})). keys_of l.entries) c.demote.ensures.entries ∙ demoted_keys p c.self.inside.order.entries
+    rw (c.len.ensures ∙ c.self.inside.numbers.ok.0) (removed c.self.invariant c.args.number below c.self.view_is
+    (keys_of c.demote.new.self.entries)
+    (c.self.inside.count - 1) (ap (λ (l : LruCache ℕ (Unit {0})). keys_of l.entries) c.demote.ensures.entries
+    ∙ demoted_keys p c.self.inside.order.entries
     (ap (is_member keys) same ∙ listed c.self.invariant c.args.number below) ∙ ap (λ (q : ℕ). without q keys ++ q ∷ []) same)
     (omega (arith, count_some c.self.invariant c.args.number below)))
 

@@ -12,5 +12,6 @@ index-requires c =
     )
 
 pub returns : goal.returns
-returns c = λ after. used_behind c.self.invariant (ap (λ (l : LogState). l.uses) c.self.view_is) c.args.index c.index-number.result.now c.requires
+returns c = λ after. used_behind c.self.invariant (ap (λ (l : LogState). l.uses) c.self.view_is) c.args.index c.index-number.result.now
+    c.requires
     c.index-number.ensures c.index.result.now c.index.ensures (ltb-true c.args.index c.index.result.now after)

@@ -10,5 +10,6 @@ insert-place-requires-clause-room c =
 pub returns-clause-inserted : goal.returns-clause-inserted
 returns-clause-inserted c =
     let spare = c.spare_use in
-    inserted_view spare.new.log spare.new.order spare.ensures.log (spare.ensures.same ∙ c.self.view_is) c.args.number c.requires.absent c.len.ensures.spread
+    inserted_view spare.new.log spare.new.order spare.ensures.log (spare.ensures.same ∙ c.self.view_is) c.args.number c.requires.absent
+    c.len.ensures.spread
     c.insert-place.new.self c.insert-place.result c.insert-place.ensures.inserted c.push.new.self c.push.ensures

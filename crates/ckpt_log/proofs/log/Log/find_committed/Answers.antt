@@ -8,17 +8,20 @@ returns-in_err-read_directory-clause-refused g c =
     let p = err_from_is_err_and c.from_residual-in_err-read_directory.result c.from_residual-in_err-read_directory.ensures.1 in
     let h = c.in_ok-header.header in
     let has = c.in_ok-header.ensures.found in
-    let first = agrees_is (g.D.Device.disk c.find_header.new.device).seen (g.D.Device.disk c.args.device.now).seen c.in_ok-header.ensures.reads.seen in
+    let first = agrees_is (g.D.Device.disk c.find_header.new.device).seen (g.D.Device.disk c.args.device.now).seen
+    c.in_ok-header.ensures.reads.seen in
     let second = agrees_is (g.D.Device.disk c.read_directory.new.device).seen (g.D.Device.disk c.find_header.new.device).seen
     c.in_err-read_directory.ensures.reads.seen in
     rw (p.1, p.2) (bad_directory _ (second ∙ first)
-    (length-take-le h.entries c.args.directory.now (omega (arith, has.fits.entries, c.requires.room))) has c.in_err-read_directory.ensures.refused)
+    (length-take-le h.entries c.args.directory.now (omega (arith, has.fits.entries, c.requires.room))) has
+    c.in_err-read_directory.ensures.refused)
 
 pub returns-clause-found : goal.returns-clause-found
 returns-clause-found g c =
     let h = c.in_ok-header.header in
     let has = c.in_ok-header.ensures.found in
-    let first = agrees_is (g.D.Device.disk c.find_header.new.device).seen (g.D.Device.disk c.args.device.now).seen c.in_ok-header.ensures.reads.seen in
+    let first = agrees_is (g.D.Device.disk c.find_header.new.device).seen (g.D.Device.disk c.args.device.now).seen
+    c.in_ok-header.ensures.reads.seen in
     let second = agrees_is (g.D.Device.disk c.read_directory.new.device).seen (g.D.Device.disk c.find_header.new.device).seen
     c.in_ok-read_directory.ensures.reads.seen in
     has_committed _ (second ∙ first)

@@ -4,10 +4,12 @@ use Rattle.ckpt_log.proofs.Runs.{sync_run, commit_run, sync_order, commit_order,
 use Rattle.ckpt_log.proofs.log.Log.publish.Goals as goal
 
 pub returns-in_err-sync-clause-any_moment : goal.returns-in_err-sync-clause-any_moment
-returns-in_err-sync-clause-any_moment g c = sync_run c.requires.one (g.met.D.Device.only_now c.args.device.now) c.sync.ensures.time c.sync.ensures.crash
+returns-in_err-sync-clause-any_moment g c = sync_run c.requires.one (g.met.D.Device.only_now c.args.device.now) c.sync.ensures.time
+    c.sync.ensures.crash
 
 pub returns-in_err-sync-clause-in_order : goal.returns-in_err-sync-clause-in_order
-returns-in_err-sync-clause-in_order g c = sync_order c.args.header (g.met.D.Device.only_now c.args.device.now) c.sync.ensures.time c.sync.ensures.crash
+returns-in_err-sync-clause-in_order g c = sync_order c.args.header (g.met.D.Device.only_now c.args.device.now) c.sync.ensures.time
+    c.sync.ensures.crash
 
 pub returns-in_err-prepare-clause-any_moment : goal.returns-in_err-prepare-clause-any_moment
 returns-in_err-prepare-clause-any_moment g c =
@@ -23,7 +25,8 @@ returns-in_err-prepare-clause-in_order g c =
 pub open_gate-requires-clause-next : goal.open_gate-requires-clause-next
 open_gate-requires-clause-next g c =
     let mid = (g.D.Device.disk c.sync.new.self).seen in
-    let next = subst (λ (image : Image). Precedes image c.args.header) (sym (agrees_is mid (g.D.Device.disk c.args.device.now).seen c.sync.ensures.seen))
+    let next = subst (λ (image : Image). Precedes image c.args.header) (sym
+    (agrees_is mid (g.D.Device.disk c.args.device.now).seen c.sync.ensures.seen))
     c.requires.next in
     precedes_on next c.prepare.ensures.keeps
 
@@ -48,7 +51,8 @@ returns-clause-any_moment g c =
     let mid = (g.D.Device.disk c.sync.new.self).seen in
     let first = sync_run c.requires.one (g.met.D.Device.only_now c.args.device.now) c.sync.ensures.time c.sync.ensures.crash in
     commit_run (g.met.D.Device.seen_left c.args.device.now) c.sync.ensures.seen first
-    (publishing_run {old = g.D.Device.disk c.sync.new.self} {mid = g.D.Device.disk c.prepare.new.device} {new = g.D.Device.disk c.open_gate.new.device}
+    (publishing_run {old = g.D.Device.disk c.sync.new.self} {mid = g.D.Device.disk c.prepare.new.device}
+    {new = g.D.Device.disk c.open_gate.new.device}
     c.prepare.ensures.keeps c.prepare.ensures.any_moment c.open_gate.ensures.any_moment)
 
 pub returns-clause-in_order : goal.returns-clause-in_order
@@ -56,6 +60,7 @@ returns-clause-in_order g c =
     let first = sync_order c.args.header (g.met.D.Device.only_now c.args.device.now) c.sync.ensures.time c.sync.ensures.crash in
     commit_order c.args.header (g.met.D.Device.seen_left c.args.device.now) c.sync.ensures.seen first
     (publishing_order c.args.header
-    (g.D.Device.disk c.sync.new.self).seen {old = g.D.Device.disk c.sync.new.self} {mid = g.D.Device.disk c.prepare.new.device} {new = g.D.Device.disk
+    (g.D.Device.disk c.sync.new.self).seen {old = g.D.Device.disk c.sync.new.self} {mid = g.D.Device.disk c.prepare.new.device}
+    {new = g.D.Device.disk
     c.open_gate.new.device}
     c.prepare.ensures.in_order c.open_gate.ensures.in_order)

@@ -3,4 +3,5 @@ use Rattle.command_line.proofs.subcommands.Subcommand.command.Given as goal
 
 -- the command has the arguments so far
 abbrev pub invariant-loop-argument : goal.invariant-loop-argument
-invariant-loop-argument l = IsCommand (with_rules (new_app (subcommand_name l.fn.self)) (map argument_rule (take l.argument-index l.arguments))) l.command
+invariant-loop-argument l = IsCommand (with_rules (new_app (subcommand_name l.fn.self))
+    (map argument_rule (take l.argument-index l.arguments))) l.command

@@ -7,7 +7,8 @@ differs : (name other : Text) (s : Subcommand) → other ≡ subcommand_name s �
 differs name other s is apart = grind (arith, nat_tests, bytes_eq-Decides)
 
 pub loop-candidate-preserved : goal.loop-candidate-preserved
-loop-candidate-preserved c = All-more (λ (s : Subcommand). c.args.name.now ≢ subcommand_name s) subcommands c.loop-candidate.candidate-index _
+loop-candidate-preserved c = All-more (λ (s : Subcommand). c.args.name.now ≢ subcommand_name s) subcommands c.loop-candidate.candidate-index
+    _
     c.loop-candidate-test.true c.loop-candidate.invariant (differs c.args.name.now c.name.result.now _ c.name.ensures (search rules))
 
 pub returns : goal.returns

@@ -8,4 +8,5 @@ returns-in_err-words c =
     let which = name.Page c.args.index in
     let ms = table_view c.args.table.now in
     passed _ _ _ _ _ c.from_residual-in_err-words.ensures.1 c.in_err-words.ensures
-    (entries_in which PageWords ms (before_other which PageWords ms refl _ c.in_ok-number.ensures) IsWord refl (λ fits. fits) (λ d so. so) (λ d none. none))
+    (entries_in which PageWords ms (before_other which PageWords ms refl _ c.in_ok-number.ensures) IsWord refl (λ fits. fits) (λ d so. so)
+    (λ d none. none))

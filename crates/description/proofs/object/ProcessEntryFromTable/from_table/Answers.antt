@@ -8,4 +8,5 @@ returns-in_err-registers c =
     let i = c.args.index in
     let ms = table_view c.args.table.now in
     passed _ _ _ _ _ c.from_residual-in_err-registers.ensures.1 c.in_err-registers.ensures
-    (entries_in (name.Process i) ProcessRegisters ms (before_registers i ms _ c.in_ok-fields.ensures) IsSlot refl (λ fits. fits) (λ d so. so) (λ d none. none))
+    (entries_in (name.Process i) ProcessRegisters ms (before_registers i ms _ c.in_ok-fields.ensures) IsSlot refl (λ fits. fits)
+    (λ d so. so) (λ d none. none))

@@ -7,7 +7,8 @@ use Rattle.description.proofs.world.World.free.Goals as goal
 pub returns-clause-frames : goal.returns-clause-frames
 returns-clause-frames c =
     let all : c.loop.counter ≡ c.args.count = omega arith in
-    free_frames c.in_ok-headers.headers.items c.loop.contents.items c.args.count (c.in_ok-headers.ensures.items_if_clones_equal (λ y is. is))
+    free_frames c.in_ok-headers.headers.items c.loop.contents.items c.args.count
+    (c.in_ok-headers.ensures.items_if_clones_equal (λ y is. is))
     (rw all at c.loop.invariant)
 
 pub returns-clause-count : goal.returns-clause-count

@@ -14,16 +14,19 @@ invariant_of-self-clause-reported g c =
 pub invariant_of-self-2-clause-reported : goal.invariant_of-self-2-clause-reported
 invariant_of-self-2-clause-reported g c = elim c.else-not-self.branch [
   | else-not-self-via-then-not-self+else-is_ok w ↦ rw (w.self-is, c.then-self-2.ensures)
-      (tells_failed_sync c.args.self.now.history (g.F.RawFile.calls c.args.self.now.file) (g.F.RawFile.calls w.sync_all.new.file) c.args.self.now.reported
+      (tells_failed_sync c.args.self.now.history (g.F.RawFile.calls c.args.self.now.file) (g.F.RawFile.calls w.sync_all.new.file)
+      c.args.self.now.reported
       (where_err w.sync_all.result w.sync_all.ensures.err w.if-is_ok.ensures.value))
   | else-not-self-via-else-not-self w ↦ rw (w.self-is, c.then-self-2.ensures)
-      (tells_failed_sync c.args.self.now.history (g.F.RawFile.calls c.args.self.now.file) (g.F.RawFile.calls c.args.self.now.file) c.args.self.now.reported
+      (tells_failed_sync c.args.self.now.history (g.F.RawFile.calls c.args.self.now.file) (g.F.RawFile.calls c.args.self.now.file)
+      c.args.self.now.reported
       refl)
 ]
 
 pub invariant_of-self-2-clause-caused : goal.invariant_of-self-2-clause-caused
 invariant_of-self-2-clause-caused g c is = elim c.else-not-self.branch [
   | else-not-self-via-then-not-self+else-is_ok w ↦ rw w.self-is
-      (cause_is_some (g.F.RawFile.errors c.args.self.now.file) (g.F.RawFile.errors w.sync_all.new.file) w.sync_all.result w.sync_all.ensures.cause w.if-is_ok.ensures.value)
+      (cause_is_some (g.F.RawFile.errors c.args.self.now.file) (g.F.RawFile.errors w.sync_all.new.file) w.sync_all.result
+      w.sync_all.ensures.cause w.if-is_ok.ensures.value)
   | else-not-self-via-else-not-self w ↦ rw w.self-is (c.args.self.now.caused (search rules))
 ]

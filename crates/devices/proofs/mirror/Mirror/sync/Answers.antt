@@ -7,7 +7,8 @@ pub invariant_of-self : goal.invariant_of-self
 invariant_of-self c =
     let s = c.args.self.now.sound in
     let same = c.copy_written.auto.into ∙ ap length c.deref_mut.ensures.value in
-    let patched = rw (take_rest, c.deref-2.ensures.value, c.deref.ensures.value, c.deref_mut.ensures.value) at c.copy_written.ensures.patched in
+    let patched = rw (take_rest, c.deref-2.ensures.value, c.deref.ensures.value, c.deref_mut.ensures.value) at
+    c.copy_written.ensures.patched in
     let fits = rw c.deref_mut.ensures.value at c.copy_written.ensures.fits in
     record {
       sound = rw (
@@ -15,5 +16,6 @@ invariant_of-self c =
         c.len-self.ensures,
         c.note.new.entries.ok.0,
       )
-          (sound_synced _ _ _ _ _ _ s c.copy_written.new.into c.note.new.entries.items same (fits s.synced_fits) patched c.note.ensures.items);
+          (sound_synced _ _ _ _ _ _ s c.copy_written.new.into c.note.new.entries.items same (fits s.synced_fits) patched
+          c.note.ensures.items);
     }

@@ -17,12 +17,14 @@ returns-clause-zeros g c i lt =
 
 pub returns-clause-size : goal.returns-clause-size
 returns-clause-size g c =
-    let count : length c.in_ok-zeros.zeros ≡ 512 * c.args.sectors = ap length c.in_ok-zeros.ensures ∙ length-replicate (512 * c.args.sectors) 0 in
+    let count : length c.in_ok-zeros.zeros ≡ 512 * c.args.sectors = ap length c.in_ok-zeros.ensures
+    ∙ length-replicate (512 * c.args.sectors) 0 in
     omega (arith, c.over.ensures.size, count)
 
 pub returns-clause-mirror : goal.returns-clause-mirror
 returns-clause-mirror g c =
-    made_mirrors (file_disk c.over.result) c.args.path.now Create c.args.sectors _ (returns-clause-size g c) (returns-clause-zeros g c) (returns-clause-opening g c)
+    made_mirrors (file_disk c.over.result) c.args.path.now Create c.args.sectors _ (returns-clause-size g c) (returns-clause-zeros g c)
+    (returns-clause-opening g c)
 
 pub returns-clause-durable : goal.returns-clause-durable
 returns-clause-durable g c = c.over.ensures.durable

@@ -6,7 +6,8 @@ store-requires-clause-inside c = is_within c.self.inside.stored c.self.invariant
 
 put : (c : goal.After-store) → IsPut c.args.self.now c.args.at c.args.sector.now c.store.new.stored
 put c =
-    is_put c.self.inside.stored c.self.invariant c.args.self.now c.self.view_is c.store.new.stored c.args.at c.args.sector.now c.requires.inside
+    is_put c.self.inside.stored c.self.invariant c.args.self.now c.self.view_is c.store.new.stored c.args.at c.args.sector.now
+    c.requires.inside
     (is_sector c.args.sector.now c.requires.size c.type_inv.sector) c.store.ensures.here c.store.ensures.others c.store.ensures.length
 
 pub invariant_of-self : goal.invariant_of-self

@@ -9,5 +9,6 @@ place_in-requires-clause-sector c =
 pub returns-in-Some : goal.returns-in-Some
 returns-in-Some c =
     let made = rw (c.version-version.ensures.value, c.geometry.ensures.value, c.self.view_is) at c.place_in.ensures in
-    let is = place_lies (rw c.self.view_is at c.version-version.ensures.fits) c.requires.object (rw c.self.view_is at c.in-Some.ensures.value) made in
+    let is = place_lies (rw c.self.view_is at c.version-version.ensures.fits) c.requires.object
+    (rw c.self.view_is at c.in-Some.ensures.value) made in
     grind (arith, nat_tests)

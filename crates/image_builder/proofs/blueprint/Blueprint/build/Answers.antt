@@ -5,7 +5,8 @@ use Rattle.image_builder.proofs.blueprint.Blueprint.build.Goals as goal
 
 pub returns-clause-built : goal.returns-clause-built
 returns-clause-built g c table is =
-    built_from table c.self.inside.description (g.D.Device.disk c.args.device.now) (g.D.Device.disk c.build_described.new.device) c.build_described.result
+    built_from table c.self.inside.description (g.D.Device.disk c.args.device.now) (g.D.Device.disk c.build_described.new.device)
+    c.build_described.result
     (subst (IsDescription table) (sym c.self.view_is) is) c.build_described.ensures.built
 
 pub returns-clause-refused : goal.returns-clause-refused

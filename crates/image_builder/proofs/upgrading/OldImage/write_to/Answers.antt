@@ -8,7 +8,8 @@ pub returns-clause-upgraded : goal.returns-clause-upgraded
 returns-clause-upgraded g c = λ old opened.
     let disk = g.D.Device.disk in
     let o = subst (λ (s : DurableState g.row.D.Denot). IsOpenedFrom disk old s) (sym c.self.view_is) opened in
-    counted c.args.layout c.write_store-written.result.0 (disk old) (g.E.Device.disk c.args.new.now) (g.E.Device.disk c.write_store-written.new.new)
+    counted c.args.layout c.write_store-written.result.0 (disk old) (g.E.Device.disk c.args.new.now)
+    (g.E.Device.disk c.write_store-written.new.new)
     (saved_by disk (g.S.WholeStore.durable c.self.inside.store))
     o.saves c.self.invariant.sound c.write_store-written.ensures.writes.total c.write_store-written.ensures.writes.encodes
     c.write_store-written.ensures.writes.crash c.write_store-written.ensures.writes.zeros
@@ -18,7 +19,8 @@ pub returns-clause-refused : goal.returns-clause-refused
 returns-clause-refused g c = λ old opened.
     let disk = g.D.Device.disk in
     let o = subst (λ (s : DurableState g.row.D.Denot). IsOpenedFrom disk old s) (sym c.self.view_is) opened in
-    not_upgraded c.args.layout c.write_store-written.result.0 disk old (g.E.Device.disk c.args.new.now).sectors (saved_by disk (g.S.WholeStore.durable c.self.inside.store))
+    not_upgraded c.args.layout c.write_store-written.result.0 disk old (g.E.Device.disk c.args.new.now).sectors
+    (saved_by disk (g.S.WholeStore.durable c.self.inside.store))
     o.saves c.self.invariant.sound c.write_store-written.ensures.writes.small c.write_store-written.ensures.writes.opened
 
 pub returns-clause-any_moment : goal.returns-clause-any_moment
@@ -26,7 +28,8 @@ returns-clause-any_moment g c = λ old opened.
     let disk = g.D.Device.disk in
     let o = subst (λ (s : DurableState g.row.D.Denot). IsOpenedFrom disk old s) (sym c.self.view_is) opened in
     left_upgrading (disk old)
-    (saved_by disk (g.S.WholeStore.durable c.self.inside.store)) {before = g.E.Device.disk c.args.new.now} {new = g.E.Device.disk c.write_store-written.new.new}
+    (saved_by disk (g.S.WholeStore.durable c.self.inside.store)) {before = g.E.Device.disk c.args.new.now}
+    {new = g.E.Device.disk c.write_store-written.new.new}
     o.saves c.write_store-written.ensures.writes.any_moment
 
 pub returns-clause-reads : goal.returns-clause-reads

@@ -13,7 +13,8 @@ registers-requires-clause-sound g c = subst AreSound (sym c.in_ok-owner.ensures.
 pub registers-requires-clause-annex : goal.registers-requires-clause-annex
 registers-requires-clause-annex g c =
     let os = objects_in (g.F.Frames.parts c.args.store.now) in
-    let at : content_at os c.args.number ≡ content.Root c.in-Root.root = sym (ap (λ (o : Object). o.content) c.in_ok-owner.ensures.object) ∙ c.in-Root.is in
+    let at : content_at os c.args.number ≡ content.Root c.in-Root.root = sym (ap (λ (o : Object). o.content) c.in_ok-owner.ensures.object)
+    ∙ c.in-Root.is in
     root_annex os _ c.args.number c.in-Root.root (ap (λ (p : Parts). objects_in p) c.in_ok-owner.ensures.only_reads.same) at
     (λ process. (c.requires.sound.1.sound.annexes c.args.number process).0)
 
@@ -24,4 +25,5 @@ returns-in_err-registers-clause-only_reads g c =
 
 pub returns-clause-only_reads : goal.returns-clause-only_reads
 returns-clause-only_reads g c =
-    looked_well (looked_once (reads_after g.met.F.Frames.continues_twice c.in_ok-owner.ensures.only_reads c.in_ok-registers.ensures.only_reads))
+    looked_well (looked_once (reads_after g.met.F.Frames.continues_twice c.in_ok-owner.ensures.only_reads
+    c.in_ok-registers.ensures.only_reads))

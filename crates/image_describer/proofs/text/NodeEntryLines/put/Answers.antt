@@ -4,7 +4,8 @@ use Rattle.image_describer.proofs.text.NodeEntryLines.put.Goals as goal
 
 pub returns : goal.returns
 returns c = on_ok_weaker c.put_list_unless_empty.result (λ last.
-    object_added (string_bytes c.args.text.now) (string_bytes c.put_header.new.text) (string_bytes c.put_list_unless_empty.new.text) (codes "node")
+    object_added (string_bytes c.args.text.now) (string_bytes c.put_header.new.text) (string_bytes c.put_list_unless_empty.new.text)
+    (codes "node")
     (node_fields c.args.self.now) c.in_ok-put_header.ensures (
       string_bytes c.put_number.new.text,
       c.in_ok-put_number.ensures,
@@ -13,7 +14,8 @@ returns c = on_ok_weaker c.put_list_unless_empty.result (λ last.
         c.in_ok-put_number-2.ensures,
         (
           string_bytes c.put_list_unless_empty.new.text,
-          same_list (string_bytes c.put_number-2.new.text) (string_bytes c.put_list_unless_empty.new.text) (codes "slots") slot_text c.deref.result.now
+          same_list (string_bytes c.put_number-2.new.text) (string_bytes c.put_list_unless_empty.new.text) (codes "slots") slot_text
+              c.deref.result.now
               c.args.self.now.slots.items last c.deref.ensures.value,
           refl,
         ),

@@ -24,7 +24,8 @@ returns-in_err-draw_plain_slots g c =
     (spaced (codes "process" ∷ decimal c.args.self.now.root ∷ codes "annex" ∷ decimal c.args.self.now.annex ∷ []) ++ next_line
     (spaced (word_of_state c.args.self.now.state ∷ codes "key" ∷ decimal c.args.self.now.key ∷ [])))
     (plain_lines (codes "r") c.args.self.now.registers.items) (codes "ellipse"))
-    (rw (c.as_bytes.ensures, c.begin_process.ensures.text) at c.in_ok-write_fully.ensures) (rw c.as_slice.ensures.value at c.in_err-draw_plain_slots.ensures))
+    (rw (c.as_bytes.ensures, c.begin_process.ensures.text) at c.in_ok-write_fully.ensures)
+    (rw c.as_slice.ensures.value at c.in_err-draw_plain_slots.ensures))
 
 pub returns : goal.returns
 unfolding process_box
@@ -34,5 +35,6 @@ returns g c =
     (spaced (codes "process" ∷ decimal c.args.self.now.root ∷ codes "annex" ∷ decimal c.args.self.now.annex ∷ []) ++ next_line
     (spaced (word_of_state c.args.self.now.state ∷ codes "key" ∷ decimal c.args.self.now.key ∷ [])))
     (plain_lines (codes "r") c.args.self.now.registers.items) (codes "ellipse"))
-    (rw (c.as_bytes.ensures, c.begin_process.ensures.text) at c.in_ok-write_fully.ensures) (rw c.as_slice.ensures.value at c.in_ok-draw_plain_slots.ensures)
+    (rw (c.as_bytes.ensures, c.begin_process.ensures.text) at c.in_ok-write_fully.ensures)
+    (rw c.as_slice.ensures.value at c.in_ok-draw_plain_slots.ensures)
     c.write_fully-2.ensures

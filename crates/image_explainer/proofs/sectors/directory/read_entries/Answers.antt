@@ -6,6 +6,7 @@ loop-i-init c = none_read c.args.bytes.now c.args.into.now
 
 pub loop-i-preserved : goal.loop-i-preserved
 loop-i-preserved c =
-    entry_read c.args.bytes.now c.loop-i.into c.loop-i.i c.number_at.result c.number_at-in-loop-i.result (omega arith) c.loop-i.invariant (omega arith)
+    entry_read c.args.bytes.now c.loop-i.into c.loop-i.i c.number_at.result c.number_at-in-loop-i.result (omega arith) c.loop-i.invariant
+    (omega arith)
     (omega arith)
     c.number_at.ensures.rest c.number_at-in-loop-i.ensures.rest

@@ -8,6 +8,7 @@ returns-then-number-geometry c = λ image copy.
 
 pub returns-else-number-geometry : goal.returns-else-number-geometry
 returns-else-number-geometry c = λ image copy.
-    page_at c.args.geometry c.args.age c.args.number c.args.sector image c.args.shape c.sectors-block.result.now c.find_part-else-number-geometry.result
+    page_at c.args.geometry c.args.age c.args.number c.args.sector image c.args.shape c.sectors-block.result.now
+    c.find_part-else-number-geometry.result
     c.requires.shape c.if-number-geometry.false c.sectors-block.ensures.size (c.sectors-block.ensures.value image copy)
     c.find_part-else-number-geometry.ensures

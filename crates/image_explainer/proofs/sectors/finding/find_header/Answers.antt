@@ -16,5 +16,6 @@ returns-clause-found c = λ image copy plan.
 pub returns-clause-fits : goal.returns-clause-fits
 returns-clause-fits c =
     subst (λ (g : Geometry). MatchControlFlow c.choose.result (IsHeader g.log) (λ _. ⊤)) c.geometry.ensures.value
-    (header_fits c.geometry.result.log c.sectors.result.now c.sectors-2.result.now c.sectors-3.result.now c.sectors-4.result.now c.choose.result
+    (header_fits c.geometry.result.log c.sectors.result.now c.sectors-2.result.now c.sectors-3.result.now c.sectors-4.result.now
+    c.choose.result
     c.choose.ensures)

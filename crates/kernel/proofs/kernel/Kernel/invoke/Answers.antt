@@ -30,7 +30,8 @@ invariant_of-self-in-Fault g c =
     rw (c.go_down.ensures.down, c.go_down.ensures.device device refl)
     (some_after _ _ _ (power.Up c.in-Some.live) (power.Down device) did (answer.Refused refusal.Fault)
     (goes_down _ _ _ c.in-Some.live c.invoke.new.live did device (g.met.D.Device.counts_now _)
-    (rw c.in-Fault.is at c.in-Err.ensures.serves) refl) (some_up _ _ _ c.self.inside.live c.self.inside.device c.in-Some.live c.in-Some.is c.self.invariant))
+    (rw c.in-Fault.is at c.in-Err.ensures.serves) refl) (some_up _ _ _ c.self.inside.live c.self.inside.device c.in-Some.live c.in-Some.is
+    c.self.invariant))
 
 pub returns-in-Fault-clause-serves : goal.returns-in-Fault-clause-serves
 returns-in-Fault-clause-serves g c =
@@ -42,7 +43,13 @@ returns-in-Fault-clause-serves g c =
 
 pub returns-in-Fault-clause-cause : goal.returns-in-Fault-clause-cause
 returns-in-Fault-clause-cause g c =
-    rw (← c.self.view_is, c.in-Some.is, c.go_down.ensures.down, c.go_down.ensures.device (g.S.ObjectStore.view c.invoke.new.live.store).beneath refl)
+    rw (
+      ← c.self.view_is,
+      c.in-Some.is,
+      c.go_down.ensures.down,
+      c.go_down.ensures.device
+          (g.S.ObjectStore.view c.invoke.new.live.store).beneath refl,
+    )
     (rw c.in-Fault.is at c.in-Err.ensures.cause)
 
 pub invariant_of-self-in_default : goal.invariant_of-self-in_default

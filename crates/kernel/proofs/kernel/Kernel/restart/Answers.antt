@@ -12,7 +12,8 @@ pub returns-clause-serves : goal.returns-clause-serves
 returns-clause-serves g c =
     opened_again g.D.Device.disk g.S.ObjectStore.view g.S.Frames.parts c.args.self.now _ c.take_device-device.result command.Restart
     c.rise.result (rw (← c.self.view_is) c.take_device-device.ensures.is) (inl refl) c.take_device-device.result
-    (left_alone g.D.Device.disk g.S.ObjectStore.view g.S.Frames.parts c.take_device-device.result (g.met.D.Device.only_now _)) c.rise.ensures.reopened
+    (left_alone g.D.Device.disk g.S.ObjectStore.view g.S.Frames.parts c.take_device-device.result (g.met.D.Device.only_now _))
+    c.rise.ensures.reopened
 
 pub returns-clause-cause : goal.returns-clause-cause
 returns-clause-cause g c =
@@ -21,7 +22,8 @@ returns-clause-cause g c =
 
 pub invariant_of-self : goal.invariant_of-self
 invariant_of-self g c =
-    risen_some g.D.Device.disk g.S.ObjectStore.view g.S.Frames.parts (power_of c.rise.new.live c.rise.new.device) c.take_device-device.result c.rise.result
+    risen_some g.D.Device.disk g.S.ObjectStore.view g.S.Frames.parts (power_of c.rise.new.live c.rise.new.device)
+    c.take_device-device.result c.rise.result
     (some_down g.D.Device.disk g.S.ObjectStore.view g.S.Frames.parts c.args.self.now c.take_device-device.result
     (rw (← c.self.view_is) c.self.invariant) (rw (← c.self.view_is) c.take_device-device.ensures.is))
     c.rise.ensures.reopened

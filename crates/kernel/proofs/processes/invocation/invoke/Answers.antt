@@ -18,7 +18,8 @@ returns-clause-serves g c =
 pub returns-in_err-code-clause-serves : goal.returns-in_err-code-clause-serves
 returns-in_err-code-clause-serves g c =
     let p = err_from_is_err_and c.from_residual.result c.from_residual.ensures.1 in
-    rw (p.1, p.2) (fault_serves g.F.Frames.parts g.F.Frames.ContinuesTo c.args.age.now c.args.store.now c.invoke.new.store c.args.invocation.now
+    rw (p.1, p.2) (fault_serves g.F.Frames.parts g.F.Frames.ContinuesTo c.args.age.now c.args.store.now c.invoke.new.store
+    c.args.invocation.now
     (sym c.is_process.ensures ∙ c.if-not-is_process.false) c.requires.sound (c.is_worn.ensures.young c.if-is_worn.false) _
     c.in_err-code.ensures.state c.in_err-code.ensures.invoked)
 

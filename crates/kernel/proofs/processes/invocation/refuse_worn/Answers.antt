@@ -9,7 +9,8 @@ returns-in-Some-clause-serves g c age sound old_age =
     let i = c.args.invocation.now in
     let early = subst (IsEarly (objects_in old) i.process) c.in-Some.is c.in-Ok.ensures.why in
     refused_serves c.early.ensures.fetches.snapshots.same sound c.early.ensures.fetches.snapshots.later
-    (reported_cause c.in-Some.refusal (early_fine (objects_in old) i.process c.in-Some.refusal early) (ok_stayed c.in-Ok.why c.in-Ok.ensures.fetches.cause))
+    (reported_cause c.in-Some.refusal (early_fine (objects_in old) i.process c.in-Some.refusal early)
+    (ok_stayed c.in-Ok.why c.in-Ok.ensures.fetches.cause))
     (λ renewed frozen saved to_move other. early_step old.geometry _ i c.in-Some.refusal early)
 
 pub returns-in-None-clause-serves : goal.returns-in-None-clause-serves

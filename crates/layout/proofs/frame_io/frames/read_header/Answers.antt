@@ -7,5 +7,6 @@ pub returns-clause-found : goal.returns-clause-found
 returns-clause-found g c =
     let zeros : List ℕ = replicate 4608 0 in
     let size = length-take-le (512 * c.args.shape.sectors) zeros (omega (arith, c.requires.few, length-replicate {A = ℕ} 4608 0)) in
-    header_there (g.D.Device.disk c.read_sectors.new.device).seen c.args.at c.args.shape (omega (arith, c.requires, c.read_sectors.ensures.length, size))
+    header_there (g.D.Device.disk c.read_sectors.new.device).seen c.args.at c.args.shape
+    (omega (arith, c.requires, c.read_sectors.ensures.length, size))
     c.requires.least c.in_ok-read_sectors.ensures.bytes c.header_in.ensures

@@ -26,10 +26,12 @@ returns-in-Whole-clause-found g c =
 
 pub returns-in-Torn-clause-found : goal.returns-in-Torn-clause-found
 returns-in-Torn-clause-found g c =
-    IfOk-weaker c.fetch_below.result _ _ (λ read e. e ∙ newest_by (seen_by (g.D.Device.disk c.args.device.now).seen c.args.self.now) c.args.self.now
+    IfOk-weaker c.fetch_below.result _ _ (λ read e. e ∙ newest_by (seen_by (g.D.Device.disk c.args.device.now).seen c.args.self.now)
+    c.args.self.now
     c.requires.object (sym c.place.ensures ∙ c.in-Torn.is)) c.fetch_below.ensures.found
 
 pub returns-in-Nowhere-clause-found : goal.returns-in-Nowhere-clause-found
 returns-in-Nowhere-clause-found g c =
-    IfOk-weaker c.fetch_below-in-Nowhere.result _ _ (λ read e. e ∙ newest_by (seen_by (g.D.Device.disk c.args.device.now).seen c.args.self.now)
+    IfOk-weaker c.fetch_below-in-Nowhere.result _ _ (λ read e. e ∙ newest_by
+    (seen_by (g.D.Device.disk c.args.device.now).seen c.args.self.now)
     c.args.self.now c.requires.object (sym c.place.ensures ∙ c.in-Nowhere.is)) c.fetch_below-in-Nowhere.ensures.found

@@ -8,4 +8,5 @@ read_again-requires-clause-spelt g c = rw c.as_slice-named.ensures (spelt_raw c.
 
 pub returns-clause-found : goal.returns-clause-found
 returns-clause-found g c =
-    IfOk-weaker c.read_again.result _ _ (λ read e. e ∙ read_raw c.requires.stands c.requires.object) (rw c.as_slice-named.ensures at c.read_again.ensures.found)
+    IfOk-weaker c.read_again.result _ _ (λ read e. e ∙ read_raw c.requires.stands c.requires.object)
+    (rw c.as_slice-named.ensures at c.read_again.ensures.found)

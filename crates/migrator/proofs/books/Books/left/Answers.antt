@@ -13,5 +13,6 @@ overflow_sub-result c =
 pub returns-in-Some : goal.returns-in-Some
 returns-in-Some c image =
     let b = c.args.self.now in
-    ap (λ (n : ℕ). Some (c.in-Some.size - n)) (c.whole.ensures ∙ sym (kept_whole image b.plan (frozen_generation b) b.frozen c.requires.2.frozen.count))
+    ap (λ (n : ℕ). Some (c.in-Some.size - n)) (c.whole.ensures ∙ sym (kept_whole image b.plan (frozen_generation b) b.frozen
+    c.requires.2.frozen.count))
     ∙ ap (λ o. option_map left_of (option_map (frozen_of image b) o)) (sym c.in-Some.is)

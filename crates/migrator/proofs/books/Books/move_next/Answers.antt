@@ -16,20 +16,24 @@ copy_home-requires-clause-directory g c = rw c.as_slice-entries.ensures c.requir
 pub returns-in_err-copy_home-clause-stands : goal.returns-in_err-copy_home-clause-stands
 returns-in_err-copy_home-clause-stands g c =
     uncopied_durable (g.D.Device.disk c.copy_home.new.device) c.requires.stands c.requires.some
-    (rw c.as_slice-entries.ensures at (c.is_first.ensures.yes c.if-not-is_first.false)) (rw c.as_slice-entries.ensures at c.copy_home.ensures.touches)
+    (rw c.as_slice-entries.ensures at (c.is_first.ensures.yes c.if-not-is_first.false))
+    (rw c.as_slice-entries.ensures at c.copy_home.ensures.touches)
 
 pub returns-in_err-copy_home-clause-unmoved : goal.returns-in_err-copy_home-clause-unmoved
 returns-in_err-copy_home-clause-unmoved g c =
     on_err c.from_residual.result (uncopied_moved (g.D.Device.disk c.copy_home.new.device) c.requires.stands c.requires.some
-    (rw c.as_slice-entries.ensures at (c.is_first.ensures.yes c.if-not-is_first.false)) (rw c.as_slice-entries.ensures at c.copy_home.ensures.touches))
+    (rw c.as_slice-entries.ensures at (c.is_first.ensures.yes c.if-not-is_first.false))
+    (rw c.as_slice-entries.ensures at c.copy_home.ensures.touches))
 
 pub returns-clause-stands : goal.returns-clause-stands
 returns-clause-stands g c =
     copied_durable (g.D.Device.disk c.copy_home.new.device) c.requires.stands c.requires.some
-    (rw c.as_slice-entries.ensures at (c.is_first.ensures.yes c.if-not-is_first.false)) (rw c.as_slice-entries.ensures at c.copy_home.ensures.touches)
+    (rw c.as_slice-entries.ensures at (c.is_first.ensures.yes c.if-not-is_first.false))
+    (rw c.as_slice-entries.ensures at c.copy_home.ensures.touches)
     (rw c.as_slice-entries.ensures at c.in_ok-copy_home.ensures.copied)
 
 pub returns-clause-moved : goal.returns-clause-moved
 returns-clause-moved g c =
     copied_moved (g.D.Device.disk c.copy_home.new.device) c.requires.stands c.requires.some
-    (rw c.as_slice-entries.ensures at (c.is_first.ensures.yes c.if-not-is_first.false)) (rw c.as_slice-entries.ensures at c.copy_home.ensures.touches)
+    (rw c.as_slice-entries.ensures at (c.is_first.ensures.yes c.if-not-is_first.false))
+    (rw c.as_slice-entries.ensures at c.copy_home.ensures.touches)

@@ -45,7 +45,8 @@ returns g c =
     let done : c.loop.counter ≡ c.args.count = search rules in
     record {
       stands = c.loop.invariant.0;
-      moved = subst (λ (n : ℕ). MovedBy (g.D.Device.disk c.args.device.now) (g.D.Device.disk c.loop.device) c.args.self.now c.loop.self n) done
+      moved = subst (λ (n : ℕ). MovedBy (g.D.Device.disk c.args.device.now) (g.D.Device.disk c.loop.device) c.args.self.now c.loop.self n)
+          done
           c.loop.invariant.1;
       unmoved = tt;
       none = λ none. c.loop.invariant.3 (done ∙ none);

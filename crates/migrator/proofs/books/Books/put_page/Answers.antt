@@ -12,5 +12,6 @@ returns-clause-spelt g c =
     let idle = c.requires.idle in
     let words = words_fit c.requires.words (λ i. let fits = c.type_inv.words i in omega (arith, fits)) in
     on_ok_weaker c.write_page.result
-    (spelt_page idle.stands idle.free idle.home (rw c.new-log.ensures at c.write_page.ensures.writes) c.args.number c.requires.page c.requires.header words)
+    (spelt_page idle.stands idle.free idle.home (rw c.new-log.ensures at c.write_page.ensures.writes) c.args.number c.requires.page
+    c.requires.header words)
     (rw c.new-log.ensures at c.write_page.ensures.written)

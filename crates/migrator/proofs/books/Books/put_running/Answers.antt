@@ -18,4 +18,5 @@ returns-in_err-tear_and_write_back g c =
     puts_none c.args.number c.tear_and_write_back.ensures.torn c.from_residual.ensures.0 c.in_err-tear_and_write_back.ensures.cause
 
 pub returns : goal.returns
-returns g c = puts_after c.args.number c.tear_and_write_back.ensures.torn (counted_ok c.in_ok-tear_and_write_back.ensures.cause) c.put_written.ensures
+returns g c = puts_after c.args.number c.tear_and_write_back.ensures.torn (counted_ok c.in_ok-tear_and_write_back.ensures.cause)
+    c.put_written.ensures

@@ -30,11 +30,14 @@ read_put-requires-clause-slot g c =
 pub read_put-requires-clause-spelt : goal.read_put-requires-clause-spelt
 read_put-requires-clause-spelt g c =
     let at = rw c.new-log.ensures at c.slot_sector-sector.ensures.value in
-    let raw = frozen_raw c.requires.stands c.args.slot c.args.number (λ u some here. c.is_for.ensures.no c.if-is_for.false u some (here ∙ sym at)) in
+    let raw = frozen_raw c.requires.stands c.args.slot c.args.number (λ u some here. c.is_for.ensures.no c.if-is_for.false u some
+    (here ∙ sym at)) in
     rw (← raw) (c.requires.stands.kept.frozen.spelt c.args.number c.args.slot c.requires.object c.requires.place)
 
 pub returns-clause-found : goal.returns-clause-found
 returns-clause-found g c =
     let at = rw c.new-log.ensures at c.slot_sector-sector.ensures.value in
-    let raw = frozen_raw c.requires.stands c.args.slot c.args.number (λ u some here. c.is_for.ensures.no c.if-is_for.false u some (here ∙ sym at)) in
-    IfOk-weaker c.read_put.result _ _ (λ read e. e ∙ ap (frame_from c.args.self.now.plan.geometry c.args.number) (sym raw)) c.read_put.ensures.found
+    let raw = frozen_raw c.requires.stands c.args.slot c.args.number (λ u some here. c.is_for.ensures.no c.if-is_for.false u some
+    (here ∙ sym at)) in
+    IfOk-weaker c.read_put.result _ _ (λ read e. e ∙ ap (frame_from c.args.self.now.plan.geometry c.args.number) (sym raw))
+    c.read_put.ensures.found

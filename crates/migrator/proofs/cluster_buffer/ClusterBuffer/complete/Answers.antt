@@ -11,15 +11,18 @@ write-requires g c = record {
 
 pub returns-in_err-write-clause-keeps : goal.returns-in_err-write-clause-keeps
 returns-in_err-write-clause-keeps g c =
-    keeps_written (g.met.D.Device.only_now c.args.device.now) c.requires.directory c.requires.unwritten c.write.ensures.seen c.write.ensures.touches
+    keeps_written (g.met.D.Device.only_now c.args.device.now) c.requires.directory c.requires.unwritten c.write.ensures.seen
+    c.write.ensures.touches
     (λ none. ap g.D.Device.disk (c.write.ensures.nothing none)) (inr c.in_err-write.ensures.kept)
 
 pub loop-index-init : goal.loop-index-init
 loop-index-init g c =
-    let keeps = keeps_written (g.met.D.Device.only_now c.args.device.now) c.requires.directory c.requires.unwritten c.write.ensures.seen c.write.ensures.touches
+    let keeps = keeps_written (g.met.D.Device.only_now c.args.device.now) c.requires.directory c.requires.unwritten c.write.ensures.seen
+    c.write.ensures.touches
     (λ none. ap g.D.Device.disk (c.write.ensures.nothing none)) (inl c.in_ok-write.ensures.written) in (
       c.in_ok-write.ensures.written,
-      subst (λ (o : Option Unwritten). Keeps c.args.plan.now c.args.generation c.args.entries.now (g.D.Device.disk c.args.device.now) c.args.self.now
+      subst (λ (o : Option Unwritten). Keeps c.args.plan.now c.args.generation c.args.entries.now (g.D.Device.disk c.args.device.now)
+          c.args.self.now
           (g.D.Device.disk c.write.new.device) o) c.in_ok-write.ensures.written keeps,
       (λ i lt. absurd (omega (arith, lt))),
       counted_ok c.in_ok-write.ensures.cause,
@@ -37,10 +40,12 @@ loop-index-preserved g c =
       none,
       keeps_more c.requires.plan c.requires.directory c.loop-index-test.true c.loop-index.invariant.1 one,
       (λ i lt. elim (cases_lt i c.loop-index.index) [
-        | inl less ↦ complete_stays c.args.generation c.loop-index.index c.requires.plan c.requires.directory c.loop-index-test.true one.elsewhere less
+        | inl less ↦ complete_stays c.args.generation c.loop-index.index c.requires.plan c.requires.directory c.loop-index-test.true
+            one.elsewhere less
             (c.loop-index.invariant.2 i less)
         | inr le ↦ let same : c.loop-index.index ≡ i = omega (arith, lt, le) in subst
-            (λ (k : ℕ). IsComplete (g.D.Device.disk c.complete_one.new.device).seen c.args.plan.now c.args.generation c.args.entries.now k) same
+            (λ (k : ℕ). IsComplete (g.D.Device.disk c.complete_one.new.device).seen c.args.plan.now c.args.generation c.args.entries.now k)
+            same
             c.in_ok-complete_one.ensures.complete
       ]),
       counted_ok c.in_ok-complete_one.ensures.cause ∙ c.loop-index.invariant.3,

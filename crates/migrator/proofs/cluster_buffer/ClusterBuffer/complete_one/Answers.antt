@@ -11,16 +11,18 @@ use Rattle.migrator.proofs.Completing.{either_of, kept_one, one_complete, long_o
 use Rattle.migrator.proofs.cluster_buffer.ClusterBuffer.complete_one.Goals as goal
 
 -- nothing is written
-read_keeps : {p : Plan} {generation : ℕ} {es : List Entry} {i : ℕ} {old new : Disk} {now : Option Unwritten} → now ≡ None → ReadsOnly old new →
-    KeepsOne p generation es i old new now
+read_keeps : {p : Plan} {generation : ℕ} {es : List Entry} {i : ℕ} {old new : Disk} {now : Option Unwritten} → now ≡ None →
+    ReadsOnly old new → KeepsOne p generation es i old new now
 read_keeps {p} {generation} {es} {i} {old} {new} none reads = subst (KeepsOne p generation es i old new) (sym none) (record {
   touches = reads_touch reads;
   elsewhere = elsewhere_same (slot_sector p generation (entry_at es i).slot) 8 old.seen new.seen reads.seen;
-  own = ap (λ (image : Image). slot_bytes image p generation (entry_at es i).slot (entry_at es i).object) (agrees_is new.seen old.seen reads.seen);
+  own = ap (λ (image : Image). slot_bytes image p generation (entry_at es i).slot (entry_at es i).object)
+      (agrees_is new.seen old.seen reads.seen);
   unwritten = tt;
 })
 
-none_still : (sector : Option ℕ) (old new : List ℕ) {was : Option Unwritten} → unwritten_of sector old ≡ was → was ≡ None → unwritten_of sector new ≡ None
+none_still : (sector : Option ℕ) (old new : List ℕ) {was : Option Unwritten} → unwritten_of sector old ≡ was → was ≡ None →
+    unwritten_of sector new ≡ None
 none_still None old new is none = refl
 none_still (Some sector) old new is none = cc
 
@@ -46,7 +48,8 @@ returns-then-not-is_first g c =
     let follows = c.is_first.ensures.no c.if-not-is_first.true in
     record {
       none = c.requires.none;
-      complete = later_complete c.args.generation c.args.index c.shape.ensures.plan c.requires.directory c.requires.within disk.seen follows;
+      complete = later_complete c.args.generation c.args.index c.shape.ensures.plan c.requires.directory c.requires.within disk.seen
+          follows;
       zeros = λ first long. absurd (first (c.args.index - 1) (omega (arith, follows.0)) follows.1);
       keeps = read_keeps c.requires.none (reads_none (g.met.D.Device.only_now c.args.device.now));
       cause = ok_counts refl;
@@ -58,7 +61,8 @@ returns-in_err-fill g c =
       none = search rules;
       complete = search rules;
       zeros = search rules;
-      keeps = read_keeps (none_still c.self.inside.sector c.self.inside.bytes.items (with_items c.self.inside.bytes c.fill.new.cluster).items c.self.view_is
+      keeps = read_keeps (none_still c.self.inside.sector c.self.inside.bytes.items
+          (with_items c.self.inside.bytes c.fill.new.cluster).items c.self.view_is
           c.requires.none) c.fill.ensures.reads;
       cause = err_counts c.from_residual.ensures.0 c.in_err-fill.ensures.cause;
     }
@@ -80,9 +84,11 @@ returns g c =
     record {
       none = c.write.ensures.written;
       complete = on_ok_weaker c.write.result
-          (λ none. one_complete c.args.generation c.args.index c.shape.ensures.plan c.requires.directory c.requires.within packed c.fill.new.cluster
+          (λ none. one_complete c.args.generation c.args.index c.shape.ensures.plan c.requires.directory c.requires.within packed
+          c.fill.new.cluster
           c.fill.ensures.size c.write.new.self c.in_ok-fill.ensures.filled seen touches either none) c.write.ensures.written;
-      zeros = on_ok_weaker c.write.result (λ none first long. zeros_written c.args.plan.now entry.object mid.seen (g.D.Device.disk c.write.new.device).seen u c.fill.ensures.size
+      zeros = on_ok_weaker c.write.result (λ none first long. zeros_written c.args.plan.now entry.object mid.seen
+          (g.D.Device.disk c.write.new.device).seen u c.fill.ensures.size
           there none c.in_ok-fill.ensures.zeros) c.write.ensures.written;
       keeps = kept_one c.args.generation c.args.index c.shape.ensures.plan c.requires.directory c.requires.within packed c.fill.new.cluster
           c.fill.ensures.size c.write.new.self c.in_ok-fill.ensures.filled seen touches either;

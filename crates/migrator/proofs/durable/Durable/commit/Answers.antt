@@ -31,7 +31,8 @@ commit-requires g c =
     let none : c.in-Some.left ≡ 0 = search rules in
     let size = frozen_size image b (sym (c.left.ensures image) ∙ c.in-Some.is ∙ ap Some none) in
     let whole = kept_whole image b.plan (frozen_generation b) b.frozen c.self.invariant.kept.frozen.count in
-    let ready = subst (λ t. (f : FrozenPuts) → (stored_of g.D.Device.disk t).frozen ≡ Some f → MayCommit puts c.args.age f (stored_of g.D.Device.disk t).saved)
+    let ready = subst (λ t. (f : FrozenPuts) → (stored_of g.D.Device.disk t).frozen ≡ Some f →
+    MayCommit puts c.args.age f (stored_of g.D.Device.disk t).saved)
     (sym c.self.view_is) c.requires.ready in
     let may = ready (frozen_of image b size.0) (ap (option_map (frozen_of image b)) size.1) in (
       size.0,

@@ -22,5 +22,6 @@ returns-clause-frozen g c =
     let disk = g.D.Device.disk c.self.inside.device in
     let b = c.self.inside.books in
     let none : b.frozen_size ≡ None = search rules in
-    rw c.freeze.ensures (subst (λ t. stored_on disk (frozen_books b c.args.size) ≡ freezing_puts c.args.size (stored_of g.D.Device.disk t)) c.self.view_is
+    rw c.freeze.ensures (subst (λ t. stored_on disk (frozen_books b c.args.size) ≡ freezing_puts c.args.size (stored_of g.D.Device.disk t))
+    c.self.view_is
     (freeze_stored disk.sectors (seen_by disk.seen b) b c.args.size none c.self.invariant.kept))

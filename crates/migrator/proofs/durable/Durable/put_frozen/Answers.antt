@@ -7,7 +7,8 @@ pub put_running-requires : goal.put_running-requires
 put_running-requires g c =
     let disk = g.D.Device.disk c.self.inside.device in
     let b = c.self.inside.books in
-    let room = subst (λ t. (f : FrozenPuts) → (stored_of g.D.Device.disk t).frozen ≡ Some f → HasFreeSlot f.size f.put c.args.number) (sym c.self.view_is)
+    let room = subst (λ t. (f : FrozenPuts) → (stored_of g.D.Device.disk t).frozen ≡ Some f → HasFreeSlot f.size f.put c.args.number)
+    (sym c.self.view_is)
     c.requires.room in (
       c.in-Some.field-0,
       record {
@@ -16,6 +17,7 @@ put_running-requires g c =
         object = subst (λ t. IsObject t.books.plan.geometry c.args.number) (sym c.self.view_is) c.requires.object;
         keepable = subst (λ t. IsKeepable t.books.plan.geometry most c.args.number
             (record { header = c.args.header; content = (content_behind c.args.content) })) (sym c.self.view_is) c.requires.keepable;
-        room = room (frozen_of (seen_by disk.seen b) b c.in-Some.field-0) (ap (option_map (frozen_of (seen_by disk.seen b) b)) c.in-Some.is);
+        room = room (frozen_of (seen_by disk.seen b) b c.in-Some.field-0) (ap (option_map (frozen_of (seen_by disk.seen b) b))
+            c.in-Some.is);
       },
     )

@@ -9,7 +9,8 @@ pub returns-in-Ok-read_into-clause-whole : goal.returns-in-Ok-read_into-clause-w
 returns-in-Ok-read_into-clause-whole g c =
     let read = c.sync_and_read_superblock.ensures.only_reads in
     let seen = agrees_is (g.D.Device.disk c.sync_and_read_superblock.new.device).seen (g.D.Device.disk c.args.device.now).seen read.seen in
-    subst (λ (i : Image). IsReadInto g.I.Intake.Took i c.in-Ok.plan c.in-Ok-read_into.header c.read_into.new.reserve c.in-Ok-read_into.taken) seen
+    subst (λ (i : Image). IsReadInto g.I.Intake.Took i c.in-Ok.plan c.in-Ok-read_into.header c.read_into.new.reserve
+    c.in-Ok-read_into.taken) seen
     c.in-Ok-read_into.ensures.whole
 
 pub returns-in-Ok-read_into-clause-only_reads : goal.returns-in-Ok-read_into-clause-only_reads

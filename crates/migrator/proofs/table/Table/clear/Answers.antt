@@ -7,4 +7,5 @@ pub invariant_of-self : goal.invariant_of-self
 invariant_of-self c =
     let size = c.clear_places.auto.places ∙ ap length c.deref_mut.ensures.value in
     let all = rewritten c.self.inside.places.items size c.self.inside.places.ok.0 in
-    blank_is (length c.deref_mut.result.now) (all ∙ c.clear_places.ensures.places) (c.clear_places.ensures.held ∙ sym (ap (map is_held) all))
+    blank_is (length c.deref_mut.result.now) (all ∙ c.clear_places.ensures.places)
+    (c.clear_places.ensures.held ∙ sym (ap (map is_held) all))

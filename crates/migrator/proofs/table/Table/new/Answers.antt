@@ -5,4 +5,5 @@ use Rattle.migrator.proofs.table.Table.new.Goals as goal
 
 pub invariant_of-result : goal.invariant_of-result
 invariant_of-result c =
-    blank_is c.args.count c.in_ok-places.ensures (c.in_ok-held.ensures ∙ unheld_all c.args.count ∙ sym (ap (map is_held) c.in_ok-places.ensures))
+    blank_is c.args.count c.in_ok-places.ensures (c.in_ok-held.ensures ∙ unheld_all c.args.count
+    ∙ sym (ap (map is_held) c.in_ok-places.ensures))

@@ -31,5 +31,6 @@ invariant_of-self c = (
   table_is c.args.place c.self.view_is c.requires.known c.requires.slot c.self.invariant.0,
   c.set.ensures ∙ held_set c.self.inside.places.items c.args.number c.args.place c.self.invariant.1 c.requires.slot,
   count_set has_slot c.self.view_is c.requires.known c.place-old.ensures c.self.invariant.2 c.slots.ensures.count c.slots-2.ensures.count,
-  count_set has_frame c.self.view_is c.requires.known c.place-old.ensures c.self.invariant.3 c.frames.ensures.count c.frames-2.ensures.count,
+  count_set has_frame c.self.view_is c.requires.known c.place-old.ensures c.self.invariant.3 c.frames.ensures.count
+      c.frames-2.ensures.count,
 )

@@ -13,5 +13,6 @@ keys-preserved c = (
   tt,
   tt,
   read_more c.keys.key-iterator c.next.new.self c.in-Some.key.now c.in-Some.value.now (members_view c.args.table.now.entries)
-      c.keys.names.entries.items c.add.new.self.entries.items (search rules) c.keys.invariant.2 (rw c.as_str.ensures.value at c.in_default.ensures.added),
+      c.keys.names.entries.items c.add.new.self.entries.items (search rules) c.keys.invariant.2
+      (rw c.as_str.ensures.value at c.in_default.ensures.added),
 )

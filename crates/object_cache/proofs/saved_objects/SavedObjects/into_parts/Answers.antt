@@ -11,7 +11,8 @@ returns-else-len-count g c = record {
       let all : length i.headers.items ≡ i.count = search rules in
       let kept : g.P.Policy.KEEPS_ALL ≡ true = sym c.self.invariant.0 ∙ ap is_some c.in-Some.is in
       (c.self.invariant.1 c.in-Some.entries c.in-Some.is).most
-      ∙ ap all_of (sym all ∙ ap (λ t. length t.headers) c.self.view_is) ∙ sym (g.met.P.Policy.keeps c.args.setting (length c.args.self.headers) kept);
+      ∙ ap all_of (sym all ∙ ap (λ t. length t.headers) c.self.view_is) ∙ sym
+      (g.met.P.Policy.keeps c.args.setting (length c.args.self.headers) kept);
   bodies =
       λ fs took.
       let i = c.self.inside in

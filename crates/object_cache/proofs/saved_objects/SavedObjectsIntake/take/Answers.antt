@@ -30,5 +30,6 @@ returns-clause-took g c = λ fs took.
     let number_is : c.len-number.result ≡ length i.headers.items = search rules in
     let s : TakenState = record { headers = i.headers.items; entries = i.entries; count = i.count } in
     rw (c.keep_body.ensures, c.in_ok-push.ensures.items, number_is)
-    (taken_more s fs (frame_of c.args.read c.args.scratch.now) (taken_below c.self.view_is c.requires.0 c.requires.1 c.requires.2) c.self.invariant.1
+    (taken_more s fs (frame_of c.args.read c.args.scratch.now) (taken_below c.self.view_is c.requires.0 c.requires.1 c.requires.2)
+    c.self.invariant.1
     (rw (← c.self.view_is) at took))

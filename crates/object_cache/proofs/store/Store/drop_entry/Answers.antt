@@ -8,9 +8,11 @@ remove-requires g c = entry_some g.D.Device.disk c.self.view_is c.self.invariant
 pub invariant_of-self : goal.invariant_of-self
 invariant_of-self g c =
     rw c.remove.ensures
-    (dropped_next g.D.Device.disk c.self.view_is c.self.invariant c.requires.fetched c.requires.clean c.requires.frozen_state c.requires.masked c.requires.some).is
+    (dropped_next g.D.Device.disk c.self.view_is c.self.invariant c.requires.fetched c.requires.clean c.requires.frozen_state
+    c.requires.masked c.requires.some).is
 
 pub returns : goal.returns
 returns g c =
     rw c.remove.ensures
-    (dropped_next g.D.Device.disk c.self.view_is c.self.invariant c.requires.fetched c.requires.clean c.requires.frozen_state c.requires.masked c.requires.some).view
+    (dropped_next g.D.Device.disk c.self.view_is c.self.invariant c.requires.fetched c.requires.clean c.requires.frozen_state
+    c.requires.masked c.requires.some).view

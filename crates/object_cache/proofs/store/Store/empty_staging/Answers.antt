@@ -6,7 +6,8 @@ use Rattle.object_cache.proofs.store.Store.empty_staging.Goals as goal
 
 pub frozen_state-requires : goal.frozen_state-requires
 frozen_state-requires g c =
-    held_number g.D.Device.disk c.self.view_is c.self.invariant (held_behind c.in-Some.held) (sym c.get.ensures ∙ ap (option_map held_behind) c.in-Some.is)
+    held_number g.D.Device.disk c.self.view_is c.self.invariant (held_behind c.in-Some.held)
+    (sym c.get.ensures ∙ ap (option_map held_behind) c.in-Some.is)
 
 pub put_held-requires : goal.put_held-requires
 put_held-requires g c = (
@@ -30,7 +31,8 @@ returns-in_default-frozen_state g c =
     let said = c.put_own_frozen.ensures in
     let held = held_behind c.in-Some.held in
     record {
-      empty = on_ok_weaker r (λ is. ap (λ t. t.staging) is ∙ ap (released held.number) (ap (λ t. t.staging) (sym c.self.view_is) ∙ sym c.get.ensures ∙
+      empty = on_ok_weaker r (λ is. ap (λ t. t.staging) is ∙ ap (released held.number)
+          (ap (λ t. t.staging) (sym c.self.view_is) ∙ sym c.get.ensures ∙
           ap (option_map held_behind) c.in-Some.is) ∙ released_own held) said.put;
       fewer = on_ok_weaker r (λ less some. less) said.fewer;
       moves = said.moves;

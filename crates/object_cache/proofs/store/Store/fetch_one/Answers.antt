@@ -27,4 +27,5 @@ returns g c =
     }
 
 pub read_in-requires-clause-keepable : goal.read_in-requires-clause-keepable
-read_in-requires-clause-keepable g c = subst (AreKeepableIn g.D.Device.disk) (sym (c.use_now.ensures.unchanged c.if-use_now.false)) c.requires.keepable
+read_in-requires-clause-keepable g c = subst (AreKeepableIn g.D.Device.disk) (sym (c.use_now.ensures.unchanged c.if-use_now.false))
+    c.requires.keepable

@@ -23,7 +23,8 @@ write_and_evict-requires g c =
       keepable =
           subst (λ t. IsKeepable (stored_of g.D.Device.disk t.durable).saved.geometry most c.in-Some.oldest
           (record { header = header_at t.headers c.in-Some.oldest; content = held_at t.contents c.in-Some.oldest })) (sym seen)
-          (keepable_at (stored_of g.D.Device.disk c.args.self.now.durable).saved.geometry most (parts_of g.D.Device.disk c.args.self.now) c.in-Some.oldest
+          (keepable_at (stored_of g.D.Device.disk c.args.self.now.durable).saved.geometry most (parts_of g.D.Device.disk c.args.self.now)
+          c.in-Some.oldest
           least.known c.requires.keepable);
       some = c.requires.some;
     }

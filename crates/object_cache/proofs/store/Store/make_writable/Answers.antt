@@ -32,5 +32,6 @@ returns-then-is_ready-clause-announced g c = c.is_ready.ensures.announced c.if-i
 pub returns-then-is_ready-clause-prepares : goal.returns-then-is_ready-clause-prepares
 returns-then-is_ready-clause-prepares g c =
     let ready = c.is_ready.ensures in
-    prepares_by refl (goes_on_same g.D.Device.disk g.met.D.Device.only_now c.args.self.now) (Ok tt) (sym (ready.touched c.if-is_ready.true)) tt
+    prepares_by refl (goes_on_same g.D.Device.disk g.met.D.Device.only_now c.args.self.now) (Ok tt) (sym (ready.touched c.if-is_ready.true))
+    tt
     ready.within ready.within tt (search arith) (search arith)

@@ -14,4 +14,5 @@ returns-in-Ok-clause-made g c =
     let r = c.in-Ok.ensures in
     let hs = c.args.headers.items in
     rw (c.new-in-Ok.ensures, r.headers, r.touched, r.dirty, r.pending, r.staging, c.deref.ensures.value)
-    (open_over (stored_of g.D.Device.disk c.args.durable) hs hs refl c.requires.opened c.args.entries c.requires.bodies g.D.Device.disk c.args.durable refl)
+    (open_over (stored_of g.D.Device.disk c.args.durable) hs hs refl c.requires.opened c.args.entries c.requires.bodies g.D.Device.disk
+    c.args.durable refl)

@@ -7,11 +7,13 @@ use Rattle.object_cache.proofs.store.Store.put_held.Goals as goal
 
 pub header-header-requires : goal.header-header-requires
 header-header-requires g c =
-    held_frozen g.D.Device.disk c.self.view_is c.self.invariant (held_behind c.in-Some.held) (sym c.get.ensures ∙ ap (option_map held_behind) c.in-Some.is)
+    held_frozen g.D.Device.disk c.self.view_is c.self.invariant (held_behind c.in-Some.held)
+    (sym c.get.ensures ∙ ap (option_map held_behind) c.in-Some.is)
 
 pub put_body-requires : goal.put_body-requires
 put_body-requires g c =
-    held_ready g.D.Device.disk c.self.view_is c.self.invariant (held_behind c.in-Some.held) (sym c.get.ensures ∙ ap (option_map held_behind) c.in-Some.is)
+    held_ready g.D.Device.disk c.self.view_is c.self.invariant (held_behind c.in-Some.held)
+    (sym c.get.ensures ∙ ap (option_map held_behind) c.in-Some.is)
     c.requires c.header-header.ensures
 
 pub invariant_of-self : goal.invariant_of-self
@@ -22,7 +24,8 @@ invariant_of-self g c =
 
 pub set-requires : goal.set-requires
 set-requires g c =
-    held_in_marks g.D.Device.disk c.self.view_is c.self.invariant (held_behind c.in-Some.held) (sym c.get.ensures ∙ ap (option_map held_behind) c.in-Some.is)
+    held_in_marks g.D.Device.disk c.self.view_is c.self.invariant (held_behind c.in-Some.held)
+    (sym c.get.ensures ∙ ap (option_map held_behind) c.in-Some.is)
 
 pub invariant_of-self-2 : goal.invariant_of-self-2
 invariant_of-self-2 g c =
@@ -55,4 +58,5 @@ returns-in_err-put_body-clause-moves g c =
 
 pub unreachable-requires : goal.unreachable-requires
 unreachable-requires g c =
-    none-some c.requires.0 (sym (sym c.get.ensures ∙ ap (option_map held_behind) c.in_default.is) ∙ ap (λ t. t.staging) c.self.view_is ∙ c.requires.1)
+    none-some c.requires.0 (sym (sym c.get.ensures ∙ ap (option_map held_behind) c.in_default.is) ∙ ap (λ t. t.staging) c.self.view_is
+    ∙ c.requires.1)

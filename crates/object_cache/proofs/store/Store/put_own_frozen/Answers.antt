@@ -14,18 +14,22 @@ own_body-content-requires g c = entry_some g.D.Device.disk c.self.view_is c.self
 
 pub put_body-requires : goal.put_body-requires
 put_body-requires g c =
-    own_ready g.D.Device.disk c.self.view_is c.self.invariant c.requires.fetched c.requires.frozen_state c.own_body-content.ensures c.header-header.ensures
+    own_ready g.D.Device.disk c.self.view_is c.self.invariant c.requires.fetched c.requires.frozen_state c.own_body-content.ensures
+    c.header-header.ensures
 
 pub invariant_of-self-2 : goal.invariant_of-self-2
 invariant_of-self-2 g c =
     (out_next g.D.Device.disk c.self.view_is c.self.invariant c.requires.fetched c.requires.frozen_state c.own_body-content.ensures
-    c.header-header.ensures c.put_body.ensures.goes_on c.put_body.ensures.cause.never_falls c.set.ensures c.drop_kept.ensures c.release.ensures
+    c.header-header.ensures c.put_body.ensures.goes_on c.put_body.ensures.cause.never_falls c.set.ensures c.drop_kept.ensures
+    c.release.ensures
     c.in_ok-put_body.ensures.put).is
 
 pub returns : goal.returns
 returns g c =
-    let next = out_next g.D.Device.disk c.self.view_is c.self.invariant c.requires.fetched c.requires.frozen_state c.own_body-content.ensures
-    c.header-header.ensures c.put_body.ensures.goes_on c.put_body.ensures.cause.never_falls c.set.ensures c.drop_kept.ensures c.release.ensures
+    let next = out_next g.D.Device.disk c.self.view_is c.self.invariant c.requires.fetched c.requires.frozen_state
+    c.own_body-content.ensures
+    c.header-header.ensures c.put_body.ensures.goes_on c.put_body.ensures.cause.never_falls c.set.ensures c.drop_kept.ensures
+    c.release.ensures
     c.in_ok-put_body.ensures.put in
     record {
       put = next.view;
@@ -38,7 +42,8 @@ pub returns-in_err-put_body : goal.returns-in_err-put_body
 returns-in_err-put_body g c =
     let r = c.from_residual.result in
     let failed = c.from_residual.ensures.1 in
-    let next = own_torn g.D.Device.disk c.self.view_is c.self.invariant c.requires.fetched c.requires.frozen_state c.put_body.ensures.goes_on
+    let next = own_torn g.D.Device.disk c.self.view_is c.self.invariant c.requires.fetched c.requires.frozen_state
+    c.put_body.ensures.goes_on
     c.put_body.ensures.cause.never_falls c.in_err-put_body.ensures.broken in
     record {
       put = no_ok r _ _ failed;

@@ -12,7 +12,8 @@ present-requires g c = entry_some g.D.Device.disk c.self.view_is c.self.invarian
 
 pub put_working-requires-clause-keepable : goal.put_working-requires-clause-keepable
 put_working-requires-clause-keepable g c =
-    keepable_here g.D.Device.disk c.self.view_is c.self.invariant c.requires.fetched c.requires.dirty c.header-header.ensures c.present.ensures
+    keepable_here g.D.Device.disk c.self.view_is c.self.invariant c.requires.fetched c.requires.dirty c.header-header.ensures
+    c.present.ensures
     c.requires.keepable
 
 pub put_working-requires-clause-room : goal.put_working-requires-clause-room
@@ -25,12 +26,14 @@ invariant_of-self g c =
 
 pub invariant_of-self-2 : goal.invariant_of-self-2
 invariant_of-self-2 g c =
-    (kept_next g.D.Device.disk c.self.view_is c.self.invariant c.requires.fetched c.requires.dirty c.header-header.ensures c.present.ensures c.set.ensures
+    (kept_next g.D.Device.disk c.self.view_is c.self.invariant c.requires.fetched c.requires.dirty c.header-header.ensures c.present.ensures
+    c.set.ensures
     c.in_ok-put_working.ensures.put c.put_working.ensures.goes_on c.put_working.ensures.cause.never_falls).is
 
 pub returns : goal.returns
 returns g c =
-    let next = kept_next g.D.Device.disk c.self.view_is c.self.invariant c.requires.fetched c.requires.dirty c.header-header.ensures c.present.ensures
+    let next = kept_next g.D.Device.disk c.self.view_is c.self.invariant c.requires.fetched c.requires.dirty c.header-header.ensures
+    c.present.ensures
     c.set.ensures c.in_ok-put_working.ensures.put c.put_working.ensures.goes_on c.put_working.ensures.cause.never_falls in
     record {
       clean = ap (λ t. mark_at t.dirty c.args.number) next.view ∙ set_there c.args.self.now.dirty c.args.number false;
@@ -43,7 +46,8 @@ pub returns-in_err-put_working : goal.returns-in_err-put_working
 returns-in_err-put_working g c =
     let r = c.from_residual.result in
     let failed = c.from_residual.ensures.1 in
-    let next = unput_next g.D.Device.disk c.self.view_is c.self.invariant c.requires.fetched c.requires.dirty c.in_err-put_working.ensures.broken
+    let next = unput_next g.D.Device.disk c.self.view_is c.self.invariant c.requires.fetched c.requires.dirty
+    c.in_err-put_working.ensures.broken
     c.put_working.ensures.goes_on c.put_working.ensures.cause.never_falls in
     record {
       clean = no_ok r _ _ failed;

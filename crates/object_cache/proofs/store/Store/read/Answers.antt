@@ -10,7 +10,8 @@ pub insert_read-requires-clause-absent : goal.insert_read-requires-clause-absent
 insert_read-requires-clause-absent g c = no_entry g.D.Device.disk c.self.view_is c.self.invariant c.args.number c.requires.uncached
 
 pub invariant_of-self : goal.invariant_of-self
-invariant_of-self g c = (read_next g.D.Device.disk c.self.view_is c.self.invariant c.fetch.ensures.reads c.fetch.ensures.cause.never_falls).is
+invariant_of-self g c = (read_next g.D.Device.disk c.self.view_is c.self.invariant c.fetch.ensures.reads
+    c.fetch.ensures.cause.never_falls).is
 
 pub returns-in_err-read : goal.returns-in_err-read
 returns-in_err-read g c =

@@ -36,7 +36,8 @@ loop-number-preserved g c =
     let ok = c.in_ok-fetch_one.ensures in (
       moves_on g.met.D.Device.counts_now before.0 ok.moves,
       c.fetch_one.ensures.empty,
-      used_more c.args.self.now.capacity c.loop-number.number-index c.args.fetched.now c.args.self.now.order t.order c.fetch_one.new.self.order
+      used_more c.args.self.now.capacity c.loop-number.number-index c.args.fetched.now c.args.self.now.order t.order
+          c.fetch_one.new.self.order
           c.loop-number-test.true before.2 (ok.order ∙ ap (λ m. take m (n ∷ without n t.order)) before.0.continues.capacity),
     )
 

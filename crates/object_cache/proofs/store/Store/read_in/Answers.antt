@@ -12,7 +12,8 @@ returns g c =
       order = on_ok_weaker c.read.result (λ is.
           ap (λ t. t.order) is
           ∙ ap (λ ns. c.args.number ∷ ns) room.least
-          ∙ pushed_to_front s.capacity c.args.number s.order (omega (arith, room.room, room.moves.continues.capacity))) c.read.ensures.cached;
+          ∙ pushed_to_front s.capacity c.args.number s.order (omega (arith, room.room, room.moves.continues.capacity)))
+          c.read.ensures.cached;
       empty = c.read.ensures.empty;
       moves = moves_on g.met.D.Device.counts_now room.moves c.read.ensures.moves;
     }

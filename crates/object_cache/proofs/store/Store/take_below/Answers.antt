@@ -29,5 +29,7 @@ invariant_of-self g c =
 
 pub returns-in_err-read-clause-moves : goal.returns-in_err-read-clause-moves
 returns-in_err-read-clause-moves g c =
-    moves_next (read_next g.D.Device.disk c.self.view_is c.self.invariant c.fetch_below.ensures.reads c.fetch_below.ensures.cause.never_falls) refl
-    c.from_residual.result (counts_err g.D.Device.disk c.from_residual.result _ c.self.view_is c.from_residual.ensures.1 c.in_err-read.ensures.cause)
+    moves_next (read_next g.D.Device.disk c.self.view_is c.self.invariant c.fetch_below.ensures.reads
+    c.fetch_below.ensures.cause.never_falls) refl
+    c.from_residual.result (counts_err g.D.Device.disk c.from_residual.result _ c.self.view_is c.from_residual.ensures.1
+    c.in_err-read.ensures.cause)

@@ -28,5 +28,6 @@ returns g c =
       rest = seen;
       continues =
           subst (GoesOnIn g.D.Device.disk s) (sym seen)
-          (continues_with g.D.Device.disk s.cached s.frozen_state e.order s.staging (goes_on_same g.D.Device.disk g.met.D.Device.only_now s));
+          (continues_with g.D.Device.disk s.cached s.frozen_state e.order s.staging
+          (goes_on_same g.D.Device.disk g.met.D.Device.only_now s));
     }

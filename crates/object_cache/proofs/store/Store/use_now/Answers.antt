@@ -9,9 +9,11 @@ pub invariant_of-self : goal.invariant_of-self
 invariant_of-self g c =
     let i = c.self.inside in
     whichever c.promote.result
-    (λ e. IsCache g.P.Policy.KEEPS_ALL (stored_of g.D.Device.disk i.durable) (memory_of i.table i.frozen_headers i.touched i.dirty i.pending e.at i.staging)
+    (λ e. IsCache g.P.Policy.KEEPS_ALL (stored_of g.D.Device.disk i.durable)
+    (memory_of i.table i.frozen_headers i.touched i.dirty i.pending e.at i.staging)
     i.left i.touched_count)
-    c.promote.new.self (used_now c.args.number i.entries) i.entries c.promote.ensures.used c.promote.ensures.unchanged c.self.invariant c.self.invariant
+    c.promote.new.self (used_now c.args.number i.entries) i.entries c.promote.ensures.used c.promote.ensures.unchanged c.self.invariant
+    c.self.invariant
 
 pub returns : goal.returns
 returns g c = record {

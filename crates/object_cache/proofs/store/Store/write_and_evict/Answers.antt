@@ -43,7 +43,8 @@ write_back-requires g c =
     }
 
 pub drop_entry-requires-clause-fetched : goal.drop_entry-requires-clause-fetched
-drop_entry-requires-clause-fetched g c = fetched_put c.write_back.ensures.moves.rest (fetched_put c.write_frozen.ensures.moves.rest c.requires.fetched)
+drop_entry-requires-clause-fetched g c = fetched_put c.write_back.ensures.moves.rest
+    (fetched_put c.write_frozen.ensures.moves.rest c.requires.fetched)
 
 pub drop_entry-requires-clause-clean : goal.drop_entry-requires-clause-clean
 drop_entry-requires-clause-clean g c = c.in_ok-write_back.ensures.clean

@@ -15,10 +15,13 @@ count_usages-requires-clause-each g c = search (rules, bank_counted)
 pub find_above_limit-requires-clause-limits : goal.find_above_limit-requires-clause-limits
 find_above_limit-requires-clause-limits g c =
     let p = g.F.Frames.parts c.args.store.now in
-    let all = count_all p.geometry (2 ^ 64 - 1) p c.requires.may.keepable c.table.result.now c.count-count.result c.table.ensures c.count-count.ensures in
+    let all = count_all p.geometry (2 ^ 64 - 1) p c.requires.may.keepable c.table.result.now c.count-count.result c.table.ensures
+    c.count-count.ensures in
     ap (λ (xs : List ℕ). length xs) c.deref-in-None.ensures.value
-    ∙ limits_count p.geometry (2 ^ 64 - 1) p c.requires.may.keepable c.table.result.now c.count-count.result c.table.ensures c.count-count.ensures
-    c.in_ok-usages-in-None.usages.items c.in_ok-limits-in-None.limits.items c.in_ok-usages-in-None.ensures.counted c.in_ok-limits-in-None.ensures.limits
+    ∙ limits_count p.geometry (2 ^ 64 - 1) p c.requires.may.keepable c.table.result.now c.count-count.result c.table.ensures
+    c.count-count.ensures
+    c.in_ok-usages-in-None.usages.items c.in_ok-limits-in-None.limits.items c.in_ok-usages-in-None.ensures.counted
+    c.in_ok-limits-in-None.ensures.limits
     ∙ all
     ∙ sym (ap (λ (q : Parts). length q.headers) c.in_ok-limits-in-None.ensures.only_reads.same)
 
@@ -27,9 +30,11 @@ returns-in_ok-limits-in-None-clause-found g c =
     let p = g.F.Frames.parts c.args.store.now in
     let usages = c.deref.result.now in
     let limits = c.deref-in-None.result.now in
-    limited p.geometry (2 ^ 64 - 1) p c.requires.may.keepable c.table.result.now c.count-count.result c.table.ensures c.count-count.ensures usages limits
+    limited p.geometry (2 ^ 64 - 1) p c.requires.may.keepable c.table.result.now c.count-count.result c.table.ensures c.count-count.ensures
+    usages limits
     (λ b bank. ap (λ (xs : List ℕ). slice_index xs b) c.deref.ensures.value ∙ c.in_ok-usages-in-None.ensures.counted b bank)
     (c.deref-in-None.ensures.value ∙ c.in_ok-limits-in-None.ensures.limits)
     (rw c.in-None.is at c.find_unowned.ensures) c.find_above_limit.result
-    (subst (λ (q : Parts). MatchOption c.find_above_limit.result ((b : ℕ) → role_at (frames_of q) b ≡ role.Bank → slice_index usages b ≤ slice_index limits b)
+    (subst (λ (q : Parts). MatchOption c.find_above_limit.result ((b : ℕ) → role_at (frames_of q) b ≡ role.Bank →
+    slice_index usages b ≤ slice_index limits b)
     (λ why. IsAboveLimit (frames_of q) usages limits why)) c.in_ok-limits-in-None.ensures.only_reads.same c.find_above_limit.ensures)

@@ -23,7 +23,8 @@ pub loop-done-preserved : goal.loop-done-preserved
 loop-done-preserved g c = record {
   within = omega (arith, c.in_ok-done.ensures.count.1, c.loop-done.invariant.within, length-take {A = ℕ}, length-drop {A = ℕ});
   taken = took_more _ _ _ c.args.text.now c.loop-done.done c.in_ok-done.field-0 c.loop-done.invariant.taken c.in_ok-done.ensures.taken;
-  none_failed = none_trans (g.W.RawWriter.errors c.args.self.now.inner) (g.W.RawWriter.errors c.loop-done.self.inner) _ c.loop-done.invariant.none_failed
+  none_failed = none_trans (g.W.RawWriter.errors c.args.self.now.inner) (g.W.RawWriter.errors c.loop-done.self.inner) _
+      c.loop-done.invariant.none_failed
       c.in_ok-done.ensures.cause;
   not_counted = c.in_ok-done.ensures.ok ∙ c.loop-done.invariant.not_counted;
 }

@@ -5,7 +5,8 @@ use Rattle.script.proofs.Fronts.{rest_written}
 use Rattle.script.proofs.counted.CountedWriterOutput.write_fully.Goals as goal
 
 pub returns-else-count-eq0-clause-written : goal.returns-else-count-eq0-clause-written
-returns-else-count-eq0-clause-written g c = rest_written _ _ _ _ _ _ (record { taken = c.in-Ok.ensures.bytes; none_failed = refl }) c.write_rest.ensures.written
+returns-else-count-eq0-clause-written g c = rest_written _ _ _ _ _ _ (record { taken = c.in-Ok.ensures.bytes; none_failed = refl })
+    c.write_rest.ensures.written
 
 pub returns-else-ne-clause-cause : goal.returns-else-ne-clause-cause
 returns-else-ne-clause-cause g c =

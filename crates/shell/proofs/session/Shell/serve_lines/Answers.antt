@@ -15,7 +15,8 @@ returns-in_err-line-clause-served g c =
     let p = err_from_is_err_and c.from_residual.result c.from_residual.ensures.1 in
     rw (p.1, p.2) (finished g.D.Device.disk g.S.ObjectStore.view g.S.Frames.parts c.args.self.now.topics.now c.args.self.now.is_prompting
     c.loop-line.self.topics.now c.loop-line.self.is_prompting
-    (ap (λ (t : Bor (List Topic)). t.now) c.loop-line.invariant.topics) c.loop-line.invariant.prompts (ahead_of rest c.args.lines.now) now later
+    (ap (λ (t : Bor (List Topic)). t.now) c.loop-line.invariant.topics) c.loop-line.invariant.prompts (ahead_of rest c.args.lines.now) now
+    later
     (session_at g.V.Output.written c.args.self.now c.args.kernel.now (g.W.Output.written c.args.writer.now)) mid
     (noting mid (g.V.Output.written c.note.new.notes)) [] (Err c.in_err-line.field-0.0)
     c.loop-line.invariant.so_far c.in_err-line.ensures.part (c.in_err-line.ensures.fault, c.note.ensures, refl))
@@ -29,9 +30,11 @@ returns-in_err-goes_on-in-Some-clause-served g c =
     let p = err_from_is_err_and c.from_residual-in_err-goes_on-in-Some.result c.from_residual-in_err-goes_on-in-Some.ensures.1 in
     rw (p.1, p.2) (finished g.D.Device.disk g.S.ObjectStore.view g.S.Frames.parts c.args.self.now.topics.now c.args.self.now.is_prompting
     c.loop-line.self.topics.now c.loop-line.self.is_prompting
-    (ap (λ (t : Bor (List Topic)). t.now) c.loop-line.invariant.topics) c.loop-line.invariant.prompts (ahead_of rest c.args.lines.now) now later
+    (ap (λ (t : Bor (List Topic)). t.now) c.loop-line.invariant.topics) c.loop-line.invariant.prompts (ahead_of rest c.args.lines.now) now
+    later
     (session_at g.V.Output.written c.args.self.now c.args.kernel.now (g.W.Output.written c.args.writer.now)) mid
-    (session_at g.V.Output.written c.serve.new.self c.serve.new.kernel (g.W.Output.written c.serve.new.writer)) (c.as_slice.result.now ∷ []) (Err c.in_err-goes_on-in-Some.field-0.0)
+    (session_at g.V.Output.written c.serve.new.self c.serve.new.kernel (g.W.Output.written c.serve.new.writer)) (c.as_slice.result.now ∷ [])
+    (Err c.in_err-goes_on-in-Some.field-0.0)
     c.loop-line.invariant.so_far
     (subst (λ (l : List ℕ). Takes now later (l ∷ [])) (sym c.as_slice.ensures.value) (rw c.in-Some.is at c.in_ok-line.ensures.taken))
     (g.V.Output.written c.note.new.notes, c.note.ensures, c.in_err-goes_on-in-Some.ensures.served))
@@ -44,9 +47,11 @@ returns-then-not-goes_on-clause-served g c =
     let mid = session_at g.V.Output.written c.loop-line.self c.loop-line.kernel (g.W.Output.written c.loop-line.writer) in
     finished g.D.Device.disk g.S.ObjectStore.view g.S.Frames.parts c.args.self.now.topics.now c.args.self.now.is_prompting
     c.loop-line.self.topics.now c.loop-line.self.is_prompting
-    (ap (λ (t : Bor (List Topic)). t.now) c.loop-line.invariant.topics) c.loop-line.invariant.prompts (ahead_of rest c.args.lines.now) now later
+    (ap (λ (t : Bor (List Topic)). t.now) c.loop-line.invariant.topics) c.loop-line.invariant.prompts (ahead_of rest c.args.lines.now) now
+    later
     (session_at g.V.Output.written c.args.self.now c.args.kernel.now (g.W.Output.written c.args.writer.now)) mid
-    (session_at g.V.Output.written c.serve.new.self c.serve.new.kernel (g.W.Output.written c.serve.new.writer)) (c.as_slice.result.now ∷ []) (Ok tt)
+    (session_at g.V.Output.written c.serve.new.self c.serve.new.kernel (g.W.Output.written c.serve.new.writer)) (c.as_slice.result.now ∷ [])
+    (Ok tt)
     c.loop-line.invariant.so_far
     (subst (λ (l : List ℕ). Takes now later (l ∷ [])) (sym c.as_slice.ensures.value) (rw c.in-Some.is at c.in_ok-line.ensures.taken))
     (g.V.Output.written c.note.new.notes, c.note.ensures, rw c.if-not-goes_on.true at c.in_ok-goes_on-in-Some.ensures.served)
@@ -60,7 +65,8 @@ loop-line-preserved g c =
     record {
       so_far = more g.D.Device.disk g.S.ObjectStore.view g.S.Frames.parts c.args.self.now.topics.now c.args.self.now.is_prompting
           c.loop-line.self.topics.now c.loop-line.self.is_prompting
-          (ap (λ (t : Bor (List Topic)). t.now) c.loop-line.invariant.topics) c.loop-line.invariant.prompts (ahead_of rest c.args.lines.now) now later
+          (ap (λ (t : Bor (List Topic)). t.now) c.loop-line.invariant.topics) c.loop-line.invariant.prompts (ahead_of rest c.args.lines.now)
+          now later
           (session_at g.V.Output.written c.args.self.now c.args.kernel.now (g.W.Output.written c.args.writer.now)) mid
           (session_at g.V.Output.written c.serve.new.self c.serve.new.kernel (g.W.Output.written c.serve.new.writer)) c.as_slice.result.now
           c.loop-line.invariant.so_far
@@ -81,7 +87,8 @@ returns-in-None-clause-served g c =
     let taken = rw c.in-None.is at c.in_ok-line.ensures.taken in
     finished g.D.Device.disk g.S.ObjectStore.view g.S.Frames.parts c.args.self.now.topics.now c.args.self.now.is_prompting
     c.loop-line.self.topics.now c.loop-line.self.is_prompting
-    (ap (λ (t : Bor (List Topic)). t.now) c.loop-line.invariant.topics) c.loop-line.invariant.prompts (ahead_of rest c.args.lines.now) now later
+    (ap (λ (t : Bor (List Topic)). t.now) c.loop-line.invariant.topics) c.loop-line.invariant.prompts (ahead_of rest c.args.lines.now) now
+    later
     (session_at g.V.Output.written c.args.self.now c.args.kernel.now (g.W.Output.written c.args.writer.now)) mid
     (noting mid (g.V.Output.written c.note-in-None.new.notes)) [] (Ok tt)
     c.loop-line.invariant.so_far taken.0

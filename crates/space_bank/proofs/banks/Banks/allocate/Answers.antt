@@ -6,9 +6,11 @@ use Rattle.space_bank.proofs.banks.Banks.allocate.Goals as goal
 pub make-requires-clause-known : goal.make-requires-clause-known
 make-requires-clause-known g c =
     let at = g.met.F.PresentFrames.known_announced c.args.store.now c.args.number c.requires.announced in
-    let nodes : length c.account.new.self.free_nodes ≡ length c.args.self.now.free_nodes = ap (λ (s : BanksState). length s.free_nodes) c.account.ensures.kept
+    let nodes : length c.account.new.self.free_nodes ≡ length c.args.self.now.free_nodes =
+    ap (λ (s : BanksState). length s.free_nodes) c.account.ensures.kept
     in
-    let pages : length c.account.new.self.free_pages ≡ length c.args.self.now.free_pages = ap (λ (s : BanksState). length s.free_pages) c.account.ensures.kept
+    let pages : length c.account.new.self.free_pages ≡ length c.args.self.now.free_pages =
+    ap (λ (s : BanksState). length s.free_pages) c.account.ensures.kept
     in
     omega (arith, at.0, serve_count c.requires.asks, nodes, pages, c.requires.asks.counted.nodes, c.requires.asks.counted.pages)
 
@@ -19,12 +21,16 @@ make-requires-clause-free g c =
 
 pub returns-in-Bank-clause-carried : goal.returns-in-Bank-clause-carried
 returns-in-Bank-clause-carried g c =
-    bank_carried c.requires.asks c.make.ensures.current (g.met.F.PresentFrames.known_announced c.args.store.now c.args.number c.requires.announced).0
-    c.requires.may c.make.ensures.objects c.make.ensures.keepable (taken_one c.account.ensures.usages c.account.ensures.kept c.make.ensures.made)
+    bank_carried c.requires.asks c.make.ensures.current (g.met.F.PresentFrames.known_announced c.args.store.now c.args.number
+    c.requires.announced).0
+    c.requires.may c.make.ensures.objects c.make.ensures.keepable (taken_one c.account.ensures.usages c.account.ensures.kept
+    c.make.ensures.made)
     c.in-Bank.limit _ c.in-Bank.is c.keep_limit.ensures.fits c.keep_limit.ensures.kept
 
 pub returns-in_default-clause-carried : goal.returns-in_default-clause-carried
 returns-in_default-clause-carried g c =
-    plain_carried c.requires.asks c.make.ensures.current (g.met.F.PresentFrames.known_announced c.args.store.now c.args.number c.requires.announced).0
-    c.requires.may c.make.ensures.objects c.make.ensures.keepable (taken_one c.account.ensures.usages c.account.ensures.kept c.make.ensures.made)
+    plain_carried c.requires.asks c.make.ensures.current (g.met.F.PresentFrames.known_announced c.args.store.now c.args.number
+    c.requires.announced).0
+    c.requires.may c.make.ensures.objects c.make.ensures.keepable (taken_one c.account.ensures.usages c.account.ensures.kept
+    c.make.ensures.made)
     (plain_under _ c.args.bank c.args.fresh c.in_default.not-Bank c.requires.may.kind)

@@ -25,13 +25,15 @@ pub with_numbers-requires-clause-kept : goal.with_numbers-requires-clause-kept
 with_numbers-requires-clause-kept g c =
     let first = c.in_ok-limits.ensures.only_reads.same in
     let second = c.in_ok-annexes.ensures.only_reads.same in
-    both_kept first second (ap (λ (h : Geometry). h.nodes) c.geometry-nodes.ensures.geometry) c.in_ok-limits.ensures.kept c.in_ok-annexes.ensures.kept
+    both_kept first second (ap (λ (h : Geometry). h.nodes) c.geometry-nodes.ensures.geometry) c.in_ok-limits.ensures.kept
+    c.in_ok-annexes.ensures.kept
 
 pub returns-clause-only_reads : goal.returns-clause-only_reads
 returns-clause-only_reads g c =
     let first = c.in_ok-limits.ensures.only_reads in
     let second = c.in_ok-annexes.ensures.only_reads in
-    read_well (second.same ∙ first.same) (g.met.F.Frames.continues_twice c.args.store.now c.read_numbers.new.store c.read_numbers-2.new.store
+    read_well (second.same ∙ first.same) (g.met.F.Frames.continues_twice c.args.store.now c.read_numbers.new.store
+    c.read_numbers-2.new.store
     first.snapshots.continues second.snapshots.continues)
 
 pub returns-clause-counted : goal.returns-clause-counted

@@ -10,7 +10,13 @@ pub release-requires-clause-enough : goal.release-requires-clause-enough
 release-requires-clause-enough g c =
     let s = c.args.self.now in
     let count : c.len.result - c.args.skip ≡ length (drop c.args.skip s.listed) =
-    omega (arith, length-drop c.args.skip s.listed, c.len.ensures, ap (λ (k : BanksState). length k.listed) c.self.view_is, c.self.inside.listed.ok.0) in
+    omega (
+      arith,
+      length-drop c.args.skip s.listed,
+      c.len.ensures,
+      ap (λ (k : BanksState). length k.listed) c.self.view_is,
+      c.self.inside.listed.ok.0,
+    ) in
     rw count (enough_used c.requires.asks c.requires.may)
 
 pub rescind-requires : goal.rescind-requires
@@ -33,7 +39,8 @@ mark_free-requires-clause-known g c =
     (g.met.F.PresentFrames.known_announced c.args.store.now _ (c.requires.announced k d inside)).0 in
     let part = listed_rest s c.args.skip c.deref-2.ensures.value c.self-2.view_is c.release.ensures.kept in
     let marks : length c.self-2.inside.nodes + length c.self-2.inside.pages ≡ length s.free_nodes + length s.free_pages =
-    ap (λ (k : BanksState). length k.free_nodes + length k.free_pages) c.self-2.view_is ∙ ap (λ (k : BanksState). length k.free_nodes + length k.free_pages)
+    ap (λ (k : BanksState). length k.free_nodes + length k.free_pages) c.self-2.view_is
+    ∙ ap (λ (k : BanksState). length k.free_nodes + length k.free_pages)
     c.release.ensures.kept in
     rw (part, marks) (list_marks c.requires.asks (drop c.args.skip s.listed) known)
 
@@ -46,7 +53,13 @@ returns-clause-carried g c =
     let part = listed_rest s c.args.skip c.deref.ensures.value c.self-2.view_is c.release.ensures.kept in
     let part_too = listed_rest s c.args.skip c.deref-2.ensures.value c.self-2.view_is c.release.ensures.kept in
     let count : c.len.result - c.args.skip ≡ length list =
-    omega (arith, length-drop c.args.skip s.listed, c.len.ensures, ap (λ (k : BanksState). length k.listed) c.self.view_is, c.self.inside.listed.ok.0) in
+    omega (
+      arith,
+      length-drop c.args.skip s.listed,
+      c.len.ensures,
+      ap (λ (k : BanksState). length k.listed) c.self.view_is,
+      c.self.inside.listed.ok.0,
+    ) in
     let raised : IsRaised banks (length list) c.release.new.self.usages s.usages =
     subst (λ (n : ℕ). IsRaised banks n c.release.new.self.usages s.usages) count c.release.ensures.usages in
     let marks = subst (λ (xs : List ℕ). (n : ℕ) → is_marked (c.mark_free.new.nodes ++ c.mark_free.new.pages) n
@@ -59,7 +72,8 @@ pub returns-clause-snapshots : goal.returns-clause-snapshots
 returns-clause-snapshots g c =
     let os = objects_in (g.F.Frames.parts c.args.store.now) in
     let part = listed_rest c.args.self.now c.args.skip c.deref.ensures.value c.self-2.view_is c.release.ensures.kept in
-    ended_snapshots g.F.Frames.parts g.F.Frames.IsFetched g.F.PresentFrames.IsAnnounced g.F.Frames.ContinuesTo c.args.store.now c.rescind.new.store
+    ended_snapshots g.F.Frames.parts g.F.Frames.IsFetched g.F.PresentFrames.IsAnnounced g.F.Frames.ContinuesTo c.args.store.now
+    c.rescind.new.store
     (take (length c.deref.result.now - c.args.skip) (drop c.args.skip c.deref.result.now))
     c.rescind.ensures.given_up c.rescind.ensures.objects
     (subst (λ (xs : List ℕ). (n : ℕ) → is_member xs n ≡ true → is_free (content_at os n) ≡ false) (sym part) c.requires.may.used)

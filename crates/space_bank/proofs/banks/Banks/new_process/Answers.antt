@@ -15,7 +15,8 @@ make-requires-2-clause-free g c =
     let at = g.met.F.PresentFrames.known_announced c.args.store.now c.args.annex c.requires.annex_announced in
     let sound = c.requires.asks.sound in
     still_free p.geometry sound.0 p (g.F.Frames.parts c.make.new.store) c.args.root c.args.annex c.args.bank (new_root c.args.annex)
-    (c.make.ensures.keepable sound.0 c.ranges.annex.fits sound.1.keepable) c.make.ensures.snapshots.count c.make.ensures.objects at.0 c.requires.may.two
+    (c.make.ensures.keepable sound.0 c.ranges.annex.fits sound.1.keepable) c.make.ensures.snapshots.count c.make.ensures.objects at.0
+    c.requires.may.two
     c.requires.may.annex_unused
 
 pub returns-clause-objects : goal.returns-clause-objects
@@ -24,7 +25,8 @@ returns-clause-objects g c =
 
 pub returns-clause-snapshots : goal.returns-clause-snapshots
 returns-clause-snapshots g c =
-    keeps_twice g.F.Frames.parts g.F.Frames.IsFetched g.F.PresentFrames.IsAnnounced g.F.Frames.ContinuesTo g.met.F.Frames.continues_twice c.args.store.now
+    keeps_twice g.F.Frames.parts g.F.Frames.IsFetched g.F.PresentFrames.IsAnnounced g.F.Frames.ContinuesTo g.met.F.Frames.continues_twice
+    c.args.store.now
     c.make.new.store c.make-2.new.store c.make.ensures.snapshots c.make-2.ensures.snapshots
 
 pub returns-clause-carried : goal.returns-clause-carried
@@ -35,7 +37,8 @@ returns-clause-carried g c =
     (g.met.F.PresentFrames.known_announced c.args.store.now c.args.root c.requires.announced).0 _ c.requires.may
     (c.make-2.ensures.objects ∙ ap (λ (os : List Object). with_new os c.args.annex c.args.bank new_annex) c.make.ensures.objects)
     (λ age k. subst (λ (g : Geometry). AreKeepable g age (frames_of r)) c.make.ensures.snapshots.geometry (c.make-2.ensures.keepable age tt
-    (subst (λ (g : Geometry). AreKeepable g age (frames_of q)) (sym c.make.ensures.snapshots.geometry) (c.make.ensures.keepable age c.ranges.annex.fits k))))
+    (subst (λ (g : Geometry). AreKeepable g age (frames_of q)) (sym c.make.ensures.snapshots.geometry)
+    (c.make.ensures.keepable age c.ranges.annex.fits k))))
     (g.met.F.PresentFrames.known_announced c.args.store.now c.args.annex c.requires.annex_announced).0
     (taken_two (taken_one c.account.ensures.usages c.account.ensures.kept c.make.ensures.made) c.make-2.ensures.made)
     (ap (λ (k : BanksState). let u : BanksState = record k { annexes = slice_set k.annexes c.args.root c.args.annex } in u) c.self.view_is)

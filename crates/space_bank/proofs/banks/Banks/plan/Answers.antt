@@ -10,7 +10,8 @@ pub returns-in-NewNode-clause-planned : goal.returns-in-NewNode-clause-planned
 returns-in-NewNode-clause-planned g c = rw c.in-NewNode.is (c.plan_new-in-NewNode.ensures.planned bank.NewNode c.args.arguments refl)
 
 pub returns-in-NewProcess-clause-planned : goal.returns-in-NewProcess-clause-planned
-returns-in-NewProcess-clause-planned g c = rw c.in-NewProcess.is (c.plan_new-in-NewProcess.ensures.planned bank.NewProcess c.args.arguments refl)
+returns-in-NewProcess-clause-planned g c = rw c.in-NewProcess.is (c.plan_new-in-NewProcess.ensures.planned bank.NewProcess c.args.arguments
+    refl)
 
 pub returns-in-NewBank-clause-planned : goal.returns-in-NewBank-clause-planned
 returns-in-NewBank-clause-planned g c = rw c.in-NewBank.is (c.plan_new-in-NewBank.ensures.planned bank.NewBank c.args.arguments refl)

@@ -12,7 +12,8 @@ pub returns-in-None-clause-planned : goal.returns-in-None-clause-planned
 returns-in-None-clause-planned g c = λ args is.
     let p = g.F.Frames.parts c.args.store.now in
     planned_refused code.BadCapability (λ us frame.
-    frees_none_there p.geometry (objects_in p) c.args.bank args us frame c.args.capability is (c.in-None.ensures (objects_in p))) c.refused.ensures
+    frees_none_there p.geometry (objects_in p) c.args.bank args us frame c.args.capability is (c.in-None.ensures (objects_in p)))
+    c.refused.ensures
 
 pub returns-then-owner-bank-clause-planned : goal.returns-then-owner-bank-clause-planned
 returns-then-owner-bank-clause-planned g c = λ args is.
@@ -32,7 +33,9 @@ returns-else-owner-bank-clause-planned g c = λ args is.
     let own = sym c.owner.ensures ∙ c.if-owner-bank.false in
     planned_made (object ∷ annex) Void (GiveUp c.args.bank)
     (λ us frame. frees_own_there p.geometry os c.args.bank args us frame c.args.capability object annex is (c.in-Some.ensures os) own)
-    (λ us frame now. may_free c.requires.bank frame now c.args.capability object annex c.requires.sent.1 (c.in-Some.ensures os) own) c.changed.ensures
-    (ap (λ (s : BanksState). s.listed) c.list_annex.ensures ∙ ap (λ (s : BanksState). s.listed ++ annex_among s.annexes c.args.capability) c.list.ensures
+    (λ us frame now. may_free c.requires.bank frame now c.args.capability object annex c.requires.sent.1 (c.in-Some.ensures os) own)
+    c.changed.ensures
+    (ap (λ (s : BanksState). s.listed) c.list_annex.ensures ∙ ap (λ (s : BanksState). s.listed ++ annex_among s.annexes c.args.capability)
+    c.list.ensures
     ∙ ap (λ (ns : List ℕ). (first ++ object ∷ []) ++ ns) (annex_kept c.args.capability c.requires.bank c.requires.sent)
     ∙ append_assoc first (object ∷ []) annex)

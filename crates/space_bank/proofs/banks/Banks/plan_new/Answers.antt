@@ -8,14 +8,16 @@ pub returns-then-not-has_quota-clause-planned : goal.returns-then-not-has_quota-
 returns-then-not-has_quota-clause-planned g c = λ order args is.
     let p = g.F.Frames.parts c.args.store.now in
     let full : has_quota (objects_in p) c.args.bank (count_of c.args.new) ≡ false = cc in
-    planned_refused code.Limit (λ us frame. new_is p.geometry (objects_in p) c.args.bank order args c.args.new is us frame ∙ rw full refl) c.refused.ensures
+    planned_refused code.Limit (λ us frame. new_is p.geometry (objects_in p) c.args.bank order args c.args.new is us frame ∙ rw full refl)
+    c.refused.ensures
 
 pub returns-in-None-clause-planned : goal.returns-in-None-clause-planned
 returns-in-None-clause-planned g c = λ order args is.
     let p = g.F.Frames.parts c.args.store.now in
     let room : has_quota (objects_in p) c.args.bank (count_of c.args.new) ≡ true = cc in
     planned_refused code.NoFrame
-    (λ us frame. new_is p.geometry (objects_in p) c.args.bank order args c.args.new is us frame ∙ rw (room, sym c.in-None.ensures.made) refl)
+    (λ us frame. new_is p.geometry (objects_in p) c.args.bank order args c.args.new is us frame
+    ∙ rw (room, sym c.in-None.ensures.made) refl)
     c.refused-in-None.ensures
 
 pub returns-then-is_deep-clause-planned : goal.returns-then-is_deep-clause-planned
@@ -32,6 +34,7 @@ returns-else-is_deep-clause-planned g c = λ order args is.
     let room : has_quota (objects_in p) c.args.bank (count_of c.args.new) ≡ true = cc in
     let short = sym c.is_deep.ensures ∙ c.if-is_deep.false in
     planned_made (numbers_of made) (given_by made) made
-    (λ us frame. new_is p.geometry (objects_in p) c.args.bank order args c.args.new is us frame ∙ rw (room, sym c.in-Some.ensures.made, short) refl)
+    (λ us frame. new_is p.geometry (objects_in p) c.args.bank order args c.args.new is us frame
+    ∙ rw (room, sym c.in-Some.ensures.made, short) refl)
     (λ us frame now. may_new c.requires.bank frame now c.args.new made room (sym c.in-Some.ensures.made) short)
     (c.made.ensures ∙ ap (λ (k : Capability). making k made) c.given_by.ensures) (ap (λ (s : BanksState). s.listed) c.list_new.ensures)

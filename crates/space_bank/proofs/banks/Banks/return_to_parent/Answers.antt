@@ -87,8 +87,10 @@ returns-clause-carried g c =
     c.mark.ensures.nodes c.mark.ensures.pages
     (mark_one (c.self.inside.nodes ++ c.self.inside.pages) (c.mark.new.nodes ++ c.mark.new.pages) b inside c.mark.ensures.marks))
     c.rescind.ensures.objects c.rescind.ensures.current
-    (λ age few k. subst (λ (h : Geometry). AreKeepable h (age + 1) (frames_of r)) c.transfer.ensures.snapshots.geometry (c.rescind.ensures.keepable age few
-    (subst (λ (h : Geometry). AreKeepable h age (frames_of q)) (sym c.transfer.ensures.snapshots.geometry) (c.transfer.ensures.keepable age k))))
+    (λ age few k. subst (λ (h : Geometry). AreKeepable h (age + 1) (frames_of r)) c.transfer.ensures.snapshots.geometry
+    (c.rescind.ensures.keepable age few
+    (subst (λ (h : Geometry). AreKeepable h age (frames_of q)) (sym c.transfer.ensures.snapshots.geometry)
+    (c.transfer.ensures.keepable age k))))
 
 pub returns-clause-snapshots : goal.returns-clause-snapshots
 returns-clause-snapshots g c =
@@ -96,9 +98,13 @@ returns-clause-snapshots g c =
     let os = objects_in (g.F.Frames.parts c.args.store.now) in
     let list = take (length c.deref.result.now - (c.args.skip + 1)) (drop (c.args.skip + 1) c.deref.result.now) in
     let free : SameFree (g.F.Frames.parts c.args.store.now) q =
-    λ n. ap (λ (k : Content Capability). is_free k) (transferred_same list c.owner-parent.result os (objects_in q) c.transfer.ensures.objects n) in
-    snapshots_then_ended g.F.Frames.parts g.F.Frames.IsFetched g.F.PresentFrames.IsAnnounced g.F.Frames.ContinuesTo g.met.F.Frames.continues_twice
+    λ n. ap (λ (k : Content Capability). is_free k) (transferred_same list c.owner-parent.result os (objects_in q)
+    c.transfer.ensures.objects n) in
+    snapshots_then_ended g.F.Frames.parts g.F.Frames.IsFetched g.F.PresentFrames.IsAnnounced g.F.Frames.ContinuesTo
+    g.met.F.Frames.continues_twice
     c.args.store.now c.transfer.new.store c.rescind.new.store c.transfer.ensures.snapshots free
-    (ended_snapshots g.F.Frames.parts g.F.Frames.IsFetched g.F.PresentFrames.IsAnnounced g.F.Frames.ContinuesTo c.transfer.new.store c.rescind.new.store
-    (c.args.bank ∷ []) c.rescind.ensures.given_up c.rescind.ensures.objects (λ n member. free n ∙ only_used os c.args.bank c.requires.asks.bank n member)
+    (ended_snapshots g.F.Frames.parts g.F.Frames.IsFetched g.F.PresentFrames.IsAnnounced g.F.Frames.ContinuesTo c.transfer.new.store
+    c.rescind.new.store
+    (c.args.bank ∷ []) c.rescind.ensures.given_up c.rescind.ensures.objects
+    (λ n member. free n ∙ only_used os c.args.bank c.requires.asks.bank n member)
     c.rescind.ensures.fetched c.rescind.ensures.announced c.rescind.ensures.continues)

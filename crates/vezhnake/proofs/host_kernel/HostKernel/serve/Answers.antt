@@ -4,7 +4,8 @@ use Rattle.vezhnake.proofs.host_kernel.HostKernel.serve.Goals as goal
 
 pub returns-in-Plain : goal.returns-in-Plain
 returns-in-Plain c =
-    subst (λ (k : HostKernel). ServesLineOver k (store.Plain c.serve.new.kernel) c.args.command.now c.serve.result) (sym c.in-Plain.is) c.serve.ensures
+    subst (λ (k : HostKernel). ServesLineOver k (store.Plain c.serve.new.kernel) c.args.command.now c.serve.result) (sym c.in-Plain.is)
+    c.serve.ensures
 
 pub returns-in-Bounded : goal.returns-in-Bounded
 returns-in-Bounded c =

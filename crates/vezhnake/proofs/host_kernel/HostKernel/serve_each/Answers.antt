@@ -12,6 +12,7 @@ returns-in-Plain-clause-served c =
 pub returns-in-Bounded-clause-served : goal.returns-in-Bounded-clause-served
 returns-in-Bounded-clause-served c =
     subst (λ (k : HostKernel).
-    ServesEachOver k (store.Bounded c.serve_each-in-Bounded.new.kernel) (take c.serve_each-in-Bounded.result (map command_of c.args.commands.now))
+    ServesEachOver k (store.Bounded c.serve_each-in-Bounded.new.kernel) (take c.serve_each-in-Bounded.result
+    (map command_of c.args.commands.now))
     (take c.serve_each-in-Bounded.result c.serve_each-in-Bounded.new.replies))
     (sym c.in-Bounded.is) c.serve_each-in-Bounded.ensures.served

@@ -64,7 +64,8 @@ module _ {M : Type 1} {𝓤 : Ura M} (𝓛 : Logic 𝓤) (at_mem : Memory → SP
       -- [the handle]
       nothing ! $ nothing ! $ move ! (2 ∷ 0 ∷ []) $ fjoin ! $ feq_i ! (List Val) (vint w64 0 ∷ []) (ptr_val null_ptr ∷ []) refl $ fjoin ! $
       feq_i ! (List Val) (w ∷ []) (w ∷ []) refl $ fjoin ! $
-      fpack ! (Valss (RawPtr ∷ (Heap.the_field).row ∷ [])) (within (shape SessionPointer.the_type) (to SessionPointer.the_type made) (w ∷ []))
+      fpack ! (Valss (RawPtr ∷ (Heap.the_field).row ∷ [])) (within (shape SessionPointer.the_type) (to SessionPointer.the_type made)
+      (w ∷ []))
       (vint w64 0 ∷ [], (hv ∷ [], tt)) $ fjoin ! $
       suffices ! _ (ends_at 𝓛 F.ended stayed (F.clauses 𝓛 at_mem run) z w made (tt, tt) (tt, tt)) $ says ! refl $
       nothing ! $ nothing ! $ fjoin ! $ join ! $ nothing ! $ join ! $ done !))))

@@ -20,7 +20,8 @@ invariant_of-self g c =
     let none : c.in-Some.left ≡ 0 = search rules in
     let f = ready_of c.args.self.now.frozen (stored_of g.D.Device.disk c.args.self.now.durable).saved c.args.age c.in-Some.left
     (sym c.left.ensures ∙ c.in-Some.is) none c.requires.ready in
-    (save_next g.D.Device.disk c.self.view_is c.self.invariant f.0 f.1 f.2 c.args.age c.commit.new.self c.commit.result c.commit.ensures.committed
+    (save_next g.D.Device.disk c.self.view_is c.self.invariant f.0 f.1 f.2 c.args.age c.commit.new.self c.commit.result
+    c.commit.ensures.committed
     c.commit.ensures.unchanged).0.is
 
 pub returns : goal.returns
@@ -30,7 +31,8 @@ returns g c =
     let s = c.args.self.now in
     let t = c.commit.new.self in
     let none : c.in-Some.left ≡ 0 = search rules in
-    let f = ready_of s.frozen (stored_of disk s.durable).saved c.args.age c.in-Some.left (sym c.left.ensures ∙ c.in-Some.is) none c.requires.ready in
+    let f = ready_of s.frozen (stored_of disk s.durable).saved c.args.age c.in-Some.left (sym c.left.ensures ∙ c.in-Some.is) none
+    c.requires.ready in
     let left = save_left disk c.self.view_is c.self.invariant f.0 f.1 f.2 ∙ ap Some (sym none) ∙ sym c.in-Some.is ∙ c.left.ensures in
     let next = λ (h : FrozenFrames) (is : s.frozen ≡ Some h). save_next disk c.self.view_is c.self.invariant h is
     (ap (λ x. x.left) (same_Some h f.0 (sym is ∙ f.1)) ∙ f.2) c.args.age t
@@ -38,7 +40,8 @@ returns g c =
     let geometry : (stored_of disk t).saved.geometry ≡ (stored_of disk s.durable).saved.geometry = search rules in
     record {
       answer =
-          subst (λ o. IsCommitAnswer (disk s.durable.beneath) (disk t.beneath) o (stored_of disk s.durable).saved.generation c.commit.result) left
+          subst (λ o. IsCommitAnswer (disk s.durable.beneath) (disk t.beneath) o (stored_of disk s.durable).saved.generation
+          c.commit.result) left
           (subst (λ x. IsCommitAnswer (disk x.durable.beneath) (disk t.beneath) (option_map left_of (stored_of disk i.durable).frozen)
           (stored_of disk x.durable).saved.generation c.commit.result) c.self.view_is c.commit.ensures.answer);
       unchanged = search rules;
@@ -49,5 +52,6 @@ returns g c =
       any_moment = λ h is none_left.
           subst (λ x. LeavesEither (disk x.durable.beneath) (disk t.beneath) (stored_of disk s.durable).saved
           (next_saved whole c.args.age h (stored_of disk s.durable).saved)) c.self.view_is
-          (save_moments disk c.self.view_is c.self.invariant h is none_left c.args.age (disk i.durable.beneath) (disk t.beneath) c.commit.ensures.any_moment);
+          (save_moments disk c.self.view_is c.self.invariant h is none_left c.args.age (disk i.durable.beneath) (disk t.beneath)
+          c.commit.ensures.any_moment);
     }

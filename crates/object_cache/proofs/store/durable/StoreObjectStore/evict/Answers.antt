@@ -8,9 +8,11 @@ use Rattle.object_cache.proofs.store.durable.StoreObjectStore.evict.Goals as goa
 
 pub write_and_evict-requires : goal.write_and_evict-requires
 write_and_evict-requires g c = record {
-  fetched = fetched_by g.D.Device.disk c.self.view_is c.self.invariant c.args.number c.requires.known (sym c.holds.ensures ∙ c.if-holds.true);
+  fetched = fetched_by g.D.Device.disk c.self.view_is c.self.invariant c.args.number c.requires.known
+      (sym c.holds.ensures ∙ c.if-holds.true);
   keepable =
-      keepable_at (stored_of g.D.Device.disk c.args.self.now.durable).saved.geometry most (parts_of g.D.Device.disk c.args.self.now) c.args.number
+      keepable_at (stored_of g.D.Device.disk c.args.self.now.durable).saved.geometry most (parts_of g.D.Device.disk c.args.self.now)
+      c.args.number
       c.requires.known c.requires.may.keepable;
   some = sym c.KEEPS_ALL.ensures ∙ c.if-KEEPS_ALL.false;
 }

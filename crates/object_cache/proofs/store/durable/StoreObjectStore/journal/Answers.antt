@@ -15,7 +15,8 @@ journal_page-requires-clause-page g c = journal_page g.D.Device.disk c.self.view
 
 pub invariant_of-self : goal.invariant_of-self
 invariant_of-self g c =
-    (journal_next g.D.Device.disk c.self.view_is c.self.invariant c.args.number c.requires.may.keepable c.journal_page.new.durable c.args.age
+    (journal_next g.D.Device.disk c.self.view_is c.self.invariant c.args.number c.requires.may.keepable c.journal_page.new.durable
+    c.args.age
     c.journal_page.result
     (journal_there (g.D.Device.disk c.self.inside.durable.beneath) (g.D.Device.disk c.journal_page.new.durable.beneath) _
     (stored_of g.D.Device.disk c.self.inside.durable).saved _ _ _ c.journal_page.result c.journal_page.ensures.answer)
@@ -23,7 +24,8 @@ invariant_of-self g c =
 
 pub returns : goal.returns
 returns g c =
-    let next = journal_next g.D.Device.disk c.self.view_is c.self.invariant c.args.number c.requires.may.keepable c.journal_page.new.durable c.args.age
+    let next = journal_next g.D.Device.disk c.self.view_is c.self.invariant c.args.number c.requires.may.keepable c.journal_page.new.durable
+    c.args.age
     c.journal_page.result
     (journal_there (g.D.Device.disk c.self.inside.durable.beneath) (g.D.Device.disk c.journal_page.new.durable.beneath) _
     (stored_of g.D.Device.disk c.self.inside.durable).saved _ _ _ c.journal_page.result c.journal_page.ensures.answer)
@@ -36,8 +38,10 @@ returns g c =
       same_seen g.D.Device.disk s _ next.0.view geometry,
       next.1,
       refused_of c.journal_page.result next.2,
-      answer_seen g.D.Device.disk c.self.view_is c.self.invariant c.args.number c.requires.may.keepable c.journal_page.new.durable c.args.age
+      answer_seen g.D.Device.disk c.self.view_is c.self.invariant c.args.number c.requires.may.keepable c.journal_page.new.durable
+          c.args.age
           c.journal_page.result c.journal_page.ensures.answer,
-      moments_seen g.D.Device.disk c.self.view_is c.self.invariant c.args.number c.requires.may.keepable c.journal_page.new.durable c.args.age
+      moments_seen g.D.Device.disk c.self.view_is c.self.invariant c.args.number c.requires.may.keepable c.journal_page.new.durable
+          c.args.age
           c.journal_page.ensures.any_moment,
     )

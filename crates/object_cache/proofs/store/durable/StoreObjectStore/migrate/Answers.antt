@@ -11,10 +11,12 @@ invariant_of-self g c =
 
 pub returns : goal.returns
 returns g c =
-    let next = moved_next g.D.Device.disk c.self.view_is c.self.invariant c.migrate.new.self c.args.count c.migrate.result c.migrate.ensures.moved
+    let next = moved_next g.D.Device.disk c.self.view_is c.self.invariant c.migrate.new.self c.args.count c.migrate.result
+    c.migrate.ensures.moved
     c.migrate.ensures.unmoved in
     let s = c.args.self.now in
-    let geometry : (stored_of g.D.Device.disk c.migrate.new.self).saved.geometry ≡ (stored_of g.D.Device.disk s.durable).saved.geometry = search rules in
+    let geometry : (stored_of g.D.Device.disk c.migrate.new.self).saved.geometry ≡ (stored_of g.D.Device.disk s.durable).saved.geometry =
+    search rules in
     search (rules, same_seen g.D.Device.disk s _ next.0.view geometry, next.1)
 
 pub migrate-requires : goal.migrate-requires

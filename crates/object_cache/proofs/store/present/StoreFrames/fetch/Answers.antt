@@ -8,7 +8,8 @@ use Rattle.object_cache.proofs.store.present.StoreFrames.fetch.Goals as goal
 pub returns-then-KEEPS_ALL-clause-fetched : goal.returns-then-KEEPS_ALL-clause-fetched
 returns-then-KEEPS_ALL-clause-fetched g c = λ n has.
     fetched_whole g.D.Device.disk c.self.view_is c.self.invariant n
-    (All-contains (λ k. k < length c.args.self.now.headers) c.args.numbers.now n c.requires.known has) (sym c.KEEPS_ALL.ensures ∙ c.if-KEEPS_ALL.true)
+    (All-contains (λ k. k < length c.args.self.now.headers) c.args.numbers.now n c.requires.known has)
+    (sym c.KEEPS_ALL.ensures ∙ c.if-KEEPS_ALL.true)
 
 pub returns-then-use_again : goal.returns-then-use_again
 returns-then-use_again g c =
@@ -24,7 +25,11 @@ returns-then-use_again g c =
           (omega (arith, ap (λ ns. length ns) used, c.use_again.ensures.few, ap (λ t. t.capacity) rest));
       all = λ all. absurd (true≢false (sym all ∙ some));
       same = ap (parts_of disk) rest;
-      cause = (λ failed. absurd (true≢false (sym failed)), λ rose. absurd (omega (arith, rose, ap (λ t. (disk t.durable.beneath).failures) rest)));
+      cause = (
+        λ failed. absurd (true≢false (sym failed)),
+        λ rose. absurd (omega
+            (arith, rose, ap (λ t. (disk t.durable.beneath).failures) rest)),
+      );
       snapshots = fetches_only some (moves_used rest c.use_again.ensures.continues);
     }
 
@@ -43,7 +48,8 @@ returns g c =
     let only : OnlyFetches (parts_of disk) (ContinuesIn g.P.Policy.KEEPS_ALL disk) s u = fetches_only some moves in
     record {
       fetched = on_ok_weaker r
-          (all_fetched s t u ns used.rest read.moves.rest used.each c.requires.known c.requires.few used.least c.len.ensures.bounded) read.order;
+          (all_fetched s t u ns used.rest read.moves.rest used.each c.requires.known c.requires.few used.least c.len.ensures.bounded)
+          read.order;
       order = λ some. on_ok_weaker r (λ is.
           used_then s.capacity used.prefix.0 ns s.order t.order u.order used.prefix.1
           (is ∙ ap (λ x. take x.capacity (used_in_turn ns t.order)) used.rest)) read.order;
@@ -58,4 +64,5 @@ read_all_in-read-requires-clause-bounded g c = c.use_again.ensures.few
 
 pub read_all_in-read-requires-clause-keepable : goal.read_all_in-read-requires-clause-keepable
 read_all_in-read-requires-clause-keepable g c =
-    all_keepable c.use_again.ensures.continues (moves_used c.use_again.ensures.rest c.use_again.ensures.continues).rest c.requires.may.keepable
+    all_keepable c.use_again.ensures.continues (moves_used c.use_again.ensures.rest c.use_again.ensures.continues).rest
+    c.requires.may.keepable

@@ -22,6 +22,7 @@ pub returns : goal.returns
 returns g c =
     let body = fresh_content void_held c.args.fresh in
     let some = entry_some g.D.Device.disk c.self.view_is c.self.invariant c.requires.fetched in
-    rw (c.claim.ensures, c.claim-2.ensures, c.role_of.ensures) (becomes_both g.P.Policy.KEEPS_ALL g.D.Device.disk g.met.D.Device.only_now c.args.self.now _ c.args.number _ _
+    rw (c.claim.ensures, c.claim-2.ensures, c.role_of.ensures) (becomes_both g.P.Policy.KEEPS_ALL g.D.Device.disk g.met.D.Device.only_now
+    c.args.self.now _ c.args.number _ _
     (both_become g.D.Device.disk c.self.view_is c.self.invariant c.requires.announced (claimed (role_of body) c.args.owner) body
     (λ none. absurd (true≢false (sym some ∙ ap is_some none)))).view)

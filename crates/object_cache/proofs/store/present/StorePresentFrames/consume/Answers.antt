@@ -7,7 +7,8 @@ pub consume-requires-clause-known : goal.consume-requires-clause-known
 consume-requires-clause-known g c = announced_known g.D.Device.disk c.self.view_is c.self.invariant c.requires.announced
 
 pub invariant_of-self : goal.invariant_of-self
-invariant_of-self g c = rw c.consume.ensures (header_becomes g.D.Device.disk c.self.view_is c.self.invariant c.requires.announced called (λ x. refl)).is
+invariant_of-self g c = rw c.consume.ensures (header_becomes g.D.Device.disk c.self.view_is c.self.invariant c.requires.announced called
+    (λ x. refl)).is
 
 pub returns : goal.returns
 returns g c =

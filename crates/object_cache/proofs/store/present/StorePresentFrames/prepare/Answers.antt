@@ -13,12 +13,14 @@ returns-in_err-fetch g c =
       announced = no_ok r _ _ failed;
       order = λ some. no_ok r _ _ failed;
       all = λ all. ap (λ t. t.order) (c.fetch.ensures.all all);
-      prepares = unfetched (err_from_is_err_and r failed) (within_log g.D.Device.disk c.self.view_is c.self.invariant) c.fetch.ensures.snapshots
+      prepares = unfetched (err_from_is_err_and r failed) (within_log g.D.Device.disk c.self.view_is c.self.invariant)
+          c.fetch.ensures.snapshots
           (c.in_err-fetch.ensures.cause.0 refl);
     }
 
 pub make_writable-requires : goal.make_writable-requires
-make_writable-requires g c = subst (λ p. All (λ n. n < length p.headers) c.args.written.now) (sym c.in_ok-fetch.ensures.same) c.requires.announced
+make_writable-requires g c = subst (λ p. All (λ n. n < length p.headers) c.args.written.now) (sym c.in_ok-fetch.ensures.same)
+    c.requires.announced
 
 pub returns : goal.returns
 returns g c =
@@ -30,6 +32,7 @@ returns g c =
       order = λ some. on_ok r (said.order ∙ c.in_ok-fetch.ensures.order some);
       all = λ all. said.order ∙ ap (λ t. t.order) (c.fetch.ensures.all all);
       prepares = prepares_after c.in_ok-fetch.ensures.same
-          (continues_twice g.D.Device.disk g.P.Policy.KEEPS_ALL g.met.D.Device.counts_now c.args.self.now c.fetch.new.self c.make_writable.new.self
+          (continues_twice g.D.Device.disk g.P.Policy.KEEPS_ALL g.met.D.Device.counts_now c.args.self.now c.fetch.new.self
+          c.make_writable.new.self
           c.fetch.ensures.snapshots.continues said.prepares.continues) said.prepares;
     }

@@ -14,5 +14,6 @@ invariant_of-self g c =
 
 pub returns : goal.returns
 returns g c =
-    rw (c.rescind.ensures, c.free.ensures) (becomes_both g.P.Policy.KEEPS_ALL g.D.Device.disk g.met.D.Device.only_now c.args.self.now _ c.args.number _ _
+    rw (c.rescind.ensures, c.free.ensures) (becomes_both g.P.Policy.KEEPS_ALL g.D.Device.disk g.met.D.Device.only_now c.args.self.now _
+    c.args.number _ _
     (both_become g.D.Device.disk c.self.view_is c.self.invariant c.requires.announced given_up content.Free (λ none. (refl, refl))).view)

@@ -7,7 +7,8 @@ pub set_owner-requires : goal.set_owner-requires
 set_owner-requires g c = announced_known g.D.Device.disk c.self.view_is c.self.invariant c.requires
 
 pub invariant_of-self : goal.invariant_of-self
-invariant_of-self g c = rw c.set_owner.ensures (header_becomes g.D.Device.disk c.self.view_is c.self.invariant c.requires (owned_by c.args.bank) (λ x. refl)).is
+invariant_of-self g c = rw c.set_owner.ensures (header_becomes g.D.Device.disk c.self.view_is c.self.invariant c.requires
+    (owned_by c.args.bank) (λ x. refl)).is
 
 pub returns : goal.returns
 returns g c =
