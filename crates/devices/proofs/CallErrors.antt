@@ -1,6 +1,6 @@
 -- The errors of a file's calls, one call after another.
 use Rattle.devices.proofs.Names.{ℕ, Option, None, Some, Result, Ok, Err, option_map, refl, arith, nat_tests, inl, inr, CallErrors, more_errors, NoneFailed, OneFailed, HasCause, HasFailed, ap, sym, false, is_ok}
-use Rattle.std.proofs.Common.{◌≡◌, ◌+◌, ◌-◌, ◌^◌, ◌<◌, ◌≤◌, ◌∙◌}
+use Rattle.std.proofs.Common.{◌≡◌, ◌+◌, ◌-◌, ◌^◌, ◌≤◌, ◌∙◌}
 
 -- errors and then more
 pub more_twice : (x : Option CallErrors) (f i g j : ℕ) → option_map (more_errors g j) (option_map (more_errors f i) x)

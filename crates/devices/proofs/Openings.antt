@@ -1,12 +1,12 @@
 -- The calls that open or make a device, one after another.
-use Rattle.devices.proofs.Names.{nat_tests, ℕ, List, [], Option, option_map, IfSome, length, take, refl, sym, ap, subst, append-nil, arith, drop, length-append}
+use Rattle.devices.proofs.Names.{nat_tests, ℕ, List, [], Option, IfSome, length, take, refl, sym, ap, subst, append-nil, arith, drop, length-append}
 use Rattle.devices.proofs.Names.{length-take-le, take-append-le, concat-append, concat, Disk, Agrees, image_of, sectors_of, Access, Lock, OpeningCall}
 use Rattle.devices.proofs.Names.{opened, locked, measured, got, resized, listed, resizes, KeepsLength, reads, Gets, LoadsLocked, MakesZeros, IsOpened, IsMade}
 use Rattle.devices.proofs.Names.{GetsFrom, Adds, AreSectors, Elsewhere, min, take-append-add, take_all, take-put_mid_below, TakesLock, Exclusive, FileFault}
-use Rattle.devices.proofs.Names.{Loads, Result, Ok, Err, OnOk, IfOk, IfErr, inl, inr, nat_lt}
+use Rattle.devices.proofs.Names.{Loads, Result, Ok, Err, OnOk, IfOk, IfErr}
 use Rattle.devices.specs.OpeningCalls.{FailsToMake, StopsWithin, synced}
 use Rattle.std.specs.Prelude.{OnErr}
-use Rattle.std.proofs.Common.{if◌then◌else◌, ◌⊎◌, ◌≢◌, ◌<◌, ◌/◌, ◌≡◌, ◌+◌, ◌*◌, ◌≤◌, ◌∷◌, ◌++◌, ◌∙◌, ◌%◌}
+use Rattle.std.proofs.Common.{◌≢◌, ◌≡◌, ◌+◌, ◌*◌, ◌≤◌, ◌∷◌, ◌++◌, ◌∙◌, ◌%◌}
 use Rattle.devices.specs.declared.fault.FileFault.TheVariants as fault
 use Rattle.devices.proofs.Deeds.{adds_none, adds_more}
 use Rattle.devices.proofs.Stored.{front_part}
@@ -165,23 +165,8 @@ fails_later path n a b c took stops = (took.0, took.1, stops_on (locked Exclusiv
 pub same_fault : {T : Type 0} (r : Result T FileFault) (y e f : FileFault) → r ≡ Err y → y ≡ e → r ≡ Err f → e ≡ f
 same_fault r y e f is from given = cc
 
-pub not_long : {T : Type 0} (r : Result T FileFault) (y : FileFault) → r ≡ Err y → y ≡ fault.Io → r ≡ Err fault.Long → ⊥
-not_long r y is io long = cc
-
 pub not_held : {T : Type 0} (r : Result T FileFault) (y : FileFault) → r ≡ Err y → y ≡ fault.Io → r ≡ Err fault.Held → ⊥
 not_held r y is io held = cc
 
 pub not_given : {T : Type 0} (r : Result T FileFault) (f : FileFault) → IfErr r (λ e. e ≢ f) → r ≡ Err f → ⊥
 not_given r f none is = grind (arith, nat_tests)
-
-pub neither_long : (y e : FileFault) → y ≡ e → (e ≡ fault.Io) ⊎ (e ≡ fault.Held) → y ≢ fault.Long
-neither_long y e is (inl io) long = cc
-neither_long y e is (inr held) long = cc
-
--- the whole sectors of a number of bytes
-module _ (r : Result ℕ FileFault) (most n : ℕ) (is : r ≡ (if nat_lt most n then Err fault.Long else Ok (n / 512))) where
-  pub too_long : (e : FileFault) → r ≡ Err e → (most < n) × (e ≡ fault.Long)
-  too_long e err = grind (arith, nat_tests)
-
-  pub short : (s : ℕ) → r ≡ Ok s → (n ≤ most) × (s ≡ n / 512)
-  short s ok = grind (arith, nat_tests)

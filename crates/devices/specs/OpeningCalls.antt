@@ -1,7 +1,7 @@
 -- The calls that open or make a device in a file.
 use Rattle.devices.specs.Names.{ℕ, List, [], length, take, drop, replicate, Option, option_map, ⊤, concat, Disk, Agrees}
 use Rattle.devices.specs.Names.{image_of, IfSome}
-use Rattle.std.specs.Prelude.{◌≡◌, ◌≢◌, ◌+◌, ◌*◌, ◌/◌, ◌<◌, ◌∷◌, ◌++◌}
+use Rattle.std.specs.Prelude.{◌≡◌, ◌≢◌, ◌+◌, ◌*◌, ◌/◌, ◌<◌, ◌∷◌, ◌++◌, if◌then◌else◌, nat_lt}
 use Rattle.devices.specs.declared.fault.FileFault.{FileFault}
 use Rattle.devices.specs.declared.fault.FileFault.TheVariants as fault
 use Rattle.devices.specs.declared.new_file.Unmade.{Unmade}
@@ -52,10 +52,14 @@ GetsFrom byte old new bytes = (pieces : List (List ℕ)) × (concat pieces ≡ b
 abbrev pub Gets : Option (List OpeningCall) → Option (List OpeningCall) → List ℕ → Type 0
 Gets old new bytes = GetsFrom 0 old new bytes
 
--- the file was measured, and reads gave all of its whole sectors
+-- how many sectors a device has in a file of n bytes: its whole ones, but at most 131072
+abbrev pub sectors_in : ℕ → ℕ
+sectors_in n = if nat_lt 131072 (n / 512) then 131072 else n / 512
+
+-- the file was measured, and reads gave the sectors of the device
 abbrev pub Loads : Option (List OpeningCall) → Option (List OpeningCall) → List ℕ → Type 0
 Loads old new copy =
-    (n : ℕ) × (pieces : List (List ℕ)) × (concat pieces ≡ copy) × (length copy ≡ 512 * (n / 512))
+    (n : ℕ) × (pieces : List (List ℕ)) × (concat pieces ≡ copy) × (length copy ≡ 512 * sectors_in n)
     × Adds old new (measured n ∷ reads 0 pieces)
 
 -- a lock was requested, and no other open file excludes it
@@ -66,7 +70,7 @@ TakesLock lock old new = (answer : LockAnswer) × (answer ≢ Held) × Adds old 
 abbrev pub LoadsLocked : Lock → Option (List OpeningCall) → Option (List OpeningCall) → List ℕ → Type 0
 LoadsLocked lock old new copy =
     (answer : LockAnswer) × (n : ℕ) × (pieces : List (List ℕ)) × (answer ≢ Held) × (concat pieces ≡ copy)
-    × (length copy ≡ 512 * (n / 512))
+    × (length copy ≡ 512 * sectors_in n)
     × Adds old new (locked lock answer ∷ synced ∷ measured n ∷ reads 0 pieces)
 
 -- the file was locked, emptied, extended to this number of bytes and synced, and then its folder was synced
@@ -75,7 +79,7 @@ MakesZeros path bytes old new =
     (answer : LockAnswer) × (answer ≢ Held)
     × Adds old new (locked Exclusive answer ∷ resized 0 ∷ resized bytes ∷ synced ∷ listed path ∷ [])
 
--- These calls and no others opened a device. It has the whole sectors that were read.
+-- These calls and no others opened a device. It has the sectors that were read.
 pub record IsOpened (path : List ℕ) (access : Access) (lock : Lock) (calls : List OpeningCall) (disk : Disk)
     : Type 0 where
   pub answer : LockAnswer
@@ -83,8 +87,8 @@ pub record IsOpened (path : List ℕ) (access : Access) (lock : Lock) (calls : L
   pub pieces : List (List ℕ)
   pub made : calls ≡ opened path access ∷ locked lock answer ∷ synced ∷ measured bytes ∷ reads 0 pieces
   pub free : answer ≢ Held
-  pub size : disk.sectors ≡ bytes / 512
-  pub whole : length (concat pieces) ≡ 512 * (bytes / 512)
+  pub size : disk.sectors ≡ sectors_in bytes
+  pub whole : length (concat pieces) ≡ 512 * sectors_in bytes
   pub seen : Agrees disk.seen (image_of (concat pieces))
 
 -- These calls and no others made the file of a device of `sectors` sectors.
@@ -144,8 +148,8 @@ abbrev pub Answers : List ℕ → List OpeningCall → List ℕ → Type 0
 Answers first [] now = now ≡ first
 Answers first (call ∷ calls) now = IsTrueOf first call × Answers (bytes_after first call) calls now
 
--- if the file answered truly, whatever it held, the device has its whole sectors
+-- if the file answered truly, whatever it held, the device has its sectors
 abbrev pub Mirrors : List OpeningCall → Disk → Type 0
 Mirrors calls disk =
     (first now : List ℕ) → Answers first calls now
-    → (disk.sectors ≡ length now / 512) × ((i : ℕ) → i < disk.sectors → disk.seen i ≡ image_of now i)
+    → (disk.sectors ≡ sectors_in (length now)) × ((i : ℕ) → i < disk.sectors → disk.seen i ≡ image_of now i)

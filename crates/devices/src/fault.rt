@@ -12,9 +12,6 @@ pub enum FileFault {
     /// The system refused a call on the file.
     #[error("the file can't be opened, read or written")]
     Io,
-    /// The file is longer than a device of `MAX_SECTORS`.
-    #[error("the file is longer than 64 MiB")]
-    Long,
     /// Another device is open in the file.
     #[error("another program uses the image")]
     Held,

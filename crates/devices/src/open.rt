@@ -1,12 +1,11 @@
 // Opening and making a device in a file.
 ghost use Rattle.std.specs.Prelude.{◌≡◌, ◌≢◌, ◌⊎◌, ◌<◌, ◌≤◌, ◌*◌, ◌/◌, ℕ, [], ◌∷◌, length, replicate, take};
-ghost use Rattle.std.specs.Prelude.{nat_lt};
-ghost use Rattle.std.specs.Prelude.{if◌then◌else◌, IfErr, IfOk, IfSome, IsErrOf, OnOk, OnErr, Ok, Err};
+ghost use Rattle.std.specs.Prelude.{IfErr, IfOk, IfSome, IsErrOf, OnOk, OnErr};
 ghost use Rattle.device.specs.Calls.{Agrees, Only, sectors_of, image_of};
 ghost use Rattle.devices.specs.FileDevice.{file_disk, raw_file};
 ghost use Rattle.devices.specs.OpeningCalls.{listed, locked, measured, resized, synced, Gets, GetsFrom, Loads};
 ghost use Rattle.devices.specs.OpeningCalls.{LoadsLocked, TakesLock, MakesZeros, KeepsLength, IsOpened, IsMade};
-ghost use Rattle.devices.specs.OpeningCalls.{FailsToMake, Mirrors, StopsWithin, got};
+ghost use Rattle.devices.specs.OpeningCalls.{FailsToMake, Mirrors, StopsWithin, got, sectors_in};
 ghost use Rattle.devices.specs.CallErrors.{HasCause};
 ghost use Rattle.devices.specs.RawCalls.{Adds};
 
@@ -19,14 +18,12 @@ use device::{MAX_SECTORS, SECTOR_SIZE};
 use std::alloc::Global;
 use std::io::{self, ErrorKind};
 
-// The number of whole sectors in this number of bytes, or `Long`.
-fn whole_sectors(bytes: u64) -> Result<u64, FileFault>
-    ensures { result ≡ (if nat_lt 67108864 bytes then Err FileFault.Long else Ok (bytes / 512)) }
+// How many sectors a device has in a file of this number of bytes.
+fn device_sectors(bytes: u64) -> u64
+    ensures value { result ≡ sectors_in bytes }
+    ensures few { result ≤ 131072 }
 {
-    if bytes > MAX_SECTORS * SECTOR_SIZE as u64 {
-        return Err(FileFault::Long);
-    }
-    Ok(bytes / SECTOR_SIZE as u64)
+    (bytes / SECTOR_SIZE as u64).min(MAX_SECTORS)
 }
 
 // How many sectors are read at once.
@@ -63,7 +60,6 @@ fn get_fully<F: Openable>(file: &mut F, at: usize, into: &mut [u8]) -> Result<()
     requires { at ≤ 512 * 131072 }
     ensures bytes { OnOk result (GetsFrom at (F.opening file.old) (F.opening file.new) into.new) }
     ensures held { IfErr result (λ fault. fault ≢ FileFault.Held) }
-    ensures long { IfErr result (λ fault. fault ≢ FileFault.Long) }
     ensures length { KeepsLength (F.opening file.old) (F.opening file.new) }
     ensures cause { HasCause (F.errors file.old) (F.errors file.new) result }
     ensures calls { F.calls file.new ≡ F.calls file.old }
@@ -86,7 +82,6 @@ fn get_sectors<F: Openable>(
     ensures bytes { OnOk result (Gets (F.opening file.old) (F.opening file.new) copy.new) }
     ensures size { length copy.new ≡ length copy.old }
     ensures held { IfErr result (λ fault. fault ≢ FileFault.Held) }
-    ensures long { IfErr result (λ fault. fault ≢ FileFault.Long) }
     ensures length { KeepsLength (F.opening file.old) (F.opening file.new) }
     ensures calls { F.calls file.new ≡ F.calls file.old }
 {
@@ -111,7 +106,6 @@ fn get_all<F: Openable>(
     ensures bytes { IfOk result (λ copy. Gets (F.opening file.old) (F.opening file.new) copy) }
     ensures size { IfOk result (λ copy. length copy ≡ 512 * sectors) }
     ensures held { IfErr result (λ fault. fault ≢ FileFault.Held) }
-    ensures long { IfErr result (λ fault. fault ≢ FileFault.Long) }
     ensures length { KeepsLength (F.opening file.old) (F.opening file.new) }
     ensures calls { F.calls file.new ≡ F.calls file.old }
 {
@@ -121,17 +115,15 @@ fn get_all<F: Openable>(
     Ok(copy)
 }
 
-// Reads all whole sectors of the file.
+// Reads the sectors of the device in the file.
 fn load<F: Openable>(alloc: Global, file: &mut F) -> Result<SectorCopy, FileFault>
     ensures read { IfOk result (λ copy. Loads (F.opening file.old) (F.opening file.new) copy) }
     ensures few { IfOk result (λ copy. sectors_of copy ≤ 131072) }
-    ensures long { IsErrOf result FileFault.Long
-        → (n : ℕ) × (67108864 < n) × Adds (F.opening file.old) (F.opening file.new) (measured n ∷ []) }
     ensures fault { IfErr result (λ fault. fault ≢ FileFault.Held) }
     ensures length { KeepsLength (F.opening file.old) (F.opening file.new) }
     ensures calls { F.calls file.new ≡ F.calls file.old }
 {
-    let sectors = whole_sectors(file.length()?)?;
+    let sectors = device_sectors(file.length()?);
     let copy = get_all(alloc, file, sectors as usize)?;
     Ok(copy)
 }
@@ -163,8 +155,6 @@ fn load_locked<F: Openable>(
     ensures few { IfOk result (λ copy. sectors_of copy ≤ 131072) }
     ensures held { IsErrOf result FileFault.Held
         → Adds (F.opening file.old) (F.opening file.new) (locked lock LockAnswer.Held ∷ []) }
-    ensures long { IsErrOf result FileFault.Long → (answer : LockAnswer) × (n : ℕ) × (67108864 < n)
-        × Adds (F.opening file.old) (F.opening file.new) (locked lock answer ∷ synced ∷ measured n ∷ []) }
     ensures length { KeepsLength (F.opening file.old) (F.opening file.new) }
     ensures calls { F.calls file.new ≡ F.calls file.old }
 {
@@ -228,13 +218,12 @@ fn open_locked<F: Openable>(
 
 impl<F: Openable> CopiedFile<HostFile<F>> {
     /// The device in the file at `path`, which has to be there. Its sectors are the whole ones of
-    /// the file; the bytes after the last sector stay. The file is locked and synced before it
-    /// is read, so what a read of the device gives at first is durable. Until the device is dropped no other is open
-    /// in the file.
+    /// the file, but at most `MAX_SECTORS`. The bytes after the last sector stay. The file is locked and synced before
+    /// it is read, so what a read of the device gives at first is durable. Until the device is dropped no other is
+    /// open in the file.
     ///
-    /// `Held` where another device is open in it. `Long` where the file has more bytes than `MAX_SECTORS` sectors. `Io`
-    /// where the system refuses to open, sync, measure or read it, as it does with a file that isn't there, a folder or
-    /// a pipe. `NoMemory` where there is no memory for a copy of it.
+    /// `Held` where another device is open in it. `Io` where the system refuses to open, sync, measure or read it, as
+    /// it does with a file that isn't there, a folder or a pipe. `NoMemory` where there is no memory for a copy of it.
     pub fn open(rt: &HostRuntime, path: &str) -> Result<CopiedFile<HostFile<F>>, FileFault>
         ensures opening { IfOk result (λ d. IfSome (F.opening (raw_file d))
             (λ calls. IsOpened path.now Access.Write Lock.Exclusive calls (file_disk d))) }
@@ -272,7 +261,6 @@ impl<F: Openable> CopiedFile<HostFile<F>> {
         requires { sectors ≤ MAX_SECTORS }
         ensures opening { IfOk result (λ d. IfSome (F.opening (raw_file d))
             (λ calls. IsMade path.now Access.Create sectors calls)) }
-        ensures fault { IfErr result (λ fault. fault ≢ FileFault.Long) }
         ensures mirror { IfOk result (λ d. IfSome (F.opening (raw_file d)) (λ calls. Mirrors calls (file_disk d))) }
         ensures size { IfOk result (λ d. (file_disk d).sectors ≡ sectors) }
         ensures zeros { IfOk result (λ d. (i : ℕ) → i < sectors → (file_disk d).seen i ≡ replicate 512 0) }

@@ -165,13 +165,15 @@ fn what_is_no_file_is_refused(rt: HostRuntime) -> Result<(), Fail> {
 }
 
 #[test]
-fn the_longest_file_is_opened(rt: HostRuntime) -> Result<(), Fail> {
+fn of_a_long_file_the_first_sectors_are_opened(rt: HostRuntime) -> Result<(), Fail> {
     let path = "file_device_long";
     let file = fs::File::create(&rt, path)?;
     for (length, reported) in [
         (0, Ok(0)),
         (MAX_SECTORS * 512, Ok(MAX_SECTORS)),
-        (MAX_SECTORS * 512 + 1, Err(FileFault::Long)),
+        (MAX_SECTORS * 512 - 1, Ok(MAX_SECTORS - 1)),
+        (MAX_SECTORS * 512 + 1, Ok(MAX_SECTORS)),
+        (MAX_SECTORS * 1024, Ok(MAX_SECTORS)),
     ] {
         file.set_len(length)?;
         assert_eq!(rt; sectors_of(FileDevice::open(&rt, path)), reported);
@@ -248,7 +250,6 @@ fn those_who_read_share_a_file(rt: HostRuntime) -> Result<(), Fail> {
 fn a_fault_is_reported(rt: HostRuntime) -> Result<(), Fail> {
     let reported = [
         (FileFault::Io, "the file can't be opened, read or written"),
-        (FileFault::Long, "the file is longer than 64 MiB"),
         (FileFault::Held, "another program uses the image"),
         (FileFault::NoMemory, "memory ran out"),
     ];

@@ -65,9 +65,7 @@ impl Refusal {
     pub(crate) fn of_file(fault: FileFault, otherwise: Fault) -> Refusal {
         match fault {
             FileFault::NoMemory => Refusal::from(Fault::NoMemory),
-            FileFault::Io | FileFault::Long | FileFault::Held => {
-                Refusal::new(otherwise, Cause::File(fault))
-            }
+            FileFault::Io | FileFault::Held => Refusal::new(otherwise, Cause::File(fault)),
         }
     }
 }
@@ -187,7 +185,7 @@ fn tell_file(rt: &HostRuntime, file: &str, how: &OpenOptions, fault: FileFault) 
             Ok(_) if !may_have_image(rt, file) => tell_line(rt, file, NO_FILE),
             Ok(_) => tell_line(rt, file, fault),
         },
-        FileFault::Long | FileFault::Held | FileFault::NoMemory => tell_line(rt, file, fault),
+        FileFault::Held | FileFault::NoMemory => tell_line(rt, file, fault),
     }
 }
 

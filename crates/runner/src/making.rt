@@ -101,7 +101,7 @@ fn create_new(rt: &HostRuntime, sectors: u64, path: &str) -> Result<FileDevice, 
             remove(rt, &file, path);
             let cause = match fault {
                 FileFault::Held => Cause::File(fault),
-                FileFault::Io | FileFault::Long | FileFault::NoMemory => Cause::Unfinished,
+                FileFault::Io | FileFault::NoMemory => Cause::Unfinished,
             };
             Err(Refusal::new(Fault::CannotWriteImage, cause))
         }

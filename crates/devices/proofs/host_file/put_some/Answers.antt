@@ -1,6 +1,6 @@
-use Rattle.devices.proofs.Names.{rules, error_kind, Interrupted, take, [], took}
-use Rattle.std.proofs.Common.{◌≡◌, ◌≢◌, ◌∷◌, ◌∙◌}
-use Rattle.devices.proofs.CallErrors.{failed_after, interrupted_more}
+use Rattle.devices.proofs.Names.{rules, error_kind, Interrupted}
+use Rattle.std.proofs.Common.{◌≢◌, ◌∙◌}
+use Rattle.devices.proofs.CallErrors.{failed_after}
 use Rattle.devices.proofs.Deeds.{takes_still, takes_zero}
 use Rattle.devices.proofs.host_file.put_some.Goals as goal
 

@@ -22,5 +22,5 @@ returns-in-Ok-make_zeros-clause-size g c =
 
 pub returns-in-Ok-make_zeros-clause-mirror : goal.returns-in-Ok-make_zeros-clause-mirror
 returns-in-Ok-make_zeros-clause-mirror g c =
-    made_mirrors (file_disk c.over.result) c.args.path.now New c.args.sectors _ (returns-in-Ok-make_zeros-clause-size g c)
+    made_mirrors (file_disk c.over.result) c.args.path.now New c.args.sectors _ c.requires (returns-in-Ok-make_zeros-clause-size g c)
     (returns-in-Ok-make_zeros-clause-zeros g c) (returns-in-Ok-make_zeros-clause-opening g c)

@@ -1,7 +1,7 @@
-use Rattle.devices.proofs.Names.{Create, ap, arith, refl, length, length-replicate, zeros_are, file_disk, err_from_is_err_and}
+use Rattle.devices.proofs.Names.{Create, ap, arith, refl, length, length-replicate, zeros_are, file_disk}
 use Rattle.std.proofs.Common.{◌≡◌, ◌*◌, ◌∙◌}
 use Rattle.devices.proofs.Mirrored.{made_mirrors}
-use Rattle.devices.proofs.Openings.{makes, neither_long}
+use Rattle.devices.proofs.Openings.{makes}
 use Rattle.devices.proofs.open.CopiedFile+HostFile+F.create.Goals as goal
 
 pub returns-clause-opening : goal.returns-clause-opening
@@ -23,7 +23,8 @@ returns-clause-size g c =
 
 pub returns-clause-mirror : goal.returns-clause-mirror
 returns-clause-mirror g c =
-    made_mirrors (file_disk c.over.result) c.args.path.now Create c.args.sectors _ (returns-clause-size g c) (returns-clause-zeros g c)
+    made_mirrors (file_disk c.over.result) c.args.path.now Create c.args.sectors _ c.requires (returns-clause-size g c)
+    (returns-clause-zeros g c)
     (returns-clause-opening g c)
 
 pub returns-clause-durable : goal.returns-clause-durable
@@ -31,8 +32,3 @@ returns-clause-durable g c = c.over.ensures.durable
 
 pub returns-clause-failures : goal.returns-clause-failures
 returns-clause-failures g c = c.over.ensures.failures
-
-pub returns-in_err-make_zeros-clause-fault : goal.returns-in_err-make_zeros-clause-fault
-returns-in_err-make_zeros-clause-fault g c =
-    let p = err_from_is_err_and c.from_residual-in_err-make_zeros.result c.from_residual-in_err-make_zeros.ensures.1 in
-    rw p.1 (neither_long p.0 _ p.2 c.in_err-make_zeros.ensures.fault)
