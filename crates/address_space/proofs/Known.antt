@@ -1,4 +1,4 @@
--- What stands where a capability says so has a header. Sound frames with another word in a page. A descent through a tree.
+-- Objects that sound capabilities name have headers. Frames stay sound with another word in a page. A descent through a tree.
 use Rattle.address_space.proofs.Names.{ℕ, List, length, sym, ap, subst, arith, IsTrue, Access, Capability, Space, Frame, Geometry}
 use Rattle.address_space.proofs.Names.{objects_of, AreKeepable, IsSoundFrames, is_page, MayBeHeld, content_at, root_at, Parts, frames_of, objects_in}
 use Rattle.address_space.proofs.Names.{known_used, node_used, page_used, keepable_later, Object, AreCurrent, world_at, is_waiting, IsSound, World, with_word}

@@ -1,4 +1,4 @@
--- Trees of nodes, level by level. The accesses on a way: merged from its start on, they restrict what is reached as they do one by one.
+-- Trees of nodes, level by level. Accesses merged along the way restrict a page as they do one by one.
 use Rattle.address_space.proofs.Names.{nat_tests, ℕ, zero, suc, List, Result, Ok, Err, refl, ap, arith, eq-eqb, ne_eqb, Access, MemoryFault, Hole, Malformed}
 use Rattle.address_space.proofs.Names.{Capability, Void, Page, Space, Object, union, below, path, restricted, walk_along, slot_at, Bool, [], bit_or, IfOk}
 use Rattle.address_space.proofs.Names.{IsAccess, IsWellFormed, MayBeHeld}

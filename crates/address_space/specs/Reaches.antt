@@ -1,4 +1,4 @@
--- Over what a walk goes, and what it returns.
+-- What a walk through an address space returns.
 use Rattle.std.specs.Prelude.{ℕ, ◌==◌, Bool, not, ◌&&◌, if◌then◌else◌, List, Result, Ok, Err, IsTrue}
 use Rattle.model.specs.declared.access.Access.{Access}
 use Rattle.model.specs.declared.answer.MemoryFault.{MemoryFault}
@@ -13,12 +13,12 @@ abbrev pub reported : Result Reached MemoryFault → Result (ℕ × Access) Memo
 reported (Ok reached) = Ok (reached.page, record { 0 = reached.access })
 reported (Err why) = Err why
 
--- what is reached, if anything is, is a page
+-- the number that is reached, if one is, is that of a page
 abbrev pub ReachesPage : List Object → Result Reached MemoryFault → Type 0
 ReachesPage os (Ok reached) = IsTrue (is_page (content_at os reached.page))
 ReachesPage os (Err why) = Unit {0}
 
--- what is reached for a load, or for a store, which wants no restriction
+-- what a walk reaches for a load; or for a store, which needs a page without restrictions
 abbrev pub allowed : Bool → Result (ℕ × Access) MemoryFault → Result (ℕ × Access) MemoryFault
 allowed for_write (Ok found) = if for_write && not (found.1.0 == 0) then Err ReadOnly else Ok found
 allowed for_write (Err why) = Err why

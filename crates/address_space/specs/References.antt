@@ -12,13 +12,13 @@ use Rattle.model.specs.declared.answer.Refusal.{Refusal}
 use Rattle.model.specs.declared.answer.Refusal.TheVariants as refusal
 use Rattle.capability.specs.Parts.{AreSameUnlessFailed, IsUnprepared, Parts, frames_of}
 
--- a load gives a word, or says why there is none
+-- a load gives the word at the address, or the memory fault
 abbrev pub IsLoaded : List Object → ℕ → ℕ → Result ℕ MemoryFault → Type 0
 IsLoaded os p address (Ok word) =
     (found : ℕ × Access) × (reached os p address ≡ Ok found) × (word ≡ word_at os found.0 (address % 512))
 IsLoaded os p address (Err why) = reached os p address ≡ Err why
 
--- a store puts a word into a page, or says why it can't. Half of the log holds the page with the numbers written before
+-- a store writes a word into a page, and half of the log holds all touched numbers; or it gives the memory fault
 abbrev pub IsStored : ℕ → List Object → List Bool → ℕ → ℕ → ℕ → List Object → List Bool →
     Result (Unit {0}) MemoryFault → Type 0
 IsStored log before touched p address word after touched_after (Ok done) =
@@ -27,12 +27,12 @@ IsStored log before touched p address word after touched_after (Ok done) =
 IsStored log before touched p address word after touched_after (Err why) =
     (writable (reached before p address) ≡ Err why) × (after ≡ before) × (touched_after ≡ touched)
 
--- a store that would touch more numbers than the log has slots
+-- a store that would touch more numbers than half of the log has slots
 abbrev pub OverfillsStore : ℕ → List Object → List Bool → ℕ → ℕ → Type 0
 OverfillsStore log os touched p address =
     (page : ℕ) × (writable (reached os p address) ≡ Ok page) × (log < touched_count (touching touched (page ∷ [])))
 
--- frames that are sound at an age are still sound then
+-- frames that are sound at an age stay sound at that age
 abbrev pub KeepsSound : Parts → Parts → Type 0
 KeepsSound old new = (age : ℕ) → IsSoundFrames old.geometry age (frames_of old) →
     IsSoundFrames old.geometry age (frames_of new)

@@ -1,4 +1,4 @@
--- Bodies by place.
+-- Bodies of objects by place.
 use Rattle.cache_entries.proofs.Names.{nat_tests, AreBodies, inl, inr, ℕ, true, false, List, [], length, set, get_or, replicate, Option, Some, None, IsSome}
 use Rattle.cache_entries.proofs.Names.{refl, sym, ap, subst, arith, length-set, cases_eq, get_or-set_same, get_or-set_other, get_or_past, get_or_default}
 use Rattle.cache_entries.proofs.Names.{get_or-map-range_with_len, length-map-range_with_len, get_or-replicate, length-replicate, set-get_or, fill_by_all}

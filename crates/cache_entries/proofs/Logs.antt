@@ -1,4 +1,4 @@
--- A log of uses that an order doesn't have yet.
+-- A log of uses that aren't in the order yet.
 use Rattle.cache_entries.proofs.Names.{nat_tests, ℕ, true, false, List, [], length, set, drop, get_or, get_or_default, get_or_past, Some, None, is_some, sym}
 use Rattle.cache_entries.proofs.Names.{ap, subst, arith, is_member, AreSpread, AreStamped, IsLogOf, LogState, OrderState, place_at, used_all, used_in_turn}
 use Rattle.cache_entries.proofs.Names.{used_last, used_longest_ago, without, true≢false, false_from_ne_true, length-set}

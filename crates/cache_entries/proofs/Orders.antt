@@ -1,4 +1,4 @@
--- Numbers in the order of their last use, and pairs of a cache with them as its keys.
+-- Numbers in the order of their last use; a cache whose pairs have them as keys.
 use Rattle.cache_entries.proofs.Names.{nat_tests, IsFilled, inl, inr, ℕ, nat_eq, Bool, true, false, cond, true≢false, List, [], length, take, Option, Some}
 use Rattle.cache_entries.proofs.Names.{None, is_some, refl, sym, ap, arith, keys_of, lookup_entry, remove_entry, option_map_or, eqb-true, eq-eqb, ne_eqb}
 use Rattle.cache_entries.proofs.Names.{take_all, LruCache, promoted, demoted, put_entries, Contains-lookup_entry, is_member, AllDiffer, without, or_right}

@@ -1,4 +1,4 @@
--- Places of numbers.
+-- The places of numbers, and the numbers of places.
 use Rattle.cache_entries.proofs.Names.{nat_tests, ArePlaced, AreSpread, inl, inr, ℕ, zero, suc, Bool, true, false, true≢false, List, [], length, map, set, take}
 use Rattle.cache_entries.proofs.Names.{get_or, Option, Some, None, is_some, refl, sym, ap, subst, arith, cond, cases_eq, cases_lt, lt-ltb, le-ltb, length-map}
 use Rattle.cache_entries.proofs.Names.{length-set, length-take-le, take_all, get_or_default, get_or-replicate, length-replicate, replicate, get_or-set_same}

@@ -1,4 +1,4 @@
--- Entries by number, whose bodies are at places.
+-- Cache entries by number, with their bodies at places.
 use Rattle.cache_entries.proofs.Names.{nat_tests, AreStored, AreSpread, AreOrdered, ℕ, zero, suc, [], Bool, true, false, List, length, map, set, get_or}
 use Rattle.cache_entries.proofs.Names.{replicate, Option, Some, None, is_some, option_map, cond, refl, sym, ap, arith, length-map, length-set, get_or-set_same}
 use Rattle.cache_entries.proofs.Names.{get_or-set_other, get_or_past, Content, Cap, held_at, Entry, changing, entry_at, EntriesState, OrderState, entries_of}

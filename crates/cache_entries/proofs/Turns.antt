@@ -1,4 +1,4 @@
--- Numbers that are used in turn, and those whose use the order doesn't have yet.
+-- Numbers that are used in turn, before and after the order has these uses.
 use Rattle.cache_entries.proofs.Names.{nat_tests, Uses, AreSpread, inl, inr, ℕ, nat_eq, Bool, true, false, true≢false, List, [], length, take, drop, get_or}
 use Rattle.cache_entries.proofs.Names.{Some, refl, sym, ap, subst, arith, slice_get, take_more, cases_eq, is_member, AllDiffer, OrderState, used_in_turn}
 use Rattle.cache_entries.proofs.Names.{used_last, without, keys_of, length-append, promoted, IsFilled, used_all, used_longest_ago, at_drop_more, none-some}

@@ -1,8 +1,8 @@
 -- The entries of a store's cache: by number, and in the order of their last use.
 use Rattle.cache_entries.specs.Names.{ℕ, Option, None, List, option_map, slice_index_or, slice_set, Cap, Content}
 
--- what is in memory of an object: what it holds now; and what it held when it was frozen, where that isn't in the log
--- yet and is kept apart from what it holds now
+-- a cache entry: an object's present body; and a frozen copy, if the frozen body isn't in the log yet and was copied
+-- before a write
 pub record Entry : Type 0 where
   pub present : Content Cap
   pub kept : Option (Content Cap)
@@ -17,14 +17,14 @@ present_of e = e.present
 abbrev pub kept_of : Entry → Option (Content Cap)
 kept_of e = e.kept
 
--- an entry of an object that holds something else now
+-- an entry with its present body changed
 abbrev pub changing : (Content Cap → Content Cap) → Entry → Entry
 changing change e = record e { present = change e.present }
 
--- a new entry
+-- a new entry, with no frozen copy
 abbrev pub new_entry : Content Cap → Entry
 new_entry c = record { present = c; kept = None }
 
--- another one in its place, where it has one
+-- the entries, with that of number n changed if it has one
 abbrev pub with_entry : (Entry → Entry) → ℕ → List (Option Entry) → List (Option Entry)
 with_entry change n es = slice_set es n (option_map change (entry_at es n))

@@ -3,7 +3,7 @@ use Rattle.std.specs.Prelude.{◌==◌, if◌then◌else◌, ℕ, ◌*◌, ◌%�
 use Rattle.std.specs.Int.{w64, from_le_bytes}
 use Rattle.cache_entries.specs.declared.number_hasher.NumberHasher.{NumberHasher}
 
--- the number that is hashed by these bytes, its lowest first
+-- the number to be hashed, from its bytes, the lowest first
 abbrev pub number_in : List ℕ → ℕ
 number_in bytes = if length bytes == 8 then from_le_bytes w64 bytes else length bytes
 

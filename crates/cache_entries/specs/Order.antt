@@ -5,7 +5,7 @@ use Rattle.cache_entries.specs.Names.{Cap, held_at, Content}
 use Rattle.std.specs.Prelude.{◌≡◌, ◌==◌, ◌-◌, ◌<◌, ◌≤◌, if◌then◌else◌, ◌∷◌}
 use Rattle.cache_entries.specs.Entries.{Entry, entry_at, new_entry, with_entry}
 
--- no number stands twice
+-- no number occurs twice
 abbrev pub AllDiffer : List ℕ → Type 0
 AllDiffer [] = Unit {0}
 AllDiffer (n ∷ ns) = (is_member ns n ≡ false) × AllDiffer ns
@@ -15,7 +15,7 @@ abbrev pub without : ℕ → List ℕ → List ℕ
 without n [] = []
 without n (m ∷ ms) = if n == m then ms else m ∷ without n ms
 
--- all places below a count, each once
+-- the keys are all places below `count`, each once
 pub record IsFilled (keys : List ℕ) (count : ℕ) : Type 0 where
   pub once : AllDiffer keys
   pub all : length keys ≡ count
@@ -25,12 +25,12 @@ pub record IsFilled (keys : List ℕ) (count : ℕ) : Type 0 where
 abbrev pub used_longest_ago : List ℕ → Option ℕ
 used_longest_ago ns = slice_get ns (length ns - 1)
 
--- the order once numbers were used in turn
+-- the order after these numbers were used in turn
 abbrev pub used_in_turn : List ℕ → List ℕ → List ℕ
 used_in_turn [] order = order
 used_in_turn (n ∷ ns) order = used_in_turn ns (n ∷ without n order)
 
--- numbers in the order of their last use, a place for each, and how many there may be
+-- numbers in the order of their last use, the place of each, and how many numbers there may be
 pub record OrderState : Type 0 where
   pub numbers : List ℕ
   pub places : List (Option ℕ)
@@ -39,11 +39,11 @@ pub record OrderState : Type 0 where
 abbrev pub place_at : List (Option ℕ) → ℕ → Option ℕ
 place_at ps n = slice_index_or ps n None
 
--- a number of the order was used last
+-- the order after n, one of its numbers, was used
 abbrev pub used_last : ℕ → OrderState → OrderState
 used_last n s = record { numbers = n ∷ without n s.numbers; places = s.places; most = s.most }
 
--- numbers of the order were used in turn
+-- the order after these of its numbers were used in turn
 abbrev pub used_all : List ℕ → OrderState → OrderState
 used_all ns s = record { numbers = used_in_turn ns s.numbers; places = s.places; most = s.most }
 
@@ -55,7 +55,7 @@ pub record AreSpread (s : OrderState) : Type 0 where
   pub within : (n p : ℕ) → place_at s.places n ≡ Some p → p < s.most
   pub apart : (n m p : ℕ) → place_at s.places n ≡ Some p → place_at s.places m ≡ Some p → n ≡ m
 
--- the place of a number: one past all places is none
+-- a place, or `None` if p is past all places
 abbrev pub place_below : ℕ → ℕ → Option ℕ
 place_below most p = if nat_lt p most then Some p else None
 
@@ -79,13 +79,13 @@ pub record ArePlaced (keys numbers places : List ℕ) (count : ℕ) : Type 0 whe
   pub forth : (n : ℕ) → slice_index_or places n (length numbers) < length numbers
       → slice_index numbers (slice_index_or places n (length numbers)) ≡ n
 
--- a log: uses of numbers below a count, in turn, and how many there may be
+-- a log of uses: the numbers that were used, in turn; a bound on these numbers; how many uses it may have
 pub record LogState : Type 0 where
   pub uses : List ℕ
   pub count : ℕ
   pub most : ℕ
 
--- a use of a number stands at an index
+-- the use at index i is of number n
 pub record IsUseAt (uses : List ℕ) (i n : ℕ) : Type 0 where
   pub within : i < length uses
   pub there : slice_index uses i ≡ n
@@ -95,26 +95,26 @@ pub record AreStamped (uses stamps : List ℕ) : Type 0 where
   pub known : (n : ℕ) → is_member uses n ≡ true → n < length stamps
   pub stamped : (n : ℕ) → is_member uses n ≡ true → IsUseAt uses (slice_index stamps n) n
 
--- a log of uses of numbers of an order
+-- a log in which only numbers of this order are used
 pub record IsLogOf (l : LogState) (s : OrderState) : Type 0 where
   pub listed : (n : ℕ) → is_member l.uses n ≡ true → is_member s.numbers n ≡ true
   pub count : l.count ≡ length s.places
   pub some : 0 < l.most
 
--- the first `count` of a list of numbers of the order were used in turn, and all of them if `said`
+-- some numbers from the front of the list were used in turn; all of the list, if `said`
 pub record Uses (s t : OrderState) (ns : List ℕ) (said : Bool) : Type 0 where
   pub count : ℕ
   pub used : t ≡ used_all (take count ns) s
   pub listed : (n : ℕ) → is_member (take count ns) n ≡ true → is_member s.numbers n ≡ true
   pub whole : said ≡ true → length ns ≤ count
 
--- entries by number, the numbers that have one in the order of their last use, and how many there may be
+-- entries by number, the numbers with an entry in the order of their last use, and how many entries there may be
 pub record EntriesState : Type 0 where
   pub at : List (Option Entry)
   pub order : List ℕ
   pub most : ℕ
 
--- the entry at a place: what stands there now, and what is kept there, where that is marked
+-- the entry at a place: its present body, and its frozen copy if the place has a mark
 abbrev pub entry_in : List (Content Cap) → List (Content Cap) → List Bool → ℕ → Entry
 entry_in presents kepts marks p = record {
   present = held_at presents p;
@@ -136,25 +136,25 @@ pub record AreStored (most : ℕ) (ps ks : List (Content Cap)) (ms : List Bool) 
   pub kepts : length ks ≡ most
   pub marks : length ms ≡ most
 
--- the order has each number with an entry once, and no more than there may be, which are at least eight
+-- the order has each number with an entry once; these are at most `most`, which is at least eight
 pub record AreOrdered (s : EntriesState) : Type 0 where
   pub listed : (n : ℕ) → is_member s.order n ≡ is_some (entry_at s.at n)
   pub once : AllDiffer s.order
   pub few : length s.order ≤ s.most
   pub least : 8 ≤ s.most
 
--- the entry of a number has changed
+-- the entries, with that of number n changed
 abbrev pub with_entry_of : (Entry → Entry) → ℕ → EntriesState → EntriesState
 with_entry_of change n s = record { at = with_entry change n s.at; order = s.order; most = s.most }
 
--- a number with no entry has one, and was used last
+-- the entries with a new one for number n, which was used last
 abbrev pub with_new : ℕ → Content Cap → EntriesState → EntriesState
 with_new n c s = record { at = slice_set s.at n (Some (new_entry c)); order = n ∷ s.order; most = s.most }
 
--- a number has no entry any more
+-- the entries without that of number n
 abbrev pub without_entry : ℕ → EntriesState → EntriesState
 without_entry n s = record { at = slice_set s.at n None; order = without n s.order; most = s.most }
 
--- a number that has an entry was used last
+-- the entries after that of number n was used
 abbrev pub used_now : ℕ → EntriesState → EntriesState
 used_now n s = record { at = s.at; order = n ∷ without n s.order; most = s.most }

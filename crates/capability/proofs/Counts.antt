@@ -1,4 +1,4 @@
--- What frames stand for once counts have risen: the capabilities that they were compared with are void. Frames stay sound then.
+-- After counts rise, capabilities compared with them are void; the frames stay sound.
 use Rattle.capability.proofs.Names.{ℕ, Bool, List, [], map, length, slice_set, refl, sym, ap, subst, arith, zero-add, All, enumerate_from, nat_tests}
 use Rattle.capability.proofs.Names.{get_or-set_other, get_or-set_same, length-map, length-set, get_or-enumerate_from, length-enumerate_from, Cap, Capability}
 use Rattle.capability.proofs.Names.{Void, Number, Page, Node, Space, Process, Start, Resume, Bank, Discrim, ObjectHeader, Geometry, Content, Object, called}

@@ -1,5 +1,4 @@
--- What frames stand for once the header or the content at one number has changed, or the root of a process. What an edit of present frames
--- leaves.
+-- The objects of frames after a header, a content or a root has changed at one number. What an edit of present frames leaves alone.
 use Rattle.capability.proofs.Names.{ℕ, suc, inl, inr, nat_lt, List, [], map, length, slice_index_or, slice_set, refl, sym, ap, subst, arith, All, get_or-map}
 use Rattle.capability.proofs.Names.{map-set_same, cases_lt, nat_tests, length-set, map-set, set-get_or, All-replicate, All-set, Cap, Capability, Void, Page}
 use Rattle.capability.proofs.Names.{Node, Space, Process, Start, Resume, Bank, Frame, ObjectHeader, Content, Object, blank_header, conveyed, current_count}

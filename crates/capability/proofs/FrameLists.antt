@@ -1,4 +1,4 @@
--- Frames are headers with contents beside them: what stands at a number.
+-- A list of frames from a list of headers and one of contents: the frame at each number.
 use Rattle.capability.proofs.Names.{nat_tests, ℕ, zero, suc, true, false, List, [], length, slice_index, slice_index_or, slice_set, refl, sym, ap, subst, arith}
 use Rattle.capability.proofs.Names.{IsTrue, get_or-map, ext_get_or, get_or_past, get_or-set_same, get_or-set_other, set_past, length-map, Cap, Capability, Void}
 use Rattle.capability.proofs.Names.{Frame, ObjectHeader, Content, Object, Root, blank_frame, conveyed, frame_at, frames_in, header_at, headers, held_at}

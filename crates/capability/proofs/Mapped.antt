@@ -1,4 +1,4 @@
--- A content with each capability in it changed is as it was in all else.
+-- A content with each capability in it changed stays the same otherwise.
 use Rattle.capability.proofs.Names.{arith, ℕ, map, nat_tests, Geometry, Content, is_annex, is_bank, is_root, limit_in, map_content, role_of, slots_in, words_in}
 use Rattle.capability.proofs.Names.{IsOfKind}
 use Rattle.std.proofs.Common.{◌≡◌}

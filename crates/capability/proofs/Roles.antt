@@ -1,4 +1,4 @@
--- What the roles in headers say of the objects that frames stand for.
+-- What the roles in headers say about objects.
 use Rattle.capability.proofs.Names.{arith, ℕ, Bool, true, false, List, length, ⊎_elim, sym, ap, subst, nat_tests, cases_lt, get_or_past, get_or-map, Cap}
 use Rattle.capability.proofs.Names.{Capability, Frame, ObjectHeader, Content, Object, Role, blank_frame, blank_header, conveyed, frame_at, header_at, headers}
 use Rattle.capability.proofs.Names.{held_at, object_of, objects_of, is_free, is_root, map_content, role_of, content_at, is_process, HaveTheirRoles, Parts}

@@ -1,4 +1,4 @@
--- What lies beside the present frames, through one change after another.
+-- What changes of present frames leave alone, through one change after another.
 use Rattle.capability.proofs.Names.{arith, ℕ, nat_tests, KeepsRest, OnlyFetches, Parts, ap, subst}
 use Rattle.capability.specs.Parts.{OnlyReads}
 use Rattle.capability.specs.Names.{Refusal, Result, OnOk, IsErrOf}

@@ -1,4 +1,4 @@
--- Marks of no number.
+-- The set of touched numbers that is empty.
 use Rattle.capability.proofs.Names.{ℕ, false, replicate, zero, suc, refl, arith, cond, touched_count, untouched, sum_by-cons, Geometry}
 use Rattle.std.proofs.Common.{◌≡◌, ◌+◌}
 

@@ -15,14 +15,14 @@ use Rattle.capability.specs.Parts.{fresh_content}
 abbrev pub reply_of_code : ResultCode → Reply
 reply_of_code code = record { code = code; words = 0 ∷ 0 ∷ 0 ∷ []; capability = Void }
 
--- the objects after a change of a bank, whose order writes the numbers of the list
+-- the objects after a bank's change; `list` has the numbers that the order writes
 abbrev pub bank_changed : List Object → List ℕ → BankChange → List Object
 bank_changed os list (bank.Make n f b) = with_new os n b (fresh_content Void f)
 bank_changed os list (bank.MakeProcess r a b) = with_new (with_new os r b (new_root a)) a b new_annex
 bank_changed os list (bank.GiveUp above) = rescind list os
 bank_changed os list (bank.Transfer b) = rescind (b ∷ []) (inherited os b)
 
--- the objects after a change, whose order writes the numbers of the list
+-- the objects after a change; `list` has the numbers that the order writes
 abbrev pub changed : List Object → List ℕ → Change → List Object
 changed os list change.Nothing = os
 changed os list (change.Word page index word) = with_word os page index word
@@ -34,7 +34,7 @@ changed os list (change.SetState process state) = consume process (with_state os
 changed os list (change.Space process held) = with_root os process (with_space (root_at os process) held)
 changed os list (change.Bank made) = bank_changed os list made
 
--- the message that a reply is: the code and the words, key 0, and the capability
+-- the message of a reply: the code and the words, key 0, and the capability
 abbrev pub message_of : Reply → Message
 message_of reply = record {
   words = code_number reply.code ∷ reply.words;
@@ -42,7 +42,7 @@ message_of reply = record {
   capabilities = reply.capability ∷ Void ∷ Void ∷ Void ∷ [];
 }
 
--- the one object that it writes
+-- the one object that a change writes, if it writes just one
 abbrev pub target_of : Change → Option ℕ
 target_of change.Nothing = None
 target_of (change.Word page index word) = Some page
@@ -56,7 +56,7 @@ target_of (change.Bank made) = None
 abbrev pub written_of : Change → List ℕ
 written_of c = option_to_list (target_of c)
 
--- the outcome of an order, as planned, that writes the listed numbers
+-- the outcome of a planned order that writes the listed numbers
 abbrev pub outcome_by : List Object → List ℕ → OrderPlan → OrderOutcome
 outcome_by os list plan = record {
   code = plan.reply.code;

@@ -1,5 +1,5 @@
--- What must hold of frames that can be kept, so that they stand for a sound world: capabilities name what they are for,
--- processes are whole, and banks are a tree within its limits.
+-- What must hold of frames that can be kept, so that they stand for a sound world: capabilities name objects of their
+-- role, processes are whole, and banks are a tree within its limits.
 use Rattle.capability.specs.Names.{ℕ, Bool, false, List, Option, None, Some, IsTrue, All, Contains, Cap, Capability}
 use Rattle.capability.specs.Names.{Bank, Discrim, Node, Number, Page, Process, Resume, Space, Start, Void, Frame}
 use Rattle.capability.specs.Names.{Content, Role, chain, usage, current_count, frame_at, headers, objects_of, caps_in}
@@ -8,7 +8,7 @@ use Rattle.std.specs.Prelude.{◌≡◌, ◌≢◌, ◌≤◌}
 use Rattle.model.specs.declared.object.Content.TheVariants as content
 use Rattle.model.specs.declared.object.Role.TheVariants as role
 
--- what an object is, and which bank owns it, by number
+-- the role and the owner of object n
 abbrev pub role_at : List Frame → ℕ → Role
 role_at fs n = (frame_at fs n).header.role
 
@@ -25,7 +25,7 @@ abbrev pub is_waiting_root : {C : Type 0} → Content C → Bool
 is_waiting_root (content.Root root) = is_waiting root.state
 is_waiting_root _ = false
 
--- the object that a capability names is what the capability is for; that of a resume capability waits
+-- the object that a capability names has the capability's role; the process of a resume capability waits
 abbrev pub NamesItsRole : List Frame → Capability → Type 0
 NamesItsRole fs Void = Unit {0}
 NamesItsRole fs (Number n) = Unit {0}
@@ -38,20 +38,20 @@ NamesItsRole fs (Resume p) = IsTrue (is_waiting_root (frame_at fs p).content)
 NamesItsRole fs (Bank b) = role_at fs b ≡ role.Bank
 NamesItsRole fs Discrim = Unit {0}
 
--- a held capability: its count is never above its object's, and where it is live it names what it is for
+-- a held capability: its count is at most its object's, and if it is live, its object has the capability's role
 pub record IsNamed (fs : List Frame) (c : Cap) : Type 0 where
   pub current : c.count ≤ current_count (headers fs) c.what
   pub live : c.count ≡ current_count (headers fs) c.what → NamesItsRole fs c.what
 
--- each capability that is held, by an object's slots, registers or address space
+-- this holds of each capability in slots, registers and address spaces
 abbrev pub AreNamed : List Frame → Type 0
 AreNamed fs = (n : ℕ) → All (IsNamed fs) (caps_in (frame_at fs n).content)
 
--- a number is that of a root whose annex is another number
+-- p is a root, and its annex is a
 abbrev pub IsRootOf : List Frame → ℕ → ℕ → Type 0
 IsRootOf fs p a = annex_in (frame_at fs p).content ≡ Some a
 
--- an annex that belongs to the bank that owns the root
+-- a is an annex with the same owner as p
 abbrev pub IsAnnexFor : List Frame → ℕ → ℕ → Type 0
 IsAnnexFor fs p a = (role_at fs a ≡ role.Annex) × (owner_of fs a ≡ owner_of fs p)
 
@@ -67,11 +67,11 @@ pub record AreOwned (fs : List Frame) : Type 0 where
   pub owners : (n : ℕ) → role_at fs n ≢ role.Free → role_at fs (owner_of fs n) ≡ role.Bank
   pub chains : (b : ℕ) → role_at fs b ≡ role.Bank → Contains (chain (objects_of fs) b) 0
 
--- no bank accounts for more than its limit
+-- no bank's usage is above its limit
 abbrev pub AreLimited : List Frame → Type 0
 AreLimited fs = (b : ℕ) → role_at fs b ≡ role.Bank → usage (objects_of fs) b ≤ limit_in (frame_at fs b).content
 
--- banks as they must be
+-- all objects have owners, and all banks keep their limits
 pub record AreBanked (fs : List Frame) : Type 0 where
   pub owned : AreOwned fs
   pub limited : AreLimited fs

@@ -1,4 +1,4 @@
--- Counts against the definitions of rescinding and consuming.
+-- Raising counts does what the definitions of rescinding and consuming say.
 use Rattle.capability.specs.Names.{ℕ, List, length, Geometry, called, header_at, AreCurrent, IsSoundFrames, consume}
 use Rattle.capability.specs.Names.{rescind, IsSound}
 use Rattle.std.specs.Prelude.{◌≡◌, ◌+◌, ◌<◌}
@@ -16,7 +16,7 @@ CalledIsConsumed = (p : ℕ) (old new : Parts) → AreCurrent (frames_of old) �
     new ≡ with_header old p (called (header_at old.headers p)) →
     objects_in new ≡ consume p (objects_in old)
 
--- frames stay sound where their world does, at the next age
+-- after a rescind or a consume, frames are sound at the next age if their world is
 abbrev pub RescindKeepsSoundFrames : Type 0
 RescindKeepsSoundFrames =
     (g : Geometry) (age : ℕ) (set : List ℕ) (old new : Parts) →

@@ -6,7 +6,7 @@ use Rattle.model.specs.declared.object.Content.TheVariants as content
 use Rattle.capability.specs.declared.present.RootChange.{RootChange}
 use Rattle.capability.specs.declared.present.RootChange.TheVariants as change
 
--- the objects with words and a key given to a process, which runs
+-- the objects after process p received words and a key, and runs
 abbrev pub with_message : List Object → ℕ → List ℕ → ℕ → List Object
 with_message os p words key = with_root os p (record (root_at os p) { state = Running; words = words; key = key })
 
@@ -17,12 +17,12 @@ changed_root (change.Word index word) root = record root { words = slice_set roo
 changed_root (change.Space space) root = record root { space = space }
 changed_root (change.Message words key) root = record root { state = Running; words = words; key = key }
 
--- a content whose root is changed, where it is one
+-- a content, with its root changed if it is one
 abbrev pub with_root_in : {C : Type 0} → (Root C → Root C) → Content C → Content C
 with_root_in change (content.Root root) = content.Root (change root)
 with_root_in change other = other
 
--- a content with capabilities in the slots from i on, where it has some
+-- a content with these capabilities in its slots from i on, if it has slots
 abbrev pub with_slots_in : {C : Type 0} → Content C → ℕ → List C → Content C
 with_slots_in content i [] = content
 with_slots_in content i (c ∷ cs) = with_slots_in (with_slot_in content i c) (i + 1) cs

@@ -1,4 +1,4 @@
--- The parts of a store of present frames, and what goes on beside a change.
+-- The parts of a store of present frames, and what calls change in them.
 use Rattle.capability.specs.Names.{ℕ, Bool, false, List, length, replicate, slice_index_or, slice_set, take, Result}
 use Rattle.capability.specs.Names.{IfErr, OnOk, OnErr, IsErrOf, Cap, Frame, ObjectHeader, Geometry, Content, Available}
 use Rattle.capability.specs.Names.{Object, frame_at, frames_in, header_at, held_at, given_up, objects_of, AreCurrent}
@@ -19,15 +19,15 @@ pub record Parts : Type 0 where
   pub touched : List Bool
   pub failures : ℕ
 
--- its frames
+-- the frames of these parts
 abbrev pub frames_of : Parts → List Frame
 frames_of p = frames_in p.headers p.contents
 
--- the objects that they stand for
+-- the objects that these frames stand for
 abbrev pub objects_in : Parts → List Object
 objects_in p = objects_of (frames_of p)
 
--- they are sound, at some age
+-- the frames are sound at some age
 abbrev pub AreSound : Parts → Type 0
 AreSound p = (age : ℕ) × IsSoundFrames p.geometry age (frames_of p)
 
@@ -46,7 +46,7 @@ with_held p n c = record p { contents = slice_set p.contents n c }
 abbrev pub with_both : Parts → ℕ → ObjectHeader → Content Cap → Parts
 with_both p n h c = record p { headers = slice_set p.headers n h; contents = slice_set p.contents n c }
 
--- what a new object holds: nothing, in slots that hold a void capability
+-- the content of a new object: words of 0 and void slots
 abbrev pub fresh_content : {C : Type 0} → C → Fresh → Content C
 fresh_content void fresh.Page = content.Page zero_words
 fresh_content void fresh.Node = content.Node (all_slots void)
@@ -55,7 +55,7 @@ fresh_content void (fresh.Root annex) = content.Root
 fresh_content void fresh.Annex = content.Annex (all_slots void)
 fresh_content void (fresh.Bank limit) = content.Bank limit
 
--- a number of its kind
+-- n is a number for this kind of object
 abbrev pub IsFreshAt : Geometry → ℕ → Fresh → Type 0
 IsFreshAt g n fresh.Page = g.nodes ≤ n
 IsFreshAt g n fresh.Node = n < g.nodes
@@ -63,13 +63,13 @@ IsFreshAt g n (fresh.Root annex) = n < g.nodes
 IsFreshAt g n fresh.Annex = n < g.nodes
 IsFreshAt g n (fresh.Bank limit) = n < g.nodes
 
--- its numbers have 64 bits
+-- the annex or limit of a new object has 64 bits
 abbrev pub FreshFits : Fresh → Type 0
 FreshFits (fresh.Root annex) = annex < 2 ^ 64
 FreshFits (fresh.Bank limit) = limit < 2 ^ 64
 FreshFits _ = Unit {0}
 
--- each header has the role of what its object holds
+-- each header has the role of its object's content
 abbrev pub HaveTheirRoles : List Frame → Type 0
 HaveTheirRoles fs = (n : ℕ) → (frame_at fs n).header.role ≡ role_of (frame_at fs n).content
 
@@ -82,8 +82,8 @@ pub record Becomes {S : Type 0} (parts : S → Parts) (Fetched Announced : S →
   pub announced : (n : ℕ) → Announced old n → Announced new n
   pub continues : Continues old new
 
--- A change of present frames that frees no object: allocation counts and what lies beside the frames stay, and so does
--- what was fetched and announced. The parameters are the ghost members of a store of present frames.
+-- A change of present frames that frees no object: allocation counts, touched numbers, geometry and failures stay,
+-- and all that was fetched or announced stays so. The parameters are the ghost members of a store of present frames.
 pub record KeepsRest {S : Type 0} (parts : S → Parts) (Fetched Announced : S → ℕ → Type 0) (Continues : S → S → Type 0)
     (old new : S) : Type 0 where
   pub count : length (parts new).headers ≡ length (parts old).headers
@@ -96,8 +96,8 @@ pub record KeepsRest {S : Type 0} (parts : S → Parts) (Fetched Announced : S �
   pub announced : (n : ℕ) → Announced old n → Announced new n
   pub continues : Continues old new
 
--- An edit of what objects hold: the objects after it, and when the frames can be kept at an age. The parameters are
--- ghost members of a store of present frames.
+-- An edit of objects' contents: the objects after it, and for which ages the frames can still be kept. The parameters
+-- are ghost members of a store of present frames.
 pub record Edits {S : Type 0} (parts : S → Parts) (Fetched Announced : S → ℕ → Type 0) (Continues : S → S → Type 0)
     (old new : S) (after : List Object) (may : ℕ → Type 0) : Type 0 where
   pub objects : objects_in (parts new) ≡ after
@@ -111,15 +111,15 @@ pub record Edits {S : Type 0} (parts : S → Parts) (Fetched Announced : S → �
 abbrev pub AreSameUnlessFailed : Parts → Parts → Type 0
 AreSameUnlessFailed old new = new.failures ≡ old.failures → new ≡ old
 
--- Bodies were fetched, and nothing was announced. After a failure of the device only the touched numbers are known. The
--- parameters are ghost members of frames.
+-- Bodies were fetched, and nothing was announced. After a failure of the device, only the touched numbers are known to
+-- be the same. The parameters are ghost members of frames.
 pub record OnlyFetches {S : Type 0} (parts : S → Parts) (Continues : S → S → Type 0) (old new : S) : Type 0 where
   pub same : AreSameUnlessFailed (parts old) (parts new)
   pub touched : (parts new).touched ≡ (parts old).touched
   pub later : (parts old).failures ≤ (parts new).failures
   pub continues : Continues old new
 
--- Bodies were fetched, and nothing else came of it. The call fails exactly if the device fails. The parameters are
+-- Bodies were fetched, and nothing else changed. The call fails exactly if the device fails. The parameters are
 -- ghost members of frames.
 pub record FetchesOrFails {S T : Type 0} (parts : S → Parts) (Continues : S → S → Type 0) (old new : S)
     (result : Result T Failed) : Type 0 where
@@ -133,7 +133,7 @@ IsUnread refusal.NoMemory = Unit {0}
 IsUnread refusal.Fault = Unit {0}
 IsUnread _ = ⊥
 
--- Bodies were fetched for a call that may want memory or fail, and nothing else came of it. The parameters are
+-- Bodies were fetched for a call that may run out of memory or fail, and nothing else changed. The parameters are
 -- ghost members of frames.
 pub record OnlyReads {S T : Type 0} (parts : S → Parts) (Continues : S → S → Type 0) (old new : S)
     (result : Result T Refusal) : Type 0 where
@@ -152,8 +152,8 @@ IsUnprepared _ = ⊥
 abbrev pub touched_too : List ℕ → Parts → Parts
 touched_too written p = record p { touched = touching p.touched written }
 
--- Bodies were fetched, and numbers announced that are to be written; after a refusal none is. Nothing is said of the parts
--- after a failure of the device. The parameters are ghost members of a store of present frames.
+-- Bodies were fetched, and the numbers to be written were announced; after a refusal none is. After a failure of the
+-- device, the parts are unknown. The parameters are ghost members of a store of present frames.
 pub record Prepares {S T : Type 0} (parts : S → Parts) (Continues : S → S → Type 0) (old new : S) (written : List ℕ)
     (result : Result T Refusal) : Type 0 where
   pub before : touched_count (parts old).touched ≤ (parts old).geometry.log
@@ -183,7 +183,7 @@ pub record AreGivenUp (set : List ℕ) (old new : Parts) : Type 0 where
       (if is_member set n then given_up (header_at old.headers n) else header_at old.headers n)
   pub contents : (n : ℕ) → held_at new.contents n ≡ (if is_member set n then content.Free else held_at old.contents n)
 
--- the count of allocations of a number rises by one where its object is rescinded, and else stays
+-- an allocation count rises by one if the object is rescinded, and else stays
 pub record Renews (old new : Parts) : Type 0 where
   pub each : (n : ℕ) → (header_at new.headers n).allocations
       ≡ (header_at old.headers n).allocations + (if is_given_up (objects_in old) (objects_in new) n then 1 else 0)

@@ -83,7 +83,7 @@ pub trait Frames: Drop {
 
     ghost IsFetched: { Self → ℕ → Type 0 };
 
-    /// What lies beside the frames went on with no commit.
+    /// The store went on with no commit and no new checkpoint.
     ghost ContinuesTo: { Self → Self → Type 0 };
 
     /// The counts of nodes, pages and log slots. By `within`, no more than `log` numbers are touched.

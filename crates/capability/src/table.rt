@@ -36,7 +36,7 @@ impl ObjectTable {
         self.headers
     }
 
-    /// The same, which the table keeps.
+    /// The headers, by number; the table keeps them.
     pub fn headers(&self) -> &[ObjectHeader]
         ensures { result.now ≡ self.now }
     {

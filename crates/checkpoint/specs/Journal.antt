@@ -9,22 +9,22 @@ abbrev pub is_page_role : Role → Bool
 is_page_role role.Page = true
 is_page_role _ = false
 
--- whether the object of a number is a page, and the words that it has then
+-- whether object n is a page now; the words that it has then
 abbrev pub is_page_now : Parts → ℕ → Bool
 is_page_now p n = is_page_role (header_at p.headers n).role
 
 abbrev pub words_now : Parts → ℕ → List ℕ
 words_now p n = words_in (held_at p.contents n)
 
--- whether a frame is that of a page under this count of allocations
+-- whether this is the frame of a page with this allocation count
 abbrev pub is_same_page : ℕ → Frame → Bool
 is_same_page allocations f = is_page_role f.header.role && (allocations == f.header.allocations)
 
--- whether a page is saved at a number, and wasn't rescinded since: its count of allocations is that of the object now
+-- whether the saved object n is a page that wasn't rescinded since: its allocation count is the present one
 abbrev pub is_still_saved : Parts → SavedFrames → ℕ → Bool
 is_still_saved p s n = is_same_page (header_at p.headers n).allocations (frame_at s.frames n)
 
--- what is saved then, where nothing refuses it
+-- what is saved once page n is journaled; `None` if that is refused
 abbrev pub saved_next : ℕ → ℕ → List ℕ → SavedFrames → (is_page is_saved : Bool) → Option SavedFrames
 saved_next age n words s is_page is_saved = if s.entries == 0 then
     (if is_page then (if is_saved then Some (journaled_saved age n words s) else None) else None) else None

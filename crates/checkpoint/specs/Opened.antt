@@ -3,20 +3,20 @@ use Rattle.checkpoint.specs.Names.{ℕ, ⊤, Image, Disk, Agrees, Narrows, Peeks
 use Rattle.std.specs.Prelude.{◌≡◌, ◌<◌}
 use Rattle.layout.specs.declared.open_fault.OpenFault.TheVariants as refusal
 
--- why an image is refused, where the device didn't fail
+-- why an image is refused; unless the device failed or memory ran out, the reason holds
 abbrev pub IsBadFor : Image → ℕ → OpenFault → Type 0
 IsBadFor image size refusal.Failed = ⊤
 IsBadFor image size refusal.NoMemory = ⊤
 IsBadFor image size (refusal.Bad reason) = IsBadBy image size reason
 
--- nothing was written: a crash leaves nothing that it couldn't have left before
+-- nothing was written: a crash of `new` may leave only images that a crash of `old` may leave
 pub record OnlyReads (old new : Disk) : Type 0 where
   pub size : new.sectors ≡ old.sectors
   pub seen : Agrees new.seen old.seen
   pub crash : Narrows old new
   pub any_moment : Peeks old new
 
--- why a device wasn't opened: of the reasons 1 to 7 the least that holds
+-- why a device wasn't opened: it failed, or memory ran out, or this is the least of reasons 1 to 7 that holds
 abbrev pub IsReason : Disk → Disk → OpenFault → Type 0
 IsReason old new refusal.Failed = old.failures < new.failures
 IsReason old new refusal.NoMemory = new.failures ≡ old.failures

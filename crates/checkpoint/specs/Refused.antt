@@ -1,4 +1,4 @@
--- What each call of a store answers, by how many frozen frames are left to be put, and why it refuses.
+-- What each call of a store answers, and why it refuses. `left` is how many frozen frames are still to be written.
 use Rattle.checkpoint.specs.Names.{ℕ, Bool, true, false, Option, Some, None, Result, Ok, Err, Disk, Refusal}
 use Rattle.std.specs.Prelude.{◌≡◌, ◌≢◌, ◌+◌, ◌<◌}
 use Rattle.model.specs.declared.answer.Refusal.TheVariants as refusal
@@ -11,21 +11,21 @@ IsRefused (Ok done) = ⊥
 IsRefused (Err refusal.Fault) = ⊥
 IsRefused (Err _) = Unit {0}
 
--- a frozen frame is put only where a checkpoint is on its way
+-- the answer to writing a frozen frame: refused if no checkpoint is frozen
 abbrev pub IsPutAnswer : {T : Type 0} → Disk → Disk → Option ℕ → Result T Refusal → Type 0
 IsPutAnswer old new left (Ok done) = (new.failures ≡ old.failures) × (left ≢ None)
 IsPutAnswer old new left (Err refusal.NoCheckpoint) = (new.failures ≡ old.failures) × (left ≡ None)
 IsPutAnswer old new left (Err refusal.Fault) = (old.failures < new.failures) × (left ≢ None)
 IsPutAnswer old new left (Err _) = ⊥
 
--- a checkpoint begins where none is on its way and all that is saved is home: it has no entries
+-- the answer to `checkpoint`: refused if one is frozen, or if saved frames aren't home, so that there are entries
 abbrev pub IsFreezeAnswer : {T : Type 0} → Option ℕ → ℕ → Result T Refusal → Type 0
 IsFreezeAnswer left entries (Ok done) = (left ≡ None) × (entries ≡ 0)
 IsFreezeAnswer left entries (Err refusal.CheckpointRunning) = left ≢ None
 IsFreezeAnswer left entries (Err refusal.MigrationPending) = (left ≡ None) × (entries ≢ 0)
 IsFreezeAnswer left entries (Err _) = ⊥
 
--- it is committed, as the generation after the one that is saved, where all of its frames were put
+-- the answer to `commit`, which raises the generation by 1: refused if no checkpoint is frozen, or frames are left
 abbrev pub IsCommitAnswer : Disk → Disk → Option ℕ → ℕ → Result ℕ Refusal → Type 0
 IsCommitAnswer old new left saved (Ok generation) = (new.failures ≡ old.failures) × (left ≡ Some 0) ×
     (generation ≡ saved + 1)
@@ -35,8 +35,8 @@ IsCommitAnswer old new left saved (Err (refusal.NotStable count)) = (new.failure
 IsCommitAnswer old new left saved (Err refusal.Fault) = (old.failures < new.failures) × (left ≡ Some 0)
 IsCommitAnswer old new left saved (Err _) = ⊥
 
--- a page is journaled, as the generation after the next, if no checkpoint runs, all saved frames are home, the number
--- is that of a page, and the saved page is the same one
+-- the answer to `journal`, which raises the generation by 2: refused if a checkpoint is frozen, saved frames aren't
+-- home, the number isn't that of a page, or the saved page isn't the same one
 abbrev pub IsJournalAnswer : Disk → Disk → Option ℕ → SavedFrames → (is_known is_page is_saved : Bool) →
     Result ℕ Refusal → Type 0
 IsJournalAnswer old new left s is_known is_page is_saved (Ok generation) =
@@ -56,7 +56,7 @@ IsJournalAnswer old new left s is_known is_page is_saved (Err refusal.Fault) = (
     (left ≡ None) × (s.entries ≡ 0) × (is_page ≡ true)
 IsJournalAnswer old new left s is_known is_page is_saved (Err _) = ⊥
 
--- whether it is to be done, or why it is refused before anything is written
+-- the answer of the checks before a journaling: it may be done, or why `journal` refuses it
 abbrev pub IsJournalCheck : {T : Type 0} → Disk → Disk → Option ℕ → SavedFrames → (is_known is_page is_saved : Bool) →
     Result T Refusal → Type 0
 IsJournalCheck old new left s is_known is_page is_saved (Ok done) = (new.failures ≡ old.failures) × (left ≡ None) ×
@@ -64,7 +64,7 @@ IsJournalCheck old new left s is_known is_page is_saved (Ok done) = (new.failure
 IsJournalCheck old new left s is_known is_page is_saved (Err why) = IsJournalAnswer old new left s is_known is_page
     is_saved (Err why)
 
--- it is refused before any device call
+-- a journaling that is refused before any device call
 abbrev pub IsTurnedAway : Result ℕ Refusal → Type 0
 IsTurnedAway (Err refusal.CheckpointRunning) = Unit {0}
 IsTurnedAway (Err refusal.MigrationPending) = Unit {0}

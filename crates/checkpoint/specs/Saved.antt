@@ -12,7 +12,7 @@ pub record SavedFrames : Type 0 where
   pub entries : ℕ
   pub age : ℕ
 
--- what is kept of a saved state of an image, whatever its places
+-- the frames and numbers of an image's saved state, without where they lie
 abbrev pub kept_of : SavedState → SavedFrames
 kept_of s = record {
   geometry = s.plan.geometry;
@@ -30,11 +30,11 @@ Holds size c saved = (s : SavedState) × Encodes c size s × (kept_of s ≡ save
 abbrev pub LeavesSaved : Disk → Disk → SavedFrames → Type 0
 LeavesSaved old new saved = LeavesOnly old new (λ c. Holds old.sectors c saved)
 
--- or what is saved next
+-- a crash at any moment since old leaves what is saved, or what is saved next
 abbrev pub LeavesEither : Disk → Disk → SavedFrames → SavedFrames → Type 0
 LeavesEither old new saved next = LeavesOnly old new (λ c. Holds old.sectors c saved ⊎ Holds old.sectors c next)
 
--- or what is saved next, if anything is
+-- the same, if something is saved next; else a crash leaves what is saved
 abbrev pub LeavesOneOf : Disk → Disk → SavedFrames → Option SavedFrames → Type 0
 LeavesOneOf old new saved None = LeavesSaved old new saved
 LeavesOneOf old new saved (Some next) = LeavesEither old new saved next
@@ -43,7 +43,7 @@ LeavesOneOf old new saved (Some next) = LeavesEither old new saved next
 abbrev pub home_saved : SavedFrames → SavedFrames
 home_saved s = record { geometry = s.geometry; frames = s.frames; generation = s.generation; entries = 0; age = s.age }
 
--- what is saved once another frame of an object is, at an age: its half is that of the saved generation again
+-- what is saved once object n alone has a new frame: the generation rises by 2, so it uses the same half of the log
 abbrev pub replaced_saved : ℕ → ℕ → Frame → SavedFrames → SavedFrames
 replaced_saved age n f s =
     record {
@@ -58,10 +58,10 @@ replaced_saved age n f s =
 abbrev pub with_words : List ℕ → Frame → Frame
 with_words words f = record { header = f.header; content = content.Page words }
 
--- a page is saved with other words
+-- what is saved once page n alone has new words
 abbrev pub journaled_saved : ℕ → ℕ → List ℕ → SavedFrames → SavedFrames
 journaled_saved age n words s = replaced_saved age n (with_words words (frame_at s.frames n)) s
 
--- the greatest age: frames that are put can be kept at it
+-- the greatest age: each frame that is written can be kept at it
 abbrev pub most : ℕ
 most = 2 ^ 64 - 1

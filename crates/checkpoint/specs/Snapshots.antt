@@ -1,5 +1,5 @@
--- What a store keeps beside its present objects, and what each stage of a checkpoint does to that, whatever a frozen
--- state is to it.
+-- What a store has besides its present objects, and what each stage of a checkpoint does to that. A frozen state
+-- has any type F.
 use Rattle.checkpoint.specs.Names.{ℕ, Option, Some, None, option_map, List, Frame, frame_at, AreKeepable}
 use Rattle.std.specs.Prelude.{◌≡◌, ◌==◌, if◌then◌else◌, ◌+◌, ◌-◌, ◌<◌, ◌≤◌, ◌^◌}
 use Rattle.checkpoint.specs.Saved.{SavedFrames, home_saved, replaced_saved, with_words}
@@ -17,7 +17,7 @@ pub record FrozenView (F : Type 0) : Type 0 where
   pub size : F → ℕ
   pub left : F → ℕ
 
--- a state is frozen
+-- this state becomes the frozen one
 abbrev pub freezing : {F : Type 0} → F → Snapshots F → Snapshots F
 freezing f s = record { frozen = Some f; saved = s.saved; to_move = s.to_move }
 
@@ -28,11 +28,11 @@ moved_saved n s = if s.to_move - n == 0 then home_saved s.saved else s.saved
 abbrev pub moved : {F : Type 0} → ℕ → Snapshots F → Snapshots F
 moved n s = record { frozen = s.frozen; saved = moved_saved n s; to_move = s.to_move - n }
 
--- all of them are home
+-- all saved objects are home
 abbrev pub all_moved : {F : Type 0} → Snapshots F → Snapshots F
 all_moved s = record { frozen = s.frozen; saved = home_saved s.saved; to_move = 0 }
 
--- one object is saved anew beside the checkpoints, and so a page with other words
+-- object n alone is saved with a new frame, without a checkpoint; page n alone with new words
 abbrev pub replaced : {F : Type 0} → ℕ → ℕ → Frame → Snapshots F → Snapshots F
 replaced age n f s = record { frozen = s.frozen; saved = replaced_saved age n f s.saved; to_move = 1 }
 
@@ -54,11 +54,11 @@ module _ {F : Type 0} (of : FrozenView F) where
     age = age;
   }
 
-  -- it is saved
+  -- the frozen state is committed at an age
   abbrev pub committed : ℕ → F → Snapshots F → Snapshots F
   committed age f s = record { frozen = None; saved = next_saved age f s.saved; to_move = of.size f }
 
-  -- it may be, once all of it is in the log
+  -- the frozen state may be committed at this age, once all its frames are in the log
   pub record MayCommit (age : ℕ) (f : F) (s : SavedFrames) : Type 0 where
     pub later : s.age < age
     pub most : age ≤ 2 ^ 62

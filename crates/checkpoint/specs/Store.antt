@@ -7,13 +7,13 @@ use Rattle.checkpoint.specs.Saved.{Holds, LeavesSaved}
 use Rattle.checkpoint.specs.Snapshots.{FrozenView, Snapshots, freezing}
 use Rattle.checkpoint.specs.Opened.{OnlyReads}
 
--- a checkpoint on its way: all frames as it began, how many objects it writes, and how many of these are left
+-- a frozen checkpoint: all frames when it began, how many objects it writes, and how many of these are still to write
 pub record FrozenFrames : Type 0 where
   pub frames : List Frame
   pub size : ℕ
   pub left : ℕ
 
--- all of its frames are saved
+-- how a frozen checkpoint is seen: it saves the frames of all objects
 abbrev pub whole : FrozenView FrozenFrames
 whole = record {
   frames = λ (f : FrozenFrames) (fs : List Frame). f.frames;
@@ -21,11 +21,11 @@ whole = record {
   left = λ (f : FrozenFrames). f.left;
 }
 
--- all objects as they are; none is stable yet
+-- a checkpoint that begins with these frames: none is written yet
 abbrev pub all_frozen : List Frame → ℕ → FrozenFrames
 all_frozen fs size = record { frames = fs; size = size; left = size }
 
--- the parts as a checkpoint begins: no number was written since
+-- the parts when a checkpoint begins: no number is touched
 abbrev pub all_untouched : Parts → Parts
 all_untouched p = record p { touched = untouched p.geometry }
 
@@ -35,8 +35,8 @@ pub record View (D : Type 0) : Type 1 where
   pub snapshots : Snapshots FrozenFrames
   pub usable : Type 0
 
--- The store went on with no commit and no checkpoint. If the device didn't fail, what lies beside the objects is the same,
--- and the store can be used if it could.
+-- The store went on with no commit and no checkpoint. If the device didn't fail, the frozen and the saved state are the
+-- same, and the store can be used if it could.
 pub record Continues {D : Type 0} (disk : D → Disk) (old new : View D) : Type 0 where
   pub snapshots : (disk new.beneath).failures ≡ (disk old.beneath).failures → new.snapshots ≡ old.snapshots
   pub usable : (disk new.beneath).failures ≡ (disk old.beneath).failures → old.usable → new.usable
@@ -57,7 +57,7 @@ pub record OpensStore {D : Type 0} (disk : D → Disk) (device : D) (parts : Par
   pub only_reads : OnlyReads (disk device) (disk store.beneath)
   pub failures : (disk store.beneath).failures ≡ (disk device).failures
 
--- frozen frames are written to the log only where a checkpoint is on its way
+-- the answer to `stabilize`: refused if no checkpoint is frozen
 abbrev pub IsStabilizeAnswer : Disk → Disk → Option ℕ → ℕ → Result ℕ Refusal → Type 0
 IsStabilizeAnswer old new left count (Ok n) = (new.failures ≡ old.failures) ×
     (option_map (λ (k : ℕ). k - count) left ≡ Some n)

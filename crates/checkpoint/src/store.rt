@@ -21,8 +21,8 @@ use device::{Device, Failed};
 use model::Refusal;
 use std::alloc::Global;
 
-/// The present objects, those of a checkpoint on its way as they were when it began, and those that
-/// the committed checkpoint saves, over a device.
+/// A store over a device: the present objects, the frozen ones of a checkpoint that isn't committed,
+/// and those that the committed checkpoint saves.
 ///
 /// After a call in which the device failed nothing is said of the objects, and no call can follow: give
 /// the device back and open it again. A crash then leaves what was saved, or, if the call was `commit`,
@@ -34,7 +34,7 @@ pub trait ObjectStore<D: Device>: PresentFrames + Sized {
     /// Memory that a closed store leaves for the next.
     type Memory: Drop;
 
-    /// The device beneath, what is kept beside the present objects, and whether the store can be used.
+    /// The device beneath, the frozen and the saved state, and whether the store can be used.
     ghost view: { Self → View D };
 
     /// Opens a device, and writes nothing to it. The present objects are the saved ones. The store takes
@@ -82,11 +82,11 @@ pub trait ObjectStore<D: Device>: PresentFrames + Sized {
         ensures continues { Self.ContinuesTo self.old self.new }
         ensures cause { Counts (D.disk (view self.old).beneath) (D.disk (view self.new).beneath) result };
 
-    /// Begins a checkpoint: all objects are frozen as they are. Answers how many were written since
+    /// Begins a checkpoint: all objects are frozen as they are. Returns how many were written since
     /// the last one began. It takes no memory, and makes no call of the device.
     ///
-    /// It is refused by `CheckpointRunning` exactly if one is on its way, and else by
-    /// `MigrationPending` exactly if something saved isn't home, and changes nothing then.
+    /// It is refused by `CheckpointRunning` exactly if a checkpoint is frozen already, else by
+    /// `MigrationPending` exactly if a saved object isn't home. A refusal changes nothing.
     fn freeze(&mut self) -> Result<u64, Refusal>
         requires may { MayFetch Self.IsUsable Self.parts self.old }
         ensures answer { IsFreezeAnswer (left_in whole (view self.old).snapshots)
@@ -100,10 +100,10 @@ pub trait ObjectStore<D: Device>: PresentFrames + Sized {
         ensures beneath { (view self.new).beneath ≡ (view self.old).beneath }
         ensures usable { OnOk result ((view self.new).usable) };
 
-    /// Writes the next `count` frozen objects to the log, and answers how many are left.
+    /// Writes the next `count` frozen objects to the log, and returns how many are left.
     ///
-    /// It is refused by `NoCheckpoint` exactly if none is on its way, and changes nothing then. It
-    /// returns `Fault` exactly if the device failed.
+    /// It is refused by `NoCheckpoint` exactly if no checkpoint is frozen, and changes nothing then.
+    /// It returns `Fault` exactly if the device failed.
     fn stabilize(&mut self, count: u64) -> Result<u64, Refusal>
         requires usable { (view self.old).usable }
         ensures answer { IsStabilizeAnswer (D.disk (view self.old).beneath) (D.disk (view self.new).beneath)
@@ -117,9 +117,9 @@ pub trait ObjectStore<D: Device>: PresentFrames + Sized {
         ensures any_moment { LeavesSaved (D.disk (view self.old).beneath) (D.disk (view self.new).beneath)
             (view self.old).snapshots.saved };
 
-    /// Commits the checkpoint on its way: its frames are saved, at an age. Answers its generation.
+    /// Commits the frozen checkpoint at an age: its frames are saved. Returns its generation.
     ///
-    /// It is refused by `NoCheckpoint` exactly if none is on its way, and else by `NotStable(left)`
+    /// It is refused by `NoCheckpoint` exactly if no checkpoint is frozen, else by `NotStable(left)`
     /// exactly if `stabilize` has yet to reach `left` of its objects. A refusal changes nothing. It
     /// returns `Fault` exactly if the device failed; then a crash leaves what was saved or what is
     /// frozen.
@@ -139,10 +139,10 @@ pub trait ObjectStore<D: Device>: PresentFrames + Sized {
             → LeavesEither (D.disk (view self.old).beneath) (D.disk (view self.new).beneath)
             (view self.old).snapshots.saved (next_saved whole age f (view self.old).snapshots.saved) };
 
-    /// Copies `count` of the saved objects home, and answers how many are left. Fails exactly if
-    /// the device does, and then a crash leaves what was saved, or the same with all of it home
-    /// where that was to be reached. Where all of it is home already, as the header says, it makes
-    /// no call of the device.
+    /// Copies `count` of the saved objects home, and returns how many are left. Fails exactly if
+    /// the device does; then a crash leaves what was saved or, if this call was to bring the last
+    /// object home, the same with all of it home. If all saved objects are home already, as the
+    /// header says, it makes no call of the device.
     fn migrate(&mut self, count: u64) -> Result<u64, Failed>
         requires usable { (view self.old).usable }
         ensures same { AreSameUnlessFailed (Self.parts self.old) (Self.parts self.new) }
@@ -155,17 +155,16 @@ pub trait ObjectStore<D: Device>: PresentFrames + Sized {
             (view self.old).snapshots.saved (moved_saved count (view self.old).snapshots) }
         ensures cause { Counts (D.disk (view self.old).beneath) (D.disk (view self.new).beneath) result };
 
-    /// Saves a page with the words that it has now, at an age; of the page nothing else, and of the
-    /// other objects what was saved: one page is durable without a checkpoint. Returns the new
-    /// generation. It takes no memory.
+    /// Saves the present words of a page, at an age and without a checkpoint: all else that is saved of
+    /// the page, and all other saved objects, stay. Returns the new generation. It takes no memory.
     ///
-    /// It is refused by `CheckpointRunning` exactly if a checkpoint is on its way, else by
-    /// `MigrationPending` exactly if something saved isn't home, else by `BadNumber` exactly if no
+    /// It is refused by `CheckpointRunning` exactly if a checkpoint is frozen, else by
+    /// `MigrationPending` exactly if a saved object isn't home, else by `BadNumber` exactly if no
     /// object has the number, else by `NotJournaled(NotPage)` exactly if it isn't a page, else by
-    /// `NotJournaled(Renewed)` exactly if no page is saved, or the saved one was freed since; nothing is
-    /// written then, and only before `Renewed` the device is asked. It returns `Fault` exactly if the
-    /// device failed; then a crash leaves what was saved or, where nothing else refuses it, that with the
-    /// page.
+    /// `NotJournaled(Renewed)` exactly if no page is saved at the number, or the saved one was freed
+    /// since. A refusal writes nothing, and only `Renewed` comes after a device call. It returns
+    /// `Fault` exactly if the device failed; then a crash leaves what was saved or, if nothing else
+    /// refuses the call, that with the page.
     fn journal(&mut self, number: u64, age: u64) -> Result<u64, Refusal>
         requires may { MayFetch Self.IsUsable Self.parts self.old }
         requires later { (view self.old).snapshots.saved.age < age }
@@ -187,14 +186,14 @@ pub trait ObjectStore<D: Device>: PresentFrames + Sized {
             (view self.old).snapshots.saved (is_page_now (Self.parts self.old) number)
             (is_still_saved (Self.parts self.old) (view self.old).snapshots.saved number)) };
 
-    /// Writing and bringing in present objects changes nothing else.
+    /// Changes and fetches of present objects change nothing else.
     ghost continues: { (s t : Self) → Self.ContinuesTo s t → Continues D.disk (view s) (view t) };
 
     /// Where nothing was written since and no checkpoint is on its way, the device was only read.
     ghost continues_peeks: { (s t : Self) → Self.ContinuesTo s t → touched_count (Self.parts t).touched ≡ 0
         → (view s).snapshots.frozen ≡ None → Peeks (D.disk (view s).beneath) (D.disk (view t).beneath) };
 
-    /// The same of the present objects and of the store over its device.
+    /// The present objects can be used exactly if the store over its device can.
     ghost usable_is: { (s : Self) → Self.IsUsable s ↔ (view s).usable };
 
     /// A store that can be used: a crash leaves what is saved.

@@ -1,4 +1,4 @@
--- What is committed while the gates of both headers are closed, the lesser header's first.
+-- Which header is committed while the gates of both are closed, that of the lesser header first.
 use Rattle.ckpt_log.proofs.Names.{nat_tests, ℕ, false, refl, subst, sym, agrees_is, inl, arith, IsLesser, HeaderSlot, other_slot, gate_at, is_open, HasNoHeader}
 use Rattle.ckpt_log.proofs.Names.{Image, Disk, LeavesOnly, Peeks, leaves_on, leaves_weaker, Agrees, Elsewhere, AreClosed, KeepsOrHasNone, WasKeptOrHasNone}
 use Rattle.std.proofs.Common.{◌≡◌}

@@ -1,4 +1,4 @@
--- Directories: without entries, read back, refused.
+-- Directories: empty ones, how they are read back, and why they are refused.
 use Rattle.ckpt_log.proofs.Names.{nat_tests, ℕ, List, [], length, take, drop, replicate, refl, arith, drop-replicate, take-replicate, Image, Entry}
 use Rattle.ckpt_log.proofs.Names.{directory_bytes, IsDirectory, Plan, directory_in, directory_length, sectors_from, Frame, IsFrameOf, frame_bytes, Geometry}
 use Rattle.ckpt_log.proofs.Names.{one_directory, directory_fits, one_frame, OpenFault, Failed, NoMemory, Bad, IsRefused, IsBadDirectory, SlotsAreReadBack}

@@ -1,4 +1,4 @@
--- What a crash leaves in the course of a commit.
+-- What a crash leaves during a commit.
 use Rattle.ckpt_log.proofs.Names.{arith, nat_tests, ℕ, false, subst, CheckpointHeader, is_open, header_bytes, Image, Disk, Agrees, Elsewhere, Narrows, Elapses}
 use Rattle.ckpt_log.proofs.Names.{LeavesOnly, agrees_is, OnlyNow, leaves_weaker, leaves_on, header_sector, gate_sector, IsInOrder, IsInOrderAfter, CommitsOne}
 use Rattle.ckpt_log.proofs.Names.{Precedes, KeepsHeader, HasNew, IsOldOrNew, IsOld}

@@ -1,4 +1,4 @@
--- What is left where the gates of both headers are closed, so that none is committed.
+-- What a crash leaves while the gates of both headers are closed, so that no header is committed.
 use Rattle.ckpt_log.specs.Names.{ℕ, false, is_open, HasNoHeader, committed_bytes, sequence_in, Image, Disk}
 use Rattle.std.specs.Prelude.{◌≡◌, ◌⊎◌, ◌≤◌}
 use Rattle.ckpt_log.specs.declared.header_slot.HeaderSlot.{HeaderSlot}
@@ -9,25 +9,25 @@ pub record AreClosed (image : Image) : Type 0 where
   pub first : is_open (image 2) ≡ false
   pub second : is_open (image 4) ≡ false
 
--- the same bytes in each sector but the gates
+-- the same bytes in each sector, except the gates
 abbrev pub SparesRest : Image → Image → Type 0
 SparesRest old new = (i : ℕ) → (i ≡ 2 → ⊥) → (i ≡ 4 → ⊥) → new i ≡ old i
 
--- and the same committed header
+-- only gates differ, and the committed header is the same
 pub record KeepsImage (old new : Image) : Type 0 where
   pub elsewhere : SparesRest old new
   pub committed : committed_bytes new ≡ committed_bytes old
 
--- or none
+-- only gates differ, and the committed header is the same, or there is none
 pub record KeepsOrHasNone (old new : Image) : Type 0 where
   pub elsewhere : SparesRest old new
   pub committed : (committed_bytes new ≡ committed_bytes old) ⊎ HasNoHeader new
 
--- the same, after what a crash could have left before
+-- c differs in this way from an image that a crash may leave
 abbrev pub WasKeptOrHasNone : Disk → Image → Type 0
 WasKeptOrHasNone disk c = (d : Image) × disk.may_leave d × KeepsOrHasNone d c
 
--- of two headers that count the one in the other slot is the committed one
+-- this slot has the lesser sequence number: if both headers count, the one in the other slot is committed
 abbrev pub IsLesser : Image → HeaderSlot → Type 0
 IsLesser image First = sequence_in (image 1) ≤ sequence_in (image 3)
 IsLesser image Second = sequence_in (image 3) ≤ sequence_in (image 1)

@@ -1,4 +1,4 @@
--- What a commit writes, and what a crash in its course leaves.
+-- What a commit writes, and what a crash during it leaves.
 use Rattle.ckpt_log.specs.Names.{ℕ, Some, List, CheckpointHeader, Closed, gate_bytes, is_open, header_bytes}
 use Rattle.ckpt_log.specs.Names.{committed_bytes, sequence_in, Image, Disk, Elsewhere}
 use Rattle.std.specs.Prelude.{◌≡◌, ◌⊎◌, ◌+◌, ◌*◌, ◌%◌, if◌then◌else◌}
@@ -10,16 +10,16 @@ header_sector h = 1 + 2 * (h.sequence % 2)
 abbrev pub gate_sector : CheckpointHeader → ℕ
 gate_sector h = 2 + 2 * (h.sequence % 2)
 
--- a gate once it is closed: 0 and zeros, or as it was where it was closed
+-- the bytes of a gate after it is closed: zeros, or unchanged if it was closed
 abbrev pub closed_gate : List ℕ → List ℕ
 closed_gate bytes = if is_open bytes then gate_bytes Closed else bytes
 
--- the slot of h in the course of its commit: the old header, or a gate that was closed first, or h
+-- the slot of h during its commit: it has the old header, or its gate was closed first, or it has h
 abbrev pub IsInOrder : CheckpointHeader → Image → Image → Type 0
 IsInOrder h old new = (new (header_sector h) ≡ old (header_sector h)) ⊎
     ((new (gate_sector h) ≡ closed_gate (old (gate_sector h))) ⊎ (new (header_sector h) ≡ header_bytes h))
 
--- the same, after what a crash could have left before
+-- the slot of h in c is in this order, compared with an image that a crash may leave
 abbrev pub IsInOrderAfter : CheckpointHeader → Disk → Image → Type 0
 IsInOrderAfter h disk c = (d : Image) × disk.may_leave d × IsInOrder h d c
 
@@ -35,12 +35,12 @@ CommitsOne disk = (c : Image) → disk.may_leave c → committed_bytes c ≡ com
 abbrev pub Precedes : Image → CheckpointHeader → Type 0
 Precedes image h = (bytes : List ℕ) × (committed_bytes image ≡ Some bytes) × (sequence_in bytes + 1 ≡ h.sequence)
 
--- nothing is touched but the slot of h, and the committed header is the one before it
+-- only the slot of h is touched, and the committed header is the same
 pub record KeepsHeader (h : CheckpointHeader) (old new : Image) : Type 0 where
   pub elsewhere : Elsewhere (header_sector h) 2 old new
   pub committed : committed_bytes new ≡ committed_bytes old
 
--- nothing is touched but the slot of h, where h stands, and h is the committed header
+-- only the slot of h is touched: it has h, and h is the committed header
 pub record HasNew (h : CheckpointHeader) (old new : Image) : Type 0 where
   pub written : new (header_sector h) ≡ header_bytes h
   pub elsewhere : Elsewhere (header_sector h) 2 old new
@@ -49,7 +49,7 @@ pub record HasNew (h : CheckpointHeader) (old new : Image) : Type 0 where
 abbrev pub IsOldOrNew : CheckpointHeader → Image → Image → Type 0
 IsOldOrNew h old new = KeepsHeader h old new ⊎ HasNew h old new
 
--- what a crash could have left before, but for the slot of h, with the committed header from before
+-- c equals an image that a crash may leave, except in the slot of h; its committed header is the one that `disk` reads
 pub record IsOld (h : CheckpointHeader) (disk : Disk) (c : Image) : Type 0 where
   pub could_be : (d : Image) × disk.may_leave d × Elsewhere (header_sector h) 2 d c
   pub committed : committed_bytes c ≡ committed_bytes disk.seen

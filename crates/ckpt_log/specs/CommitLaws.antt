@@ -1,4 +1,4 @@
--- What a device denotes after a commit, and after a crash in its course.
+-- What a device denotes after a commit, and after a crash during it.
 use Rattle.ckpt_log.specs.Names.{ℕ, List, length, Image, Elsewhere, Entry, IsHeader, IsFrameOf, Plan, IsPlan}
 use Rattle.ckpt_log.specs.Names.{home_place, HasPlan, HasDirectory, SavedState, Encodes, frame_in, frame_sector}
 use Rattle.ckpt_log.specs.Names.{committed_bytes, IsObject, frame_at, CheckpointHeader}
@@ -9,12 +9,12 @@ use Rattle.ckpt_log.specs.Commit.{header_sector, HasNew}
 abbrev pub HomesAreBehind : Plan → Type 0
 HomesAreBehind p = (object : ℕ) → IsObject p.geometry object → 5 ≤ home_place p object
 
--- then so do all frames
+-- all frames lie after the headers, if those at home do
 abbrev pub FramesAreBehind : Type 0
 FramesAreBehind = (p : Plan) (generation : ℕ) (es : List Entry) (object : ℕ) → IsPlan p → 5 ≤ home_place p object →
     5 ≤ frame_sector p generation es object
 
--- all of a state is on an image but, perhaps, that its header is committed
+-- an image has all of a saved state, though its header may not be committed yet
 pub record IsReady (image : Image) (size : ℕ) (s : SavedState) : Type 0 where
   pub plan : HasPlan image size s.plan
   pub header : IsHeader s.plan.geometry.log s.header
@@ -29,8 +29,8 @@ abbrev pub NewIsDenoted : Type 0
 NewIsDenoted = (old new : Image) (size : ℕ) (s : SavedState) → HomesAreBehind s.plan → IsReady old size s →
     HasNew s.header old new → Encodes new size s
 
--- until then, a crash leaves the state from before: its image is one before it but for the slot of a header, with the
--- committed header that is seen
+-- until then a crash leaves the old state: its image differs only in the slot of h from one with that state, and has
+-- the committed header that a read gives
 abbrev pub OldIsDenoted : Type 0
 OldIsDenoted = (seen before c : Image) (size : ℕ) (s : SavedState) (h : CheckpointHeader) → HomesAreBehind s.plan →
     Encodes seen size s → Encodes before size s

@@ -1,9 +1,9 @@
--- The two places of a header.
+-- The two header slots.
 use Rattle.std.specs.Prelude.{ℕ, ◌+◌, ◌*◌}
 use Rattle.ckpt_log.specs.declared.header_slot.HeaderSlot.{HeaderSlot}
 use Rattle.ckpt_log.specs.declared.header_slot.HeaderSlot.TheVariants.{First, Second}
 
--- what the sequence numbers of its headers leave on division by two
+-- the number of a slot: its headers have sequence numbers with this remainder mod 2
 abbrev pub slot_number : HeaderSlot → ℕ
 slot_number First = 0
 slot_number Second = 1
@@ -12,7 +12,7 @@ abbrev pub other_slot : HeaderSlot → HeaderSlot
 other_slot First = Second
 other_slot Second = First
 
--- the sector of its header; its gate is the next one
+-- the sector of a slot's header; its gate is the next sector
 abbrev pub header_at : HeaderSlot → ℕ
 header_at slot = 1 + 2 * slot_number slot
 

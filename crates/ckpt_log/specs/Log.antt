@@ -8,35 +8,35 @@ use Rattle.ckpt_log.specs.declared.header_slot.HeaderSlot.{HeaderSlot}
 use Rattle.ckpt_log.specs.declared.header_slot.HeaderSlot.TheVariants.{First, Second}
 use Rattle.layout.specs.declared.open_fault.OpenFault.TheVariants as fault
 
--- of the bytes of two headers those in this slot
+-- of the bytes of the two headers, those in the chosen slot
 abbrev pub chosen : Option HeaderSlot → List ℕ → List ℕ → Option (List ℕ)
 chosen None first second = None
 chosen (Some First) first second = Some first
 chosen (Some Second) first second = Some second
 
--- the bytes are those of a header
+-- these bytes encode the header h
 abbrev pub IsHeaderIn : ℕ → Option (List ℕ) → CheckpointHeader → Type 0
 IsHeaderIn room bytes h = IsHeader room h × (bytes ≡ Some (header_bytes h))
 
--- why no header is read: there are no bytes, or they are those of none
+-- why no header is read: there are no bytes, or they encode no header
 abbrev pub IsRefusedBy : ℕ → Option (List ℕ) → BadImage → Type 0
 IsRefusedBy room bytes bad.NoHeader = bytes ≡ None
 IsRefusedBy room bytes bad.BadHeader = (bytes ≡ None → ⊥) ×
     ((h : CheckpointHeader) → IsHeader room h → bytes ≡ Some (header_bytes h) → ⊥)
 IsRefusedBy room bytes _ = ⊥
 
--- why an image has no committed header, where the device didn't fail
+-- why an image has no committed header; nothing is said if the device failed
 abbrev pub HasNone : Image → Plan → OpenFault → Type 0
 HasNone image p fault.Failed = ⊤
 HasNone image p (fault.Bad bad.NoHeader) = HasNoHeader image
 HasNone image p (fault.Bad bad.BadHeader) = (HasNoHeader image → ⊥) × HasBadHeader image p
 HasNone image p _ = ⊥
 
--- the committed header, and its directory at the front of the entries
+-- h is the committed header, and its directory is the front of these entries
 abbrev pub HasCommitted : Image → Plan → CheckpointHeader → List Entry → Type 0
 HasCommitted image p h entries = HasHeader image p h × HasDirectory image p h (take h.entries entries)
 
--- why an image has no committed header with a directory: the least reason, where the device didn't fail
+-- the least reason why an image has no committed header with a directory; nothing is said if the device failed
 abbrev pub HasNoCommitted : Image → Plan → OpenFault → Type 0
 HasNoCommitted image p (fault.Bad bad.BadDirectory) = (h : CheckpointHeader) × HasHeader image p h × HasBadDirectory
     image p h

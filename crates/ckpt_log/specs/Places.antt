@@ -7,7 +7,7 @@ use Rattle.std.specs.Prelude.{◌≡◌, ◌%◌, ◌<◌, ◌≤◌}
 abbrev pub slot_extent : Plan → ℕ → ℕ → Extent
 slot_extent p generation slot = record { sector = slot_sector p generation slot; length = 9 }
 
--- those of the frame of an object in a slot
+-- the sectors of an object's frame in a slot
 abbrev pub place_extent : Plan → ℕ → ℕ → ℕ → Extent
 place_extent p generation slot object =
     record { sector = slot_sector p generation slot; length = place_length p object }
@@ -16,7 +16,7 @@ place_extent p generation slot object =
 abbrev pub directory_extent : Plan → ℕ → ℕ → Extent
 directory_extent p generation n = record { sector = directory_sector p generation; length = directory_length n }
 
--- they are among those of the half
+-- slots lie inside their half, frames inside their slot, and directories inside their half
 abbrev pub SlotsAreInside : Type 0
 SlotsAreInside = (p : Plan) (generation slot : ℕ) → slot < p.geometry.log →
     IsInside (slot_extent p generation slot) (half_extent p.geometry (half_sector p generation))
@@ -39,7 +39,7 @@ abbrev pub HalvesAreApart : Type 0
 HalvesAreApart = (p : Plan) (a b : ℕ) → IsPlan p → (a % 2 ≡ b % 2 → ⊥) →
     IsApart (half_extent p.geometry (half_sector p a)) (half_extent p.geometry (half_sector p b))
 
--- nor in two slots of a half, nor in a slot and the directory
+-- no sector is in two slots of a half, nor in a slot and the directory
 abbrev pub SlotsAreApart : Type 0
 SlotsAreApart = (p : Plan) (generation a b : ℕ) → (a ≡ b → ⊥) →
     IsApart (slot_extent p generation a) (slot_extent p generation b)

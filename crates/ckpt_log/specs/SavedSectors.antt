@@ -4,7 +4,7 @@ use Rattle.ckpt_log.specs.Names.{frame_sector, directory_sector, directory_lengt
 use Rattle.ckpt_log.specs.Names.{committed_bytes, Plan}
 use Rattle.std.specs.Prelude.{◌≡◌, ◌+◌, ◌<◌}
 
--- the same bytes in n sectors from one on
+-- the same bytes in the n sectors from `at` on
 abbrev pub SameFrom : ℕ → ℕ → Image → Image → Type 0
 SameFrom at n old new = (i : ℕ) → i < n → new (at + i) ≡ old (at + i)
 
@@ -15,24 +15,24 @@ pub record SameWhereRead (p : Plan) (h : CheckpointHeader) (es : List Entry) (ol
   pub frames : (object : ℕ) → object < p.geometry.nodes + p.geometry.pages →
       SameFrom (frame_sector p h.generation es object) (place_length p object) old new
 
--- images that agree in these sectors have the same committed header
+-- images that agree in the header slots have the same committed header
 abbrev pub SameHeader : Type 0
 SameHeader = (old new : Image) → SameFrom 1 4 old new →
     (committed_slot new ≡ committed_slot old) × (committed_bytes new ≡ committed_bytes old)
 
--- the same directory
+-- images that agree in the sectors of a directory have the same directory
 abbrev pub SameDirectory : Type 0
 SameDirectory = (old new : Image) (p : Plan) (h : CheckpointHeader) (es : List Entry) →
     SameFrom (directory_sector p h.generation) (directory_length h.entries) old new
     → HasDirectory old p h es → HasDirectory new p h es
 
--- the same frames
+-- images that agree in the sectors of a frame have the same frame
 abbrev pub SameFrames : Type 0
 SameFrames = (old new : Image) (p : Plan) (h : CheckpointHeader) (es : List Entry) (object : ℕ) →
     SameFrom (frame_sector p h.generation es object) (place_length p object) old new
     → frame_in new p h.generation es object ≡ frame_in old p h.generation es object
 
--- and denote the same saved state, where the superblock is the same too
+-- images that agree in all these sectors, and in the superblock, denote the same saved state
 abbrev pub SameSaved : Type 0
 SameSaved = (old new : Image) (size : ℕ) (s : SavedState) → SameFrom 0 1 old new →
     SameWhereRead s.plan s.header s.directory old new → Encodes old size s → Encodes new size s

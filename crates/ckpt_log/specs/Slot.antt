@@ -3,20 +3,20 @@ use Rattle.ckpt_log.specs.Names.{ℕ, List, ⊤, Frame, Geometry, BadDirectory, 
 use Rattle.ckpt_log.specs.Names.{IsFrameOf, frame_bytes, OpenFault, Failed, NoMemory, Bad, IsRefused}
 use Rattle.std.specs.Prelude.{◌≡◌}
 
--- bytes are refused where they spell no directory
+-- why bytes are refused: the device failed, or they encode no directory
 abbrev pub IsBadDirectory : Geometry → List ℕ → OpenFault → Type 0
 IsBadDirectory g bytes Failed = ⊤
 IsBadDirectory g bytes NoMemory = ⊥
 IsBadDirectory g bytes (Bad reason) = (reason ≡ BadDirectory) ×
     ((es : List Entry) → IsDirectory g es → bytes ≡ directory_bytes es → ⊥)
 
--- a frame that was written is read, and nothing else, and it isn't refused
+-- the bytes of a frame are read as that frame only, and are refused only if the device fails
 abbrev pub SlotsAreReadBack : Type 0
 SlotsAreReadBack = (g : Geometry) (age object : ℕ) (f : Frame) → IsFrameOf g age object (frame_bytes g object f) f →
     ((read : Frame) → IsFrameOf g age object (frame_bytes g object f) read → read ≡ f)
     × ((e : OpenFault) → IsRefused g age object (frame_bytes g object f) e → e ≡ Failed)
 
--- and so is a directory
+-- the bytes of a directory are read as that directory only, and are refused only if the device fails
 abbrev pub DirectoriesAreReadBack : Type 0
 DirectoriesAreReadBack = (g : Geometry) (es : List Entry) → IsDirectory g es →
     ((read : List Entry) → IsDirectory g read → directory_bytes es ≡ directory_bytes read → read ≡ es)

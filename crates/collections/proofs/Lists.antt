@@ -1,4 +1,4 @@
--- What stands at a place of a list.
+-- The item at a place of a list, after changes of the list.
 use Rattle.std.proofs.lemmas.Bool.Decides.{nat_tests}
 use Rattle.std.proofs.Common.{ℕ, zero, suc, Bool, true, false, List, [], length, map, set, get_or, Some, refl, ap, arith}
 use Rattle.std.proofs.Common.{length-set}

@@ -1,4 +1,4 @@
--- Items by place.
+-- Items by place, where a place may have none.
 use Rattle.std.proofs.lemmas.Bool.Decides.{nat_tests}
 use Rattle.std.proofs.Common.{inl, inr, ℕ, false, List, [], length, set, get_or, replicate, Option, Some, None, IsSome, is_some, true≢false}
 use Rattle.std.proofs.Common.{refl, sym, ap, arith, length-append, length-set, map, zero, suc, take, nat_lt}

@@ -1,4 +1,4 @@
--- What a command is once a subcommand or an argument is added.
+-- A command, after a subcommand or an argument is added.
 use Rattle.command_line.proofs.Names.{nat_tests, arith, false, ap, ap₂, AddsArg, AddsSubcommand, App, Rule, rule_of, with_rule, with_subcommand, Arg, Command}
 use Rattle.command_line.proofs.Names.{IsCommand, ℕ, List, [], map, take, get_or, length, refl, add-one, take-length, take-suc, map-append, argument_rule}
 use Rattle.command_line.proofs.Names.{subcommand_app, with_rules, with_subcommands, Argument, Subcommand}

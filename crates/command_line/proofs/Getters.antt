@@ -1,4 +1,4 @@
--- What the getters of the matches give.
+-- What the getters of clap's matches return.
 use Rattle.command_line.proofs.Names.{nat_tests, arith, ap, subst, sym, Bool, false, Option, Some, None, List, codes, map, option_map, Bor, IfSome, unwrap_or}
 use Rattle.command_line.proofs.Names.{bytes_eq, bytes_eq-Decides, Row, Text, all_of, first_of, first_value, matched_of, raw_values, rows_of, subcommand_name_of}
 use Rattle.command_line.proofs.Names.{subcommand_rows, subcommand_rows_of, ArgMatches, out-ArgMatches, Found, first_value-rows, raw_values-rows, IsFlag}

@@ -1,4 +1,4 @@
--- A parse that takes the words leaves each argument the values that it takes, and enters no help.
+-- A parse that takes the words gives each argument its values, and isn't for help.
 use Rattle.command_line.proofs.Names.{nat_tests, ℕ, zero, suc, not, is_some, refl, ap, arith, List, [], Bool, length, true, false, Option, Some, None}
 use Rattle.command_line.proofs.Names.{true≢false, ⊤, cond, fold, find, nat_le, nat_lt, option_map_or, list_all, list_any, bytes_eq, eqb-true, leb-true, lt-ltb}
 use Rattle.command_line.proofs.Names.{list_all-append, bytes_eq-Decides, is_request, ArgAction, ValueSource, unwrap_or_range, Held, Names, Outcome, Step}

@@ -61,7 +61,7 @@ abbrev pub IsFlag : List Row → Text → Bool → Type 0
 IsFlag rows name true = IsGiven rows name (codes "true")
 IsFlag rows name false = IsGiven rows name (codes "true") → ⊥
 
--- ---- whether a subcommand has what it takes
+-- ---- whether a subcommand has its arguments
 
 -- the argument has values that pass its parser, or has none and isn't required
 abbrev pub is_filled : List Row → Rule → Bool
@@ -76,6 +76,6 @@ is_whole rules rows = list_all (is_filled rows) rules
 abbrev pub subcommand_named : Text → Option Shape
 subcommand_named name = find (λ s. answers_to name (label_of s)) (built eros_app).subs
 
--- the rows have what the subcommand of this name takes
+-- whether the rows have all arguments that the subcommand of this name requires
 abbrev pub has_all : Text → List Row → Bool
 has_all name rows = option_map_or (λ s. is_whole s.rules rows) (subcommand_named name) false

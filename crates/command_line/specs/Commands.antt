@@ -115,7 +115,7 @@ with_rules app (r ∷ rs) = with_rules (with_rule app r) rs
 abbrev pub subcommand_app : Subcommand → App
 subcommand_app s = with_rules (new_app (subcommand_name s)) (rules_of s)
 
--- a command with subcommands more
+-- a command with more subcommands
 abbrev pub with_subcommands : App → List Subcommand → App
 with_subcommands app [] = app
 with_subcommands app (s ∷ rest) = with_subcommands (with_subcommand app (subcommand_app s).top) rest
@@ -126,7 +126,7 @@ subcommands =
     sub.Build ∷ sub.Run ∷ sub.Shell ∷ sub.Check ∷ sub.Explain ∷ sub.Info ∷ sub.Reach ∷ sub.Upgrade
     ∷ sub.Copy ∷ sub.Describe ∷ sub.Draw ∷ []
 
--- the name alone, which has a version, and wants a subcommand
+-- the program without its subcommands: it has a version, and requires a subcommand
 abbrev pub bare_app : App
 bare_app = record {
   top = record ((new_app (codes "eros")).top) { subcommand_required = true; has_version = true };
@@ -137,6 +137,6 @@ bare_app = record {
 abbrev pub eros_app : App
 eros_app = with_subcommands bare_app subcommands
 
--- a parse reads the command as this one, with no argument that holds for subcommands too
+-- clap's command c is this one, and has no argument that holds for subcommands too
 abbrev pub IsCommand : App → Command → Type 0
 IsCommand app c = (app_of c ≡ app) × ((out-Command c).has_globals ≡ false)

@@ -65,26 +65,26 @@ IsNames rows names = first_of (codes "names") rows ≡ option_map (λ file. file
 abbrev pub IsLine : Text → List Row → CommandLine → Type 0
 IsLine name rows line = IsJob name rows line.job × IsFlag rows (codes "verbose") line.is_verbose × IsNames rows line.names
 
--- the subcommand that was met, if any, is what the line requests
+-- the subcommand that was parsed, if any, is what the line requests
 abbrev pub NamesLine : Option (Text × List Row) → CommandLine → Type 0
 NamesLine None line = ⊥
 NamesLine (Some met) line = IsLine met.0 met.1 line
 
--- it is this subcommand, and its image and the new one are one word
+-- the subcommand is `command`, and its image and the new one are the same word
 abbrev pub IsSameOf : Text → Text → Text → List Row → Type 0
 IsSameOf command image name rows = (name ≡ command) × (word : Text) × IsGiven rows image word × IsGiven rows
     (codes "NEW") word
 
--- it is an upgrade or a copy whose two words are equal
+-- the subcommand is an upgrade or a copy whose two words are equal
 abbrev pub IsSameTwice : Text → List Row → Type 0
 IsSameTwice name rows = IsSameOf (codes "upgrade") (codes "OLD") name rows ⊎ IsSameOf (codes "copy") (codes "IMAGE")
     name rows
 
--- the subcommand doesn't have what it takes, or is that for help, or an upgrade or a copy whose two words are equal
+-- the subcommand lacks an argument, or is `help`, or is an upgrade or a copy whose two words are equal
 abbrev pub IsNoJob : Text → List Row → Type 0
 IsNoJob name rows = has_all name rows ≡ true → (name ≡ codes "help") ⊎ IsSameTwice name rows
 
--- no job is the subcommand that was met
+-- the subcommand that was parsed, if any, is no job
 abbrev pub NamesNone : Option (Text × List Row) → Type 0
 NamesNone None = ⊤
 NamesNone (Some met) = IsNoJob met.0 met.1

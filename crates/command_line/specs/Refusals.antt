@@ -9,7 +9,7 @@ use Rattle.command_line.specs.Jobs.{IsSameTwice}
 use Rattle.command_line.specs.declared.fault.JobFault.{JobFault}
 use Rattle.command_line.specs.declared.fault.JobFault.TheVariants as fault
 
--- clap's error, or want of memory where it is one for that
+-- the fault of an error from clap: no memory if that is the error's kind, else bad words
 abbrev pub IsFaultOf : Error → JobFault → Type 0
 IsFaultOf e (fault.BadWords why) = (why ≡ e) × (kind_of e ≢ OutOfMemory)
 IsFaultOf e fault.NoMemory = kind_of e ≡ OutOfMemory
@@ -19,15 +19,15 @@ abbrev pub AsksForSame : Option (Text × List Row) → Type 0
 AsksForSame None = ⊥
 AsksForSame (Some met) = IsSameTwice met.0 met.1
 
--- The kind of an error that refuses words. It is one that clap gives for them; or clap has nothing against them, they
--- request an upgrade or a copy of one word to itself, and it is that of a bad value.
+-- Why words are refused: by an error of a kind that clap gives for them; or, if clap has none, by an error of a bad
+-- value, since they request an upgrade or a copy of one word to itself.
 unfoldable pub Explains : List Text → Error → Type 0
 Explains words e =
     ((takes eros_app words ≡ false) × IsAmong (kind_of e) (fault_of eros_app words))
     ⊎ ((fault_of eros_app words ≡ []) × (takes eros_app words ≡ true → AsksForSame (subcommand_of eros_app words))
     × (kind_of e ≡ ValueValidation))
 
--- words are refused as bad ones by an error that explains it, and never for want of memory
+-- why words are refused: by an error that explains it and isn't for lack of memory; or memory ran out
 abbrev pub IsRefused : List Text → JobFault → Type 0
 IsRefused words (fault.BadWords why) = Explains words why × (kind_of why ≢ OutOfMemory)
 IsRefused words fault.NoMemory = Unit {0}

@@ -1,4 +1,4 @@
--- Orders on what stays inside a set that encloses its members.
+-- Orders on objects of a set that encloses its members.
 use Rattle.confinement.proofs.Names.{nat_tests, inl, refl, ℕ, false, not, List, arith, IsTrue, nat_lt, Access, Capability, Void, Number, Page, Node}
 use Rattle.confinement.proofs.Names.{Space, Process, Bank, Discrim, Geometry, Object, State, Available, Running, Arguments, NodeOrder, PageOrder, ProcessOrder}
 use Rattle.confinement.proofs.Names.{on_bank, bank_order, fetched, is_space, node_order, on_node, on_page, on_process, order, page_order, process_order, stored}

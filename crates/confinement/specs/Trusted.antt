@@ -1,4 +1,4 @@
--- Sets of numbers closed but for messages to trusted processes, and what the members of such a set can change.
+-- Sets of numbers closed except for messages to trusted processes, and what the members of such a set can change.
 use Rattle.confinement.specs.Names.{ℕ, Bool, true, false, not, List, [], IsTrue, Capability, Start, Invocation}
 use Rattle.confinement.specs.Names.{Geometry, Object, StaysInside, Effect, invoke, Up, is_bank, is_free, IsRun, Turn}
 use Rattle.confinement.specs.Names.{IsSound, Fits, World, annex_at, content_at, is_process, is_running_process}
@@ -6,7 +6,7 @@ use Rattle.confinement.specs.Names.{object_at, owner_at, root_at, slot_at, AreBy
 use Rattle.std.specs.Prelude.{◌≡◌, ◌⊎◌, ◌&&◌, ◌||◌, ◌∷◌}
 use Rattle.model.specs.declared.command.Command.TheVariants as command
 
--- a capability to start one of some processes
+-- a capability to start a trusted process
 abbrev pub StartsOne : (ℕ → Bool) → Capability → Type 0
 StartsOne trusted (Start p key) = IsTrue (trusted p)
 StartsOne trusted _ = ⊥
@@ -15,7 +15,7 @@ StartsOne trusted _ = ⊥
 abbrev pub StaysBut : (ℕ → Bool) → (ℕ → Bool) → Capability → Type 0
 StaysBut trusted inside c = StaysInside inside c ⊎ StartsOne trusted c
 
--- a closed set, but that its members may start trusted processes
+-- a set that is closed, except that its members may start trusted processes
 pub record IsClosedBut (trusted : ℕ → Bool) (os : List Object) (inside : ℕ → Bool) : Type 0 where
   pub annexes : (p : ℕ) → IsTrue (inside p) → IsTrue (is_process os p) → IsTrue (inside (annex_at os p))
   pub owned : (b n : ℕ) → IsTrue (inside b) → IsTrue (is_bank (content_at os b)) →
@@ -27,14 +27,14 @@ pub record IsClosedBut (trusted : ℕ → Bool) (os : List Object) (inside : ℕ
 abbrev pub IsInbox : (ℕ → Bool) → List Object → ℕ → Type 0
 IsInbox trusted os n = (p : ℕ) × IsTrue (trusted p) × IsTrue (is_process os p) × ((n ≡ p) ⊎ (n ≡ annex_at os p))
 
--- from some objects to others the set stays closed, with what was free, and each object outside that wasn't free keeps
--- its content and owner, but for inboxes; capabilities in it that name a member may become void
+-- from os to us: the set, with the free numbers, stays closed; each object outside it that is no inbox keeps its
+-- content and owner, except that capabilities in it to members may become void
 pub record IsConfinedBut (trusted inside : ℕ → Bool) (os us : List Object) : Type 0 where
   pub closed : IsClosedBut trusted us (with_free os inside)
   pub kept : (n : ℕ) → with_free os inside n ≡ false → (IsInbox trusted os n → ⊥) →
       IsKept inside (object_at os n) (object_at us n)
 
--- an invocation by a running member, or by a running process that has what was free
+-- an invocation by a running member of such a set is confined
 abbrev pub InvocationIsConfinedBut : Type 0
 InvocationIsConfinedBut = (g : Geometry) (w : World) (i : Invocation) (e : Effect) (trusted inside : ℕ → Bool) →
     IsSound g w → Fits (command.Invoke i) → IsTrue (is_running_process w.objects i.process) →
@@ -42,13 +42,13 @@ InvocationIsConfinedBut = (g : Geometry) (w : World) (i : Invocation) (e : Effec
     IsConfinedBut trusted inside w.objects e.objects
 
 -- the authority bound with trusted processes: any run of invocations and memory references by processes of such a set,
--- and by those that they make of free numbers
+-- and by those that they make of free numbers, is confined
 abbrev pub RunIsConfinedBut : Type 0
 RunIsConfinedBut = (g : Geometry) (trusted inside : ℕ → Bool) (s t : Running) (turns : List Turn) →
     IsSound g s.now → IsClosedBut trusted s.now.objects inside → IsRun g (Up s) turns (Up t) →
     AreBy (with_free s.now.objects inside) turns → IsConfinedBut trusted inside s.now.objects t.now.objects
 
--- turns by members, or by anyone, and the machine after them
+-- a stretch of a run: turns by members, or by anyone, and the machine after them
 pub record Stretch : Type 0 where
   pub by_members : Bool
   pub turns : List Turn
@@ -59,7 +59,7 @@ abbrev pub members_after : Running → (ℕ → Bool) → Stretch → ℕ → Bo
 members_after s inside x n =
     (inside n || (x.by_members && is_free (content_at s.now.objects n))) && not (is_free (content_at x.last.now.objects n))
 
--- anyone else leaves the world sound and the set closed
+-- the turns of a stretch are by members; or others leave the world sound and the set closed
 abbrev pub IsStretch : Geometry → (ℕ → Bool) → Running → (ℕ → Bool) → Stretch → Type 0
 IsStretch g trusted s inside x = IsRun g (Up s) x.turns (Up x.last) × elim x.by_members [
   | true ↦ AreBy (with_free s.now.objects inside) x.turns
@@ -71,14 +71,14 @@ AreStretches g trusted s inside [] = Unit {0}
 AreStretches g trusted s inside (x ∷ xs) =
     IsStretch g trusted s inside x × AreStretches g trusted x.last (members_after s inside x) xs
 
--- in each stretch by members everything outside is kept, but for inboxes
+-- in each stretch by members, everything outside is kept, except for inboxes
 abbrev pub AreConfinedBut : (ℕ → Bool) → Running → (ℕ → Bool) → List Stretch → Type 0
 AreConfinedBut trusted s inside [] = Unit {0}
 AreConfinedBut trusted s inside (x ∷ xs) =
     (IsTrue x.by_members → IsConfinedBut trusted inside s.now.objects x.last.now.objects)
     × AreConfinedBut trusted x.last (members_after s inside x) xs
 
--- the same over a run in which members and others take turns, if the others leave the set closed
+-- a run in which members and others take turns is confined, if the others leave the set closed
 abbrev pub TurnsAreConfinedBut : Type 0
 TurnsAreConfinedBut = (g : Geometry) (trusted inside : ℕ → Bool) (s : Running) (xs : List Stretch) →
     IsSound g s.now → IsClosedBut trusted s.now.objects inside → AreStretches g trusted s inside xs →

@@ -1,4 +1,4 @@
--- A world with a trusted process, worked: a set closed but for it, and how others break the bound if they act as they like.
+-- A worked world with a trusted process: a set closed except for it, and how others break the bound if they act freely.
 use Rattle.confinement.specs.Names.{ℕ, Bool, List, [], IsClosed, replicate, slice_set, Void, Page, Node, Start}
 use Rattle.confinement.specs.Names.{all_slots, free, full, zero_words, World, fresh_root, of_prime_bank, prime_bank}
 use Rattle.confinement.specs.Names.{Row, at_world, row}
@@ -25,14 +25,14 @@ d0 = record {
   age = 0;
 }
 
--- process 1 with its annex and node 7, and the store that it trusts
+-- the client: process 1 with its annex, and node 7; the store that it trusts: process 3
 abbrev pub client : ℕ → Bool
 client n = n == 1 || n == 2 || n == 7
 
 abbrev pub store : ℕ → Bool
 store n = n == 3
 
--- they are closed but for the store, and not closed
+-- the client's set is closed except for the store; it isn't closed
 abbrev pub ClientIsClosedBut : Type 0
 ClientIsClosedBut = IsClosedBut store d0.objects client × (IsClosed d0.objects client → ⊥)
 
@@ -45,27 +45,27 @@ asks = row (at_world d0) (
     ) ∷
     [])
 
--- Process 1 changes page 16, which is outside, once the trusted process sent it,
+-- Process 1 changes page 16, which is outside its set, once the trusted process sent it.
 abbrev pub answered : Row
 answered = row (at_world d0) (
     ("call 1 1 0 0 0 0 0 0 0 0", "done") ∷ ("return 3 31 0 0 0 0 1 0 0 0", "done") ∷
     ("call 1 28 2 0 9 0 0 0 0 0", "done") ∷ ("show 16", "page 16 owner 0\nword 0 9\nend") ∷
     [])
 
--- or another did by a start capability,
+-- Process 1 changes page 16 once process 5 sent it by a start capability.
 abbrev pub sent : Row
 sent = row (at_world d0) (
     ("return 1 1 0 0 0 0 0 0 0 0", "done") ∷ ("send 5 1 0 0 0 0 2 0 0 0", "done") ∷
     ("call 1 28 2 0 9 0 0 0 0 0", "done") ∷ ("show 16", "page 16 owner 0\nword 0 9\nend") ∷
     [])
 
--- or stored it in a node that it shares with process 1
+-- Process 1 changes page 16 once process 5 stored it in a node that both hold.
 abbrev pub shared : Row
 shared = row (at_world d0) (
     ("call 5 3 2 0 0 0 2 0 0 0", "done") ∷ ("call 1 2 1 0 0 0 0 0 0 0", "done") ∷
     ("call 1 28 2 0 9 0 0 0 0 0", "done") ∷ ("show 16", "page 16 owner 0\nword 0 9\nend") ∷
     [])
 
--- these rows
+-- the rows above
 unfoldable pub rows : List Row
 rows = asks ∷ answered ∷ sent ∷ shared ∷ []

@@ -1,4 +1,4 @@
-//! What processes can change that have authority over a set of numbers alone, but that they may start trusted processes.
+//! What processes can change that have authority over a set of numbers only, and may start trusted processes.
 #![tactic(auto)]
 
 pub mod laws;

@@ -1,4 +1,4 @@
--- A description is that of one list of frames.
+-- A description has just one list of frames.
 use Rattle.description.proofs.Names.{nat_tests, ℕ, inl, inr, List, map, slice_index_or, sym, ap, arith, All, ext_get_or, All-append, All-contains, All-map}
 use Rattle.description.proofs.Names.{get_or_from_slice_get, Cap, Frame, blank_frame, frame_at, void_held, Description, NodeEntry, PageEntry, ProcessEntry}
 use Rattle.description.proofs.Names.{SlotEntry, WordEntry, HasNamedWords, HoldsNamed, IsDescribedAnnex, IsDescribed, IsDescribedNode, IsDescribedPage}

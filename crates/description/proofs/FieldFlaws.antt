@@ -1,4 +1,4 @@
--- What is wrong with the fields of a description: how it is found, and that the rule is broken where it is.
+-- What is wrong with the fields of a description: the search finds it, and the rule is broken there.
 use Rattle.description.proofs.Names.{ℕ, zero, suc, List, [], length, map, Option, None, Some, slice_get, slice_index, slice_index_or, IsSomeAnd, refl}
 use Rattle.description.proofs.Names.{sym, ap, arith, All, All-cons, All-head, All-map, All-tail, none-some, same_Some, slice_get_within, AreDistinct, AreSlots}
 use Rattle.description.proofs.Names.{AreWords, HasFields, IsProcessEntry, IsSomeCapability, Description, NodeEntry, PageEntry, ProcessEntry, SlotEntry}

@@ -1,4 +1,4 @@
--- What is at a key, and what isn't.
+-- The values at keys, and keys without one.
 use Rattle.description.proofs.Names.{arith, List, Option, Some, None, Result, Ok, Err, Vec, Global, refl, sym, none-some, Data, Members, get_member, AtKey}
 use Rattle.description.proofs.Names.{AtOr, Key, Misread, Reads, ShapePlace, MatchOption, key_name}
 use Rattle.std.proofs.Common.{◌≡◌}

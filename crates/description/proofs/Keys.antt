@@ -1,4 +1,4 @@
--- Keys that are known, and texts that are the same.
+-- Known keys, and equal texts.
 use Rattle.description.proofs.Names.{ℕ, true, List, [], map, nat_eq, nat_cmp, is_eq, Bor, refl, sym, arith, nat_tests, same_from_slice_cmp, slice_cmp}
 use Rattle.description.proofs.Names.{pointwise, list_any, same_key}
 use Rattle.std.proofs.Common.{◌≡◌, ◌∷◌, ◌∙◌}

@@ -1,4 +1,4 @@
--- In described frames no count was ever raised, and what is an object of a kind has a number of that kind.
+-- In described frames no count was raised, and objects of a kind have numbers for that kind.
 use Rattle.description.proofs.Names.{nat_tests, arith, inl, inr, ℕ, List, refl, sym, ap, subst, get_or-map, Cap, Capability, Frame, ObjectHeader, Geometry}
 use Rattle.description.proofs.Names.{Content, blank_frame, current_count, frame_at, header_at, headers, role_of, IsOfKind, object_count, Description}
 use Rattle.description.proofs.Names.{NamesItsRole, HasNumbers, IsDescribed, first_frame, Entry, number_of, IsTarget}

@@ -1,4 +1,4 @@
--- A whole is not there where a part isn't.
+-- A value that says something of a table needs a table that says it.
 use Rattle.description.proofs.Names.{arith, subst, sym, Data, Members, table, same_Some, IsTable}
 use Rattle.std.proofs.Common.{◌≡◌, ◌∙◌}
 

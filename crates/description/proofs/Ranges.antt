@@ -1,4 +1,4 @@
--- Ranges that go on from number to number.
+-- Ranges that follow one another without a gap.
 use Rattle.description.proofs.Names.{ℕ, List, [], length, map, get_or, take, drop, sym, ap, arith, drop_more, get_or_default, take_more, Geometry}
 use Rattle.description.proofs.Names.{object_count, Cover, placed, NumberRange, GoesOn, GoOn, count_in, IsSomeAnd, cases_eq, inl, inr, slice_get}
 use Rattle.description.proofs.Names.{slice_get-get_or, subst}

@@ -1,4 +1,4 @@
--- The rule that is the first to be broken.
+-- Which rule is the first to be broken.
 use Rattle.description.proofs.Names.{ℕ, inl, inr, refl, sym, ap, subst, arith, cases_lt, Description, BuildFault, Shape, Limits, Field, Target, Owner, Small}
 use Rattle.description.proofs.Names.{Failed, NoMemory, fault_number, IsAccepted, IsFirstBroken, Rule, NoFault, OneFault}
 use Rattle.description.specs.declared.fault.BuildFault.TheVariants.{Number}

@@ -1,4 +1,4 @@
--- Numbers that are gone through in order, with those before marked.
+-- Numbers of a list, taken in order, with those before marked.
 use Rattle.description.proofs.Names.{ℕ, List, [], Bool, true, false, length, inl, inr, refl, subst, take, take_more, slice_index, slice_set, Contains}
 use Rattle.description.proofs.Names.{Contains-append_cases, get_or-set_other, get_or-set_same, is_marked, AreDistinct, true≢false, sym}
 use Rattle.std.proofs.Common.{◌≡◌, ◌+◌, ◌<◌, ◌∷◌, ◌∙◌}

@@ -1,4 +1,4 @@
--- What holds of each element that a loop has taken.
+-- A property of all elements that a loop has taken.
 use Rattle.description.proofs.Names.{ℕ, List, length, get_or, take, subst, All, take_all, All-more}
 use Rattle.std.proofs.Common.{◌≡◌, ◌+◌, ◌<◌, ◌≤◌}
 

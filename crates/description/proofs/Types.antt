@@ -1,4 +1,4 @@
--- Values of their types, and of others.
+-- Values of the types that keys need, and values of other types.
 use Rattle.description.proofs.Names.{nat_tests, inl, inr, ℕ, ℤ, true, false, Option, Some, None, is_some, List, IfSome, IfNone, sym, subst, arith, none-some}
 use Rattle.description.proofs.Names.{same_Some, unsigned_abs, is_negative, IsWellFormed, named, capability_text, state_text, Capability, Number, State, Data}
 use Rattle.description.proofs.Names.{string, integer, as_integer, as_str, IsCapability, IsNumber, IsState, IsWideNumber, Finds}

@@ -1,4 +1,4 @@
--- The first place where a description breaks a rule beyond its shape and fields.
+-- The first place where a description breaks a rule, except those of its shape and its fields.
 use Rattle.description.specs.Names.{ℕ, Bool, true, false, List, [], Option, None, Some, length, option_map, slice_get}
 use Rattle.description.specs.Names.{take, IsSomeAnd, All, Capability, Frame, Geometry, object_count, IsNext, IsGeometry}
 use Rattle.description.specs.Names.{version_number, Version, placed, NumberRange, NamesItsRole, IsTarget}
@@ -22,12 +22,12 @@ use Rattle.description.specs.declared.flaw.WorldFault.TheVariants as fault
 
 -- Sizes.
 
--- how many numbers ranges have
+-- how many numbers these ranges have
 abbrev pub count_in : List NumberRange → ℕ
 count_in [] = 0
 count_in (r ∷ rs) = r.count + count_in rs
 
--- a range goes on at a number, is not empty, is of one kind, and doesn't go beyond the last number
+-- a range begins at the number `next`, isn't empty, is of one kind, and doesn't go beyond the last number
 abbrev pub GoesOn : Geometry → NumberRange → ℕ → Type 0
 GoesOn g r next = IsNext g (placed 0 r) next × (next + r.count ≤ object_count g)
 
@@ -41,14 +41,14 @@ HasPages g = (1 ≤ g.pages) × (g.pages ≤ 4096)
 abbrev pub HasLog : Geometry → Type 0
 HasLog g = (16 ≤ g.log) × (g.log ≤ 4096)
 
--- the first count of these that is outside its limits
+-- the first of these counts that is outside its limits
 abbrev pub BreaksGeometry : Geometry → Limit → Type 0
 BreaksGeometry g limit.Nodes = HasNodes g → ⊥
 BreaksGeometry g limit.Pages = HasNodes g × (HasPages g → ⊥)
 BreaksGeometry g limit.Log = HasNodes g × HasPages g × (HasLog g → ⊥)
 BreaksGeometry g _ = ⊥
 
--- the ranges before an index go on, each where the one before ends
+-- each range before `index` is as `GoesOn` requires, from where the one before it ends
 abbrev pub GoOn : Geometry → List NumberRange → ℕ → Type 0
 GoOn g rs index =
     (i : ℕ) → i < index → IsSomeAnd (slice_get rs i) (λ r. GoesOn g r (count_in (take i rs)))
@@ -56,7 +56,7 @@ GoOn g rs index =
 abbrev pub HasRanges : List NumberRange → Type 0
 HasRanges rs = (1 ≤ length rs) × (length rs ≤ 8)
 
--- their count; or the first range that doesn't go on at `next`, where those before it end; or their end at `next`
+-- a wrong count of ranges; the first range that isn't as `GoesOn` requires at `next`; or an end at `next`, too early
 abbrev pub BreaksRanges : Geometry → List NumberRange → Limit → Type 0
 BreaksRanges g rs limit.RangeCount = HasRanges rs → ⊥
 BreaksRanges g rs (limit.Range index next) = HasRanges rs × GoOn g rs index × (next ≡ count_in (take index rs))
@@ -65,7 +65,7 @@ BreaksRanges g rs (limit.RangesEnd next) =
     HasRanges rs × GoOn g rs (length rs) × (next ≡ count_in rs) × (next < object_count g)
 BreaksRanges g rs _ = ⊥
 
--- the first of these that no image has: nodes, pages, log, age, layout and ranges
+-- the first of these that no image may have: nodes, pages, log, age, layout and ranges
 abbrev pub BreaksLimit : Description → Limit → Type 0
 BreaksLimit d limit.Nodes = BreaksGeometry d.geometry limit.Nodes
 BreaksLimit d limit.Pages = BreaksGeometry d.geometry limit.Pages
@@ -78,7 +78,7 @@ BreaksLimit d l = IsGeometry d.geometry × (d.age ≤ 2 ^ 62) × ((v : Version) 
 
 -- Numbers.
 
--- the number of an object
+-- the number of an object, if a description lists it
 abbrev pub number_at : Description → Named → Option ℕ
 number_at d (named.Bank k) = option_map (λ b. b.number) (slice_get d.banks.items k)
 number_at d (named.Root k) = option_map (λ p. p.root) (slice_get d.processes.items k)
@@ -86,7 +86,7 @@ number_at d (named.Annex k) = option_map (λ p. p.annex) (slice_get d.processes.
 number_at d (named.Node k) = option_map (λ n. n.number) (slice_get d.nodes.items k)
 number_at d (named.Page k) = option_map (λ p. p.number) (slice_get d.pages.items k)
 
--- where the number of an object stands among all: banks, roots, annexes, nodes and pages
+-- the index of an object's number among all: those of banks, roots, annexes, nodes and pages
 abbrev pub place_of : Description → Named → ℕ
 place_of d (named.Bank k) = k
 place_of d (named.Root k) = length d.banks.items + k
@@ -98,18 +98,18 @@ place_of d (named.Page k) = length (node_numbers d) + k
 abbrev pub IsListed : Description → Named → Type 0
 IsListed d who = (n : ℕ) × (number_at d who ≡ Some n)
 
--- it is a bank, a root, an annex or a node
+-- whether an object is a bank, a root, an annex or a node
 abbrev pub is_node : Named → Bool
 is_node (named.Page k) = false
 is_node who = true
 
--- its number is the first of all that is none of its kind
+-- the number of an object is the first of all that is outside the range of its kind
 abbrev pub IsFirstOutside : Description → Named → Type 0
 IsFirstOutside d (named.Page k) = All (λ n. n < d.geometry.nodes) (node_numbers d)
     × IsOutside d.geometry.nodes (object_count d.geometry) (page_numbers d) k
 IsFirstOutside d who = IsOutside 0 d.geometry.nodes (node_numbers d) (place_of d who)
 
--- the first number that is none of its kind; or, where there is none, the first that stands before too, and where
+-- the first number outside the range of its kind; if there is none, the first that occurs twice, and where
 abbrev pub BreaksNumber : Description → Misnumbered → Type 0
 BreaksNumber d (misnumbered.OutOfRange who) = IsListed d who × IsFirstOutside d who
 BreaksNumber d (misnumbered.Twice who other) = IsListed d who × IsListed d other
@@ -119,7 +119,7 @@ BreaksNumber d (misnumbered.Twice who other) = IsListed d who × IsListed d othe
 
 -- Capabilities.
 
--- a process or a node holds a capability
+-- the process or node at this place holds the capability c
 abbrev pub HoldsAt : Description → Held → Capability → Type 0
 HoldsAt d (held.Space k) c = IsSomeAnd (slice_get d.processes.items k) (λ p. p.space ≡ Some c)
 HoldsAt d (held.Register k i) c = IsSomeAnd (slice_get d.processes.items k)
@@ -127,7 +127,7 @@ HoldsAt d (held.Register k i) c = IsSomeAnd (slice_get d.processes.items k)
 HoldsAt d (held.Slot k i) c = IsSomeAnd (slice_get d.nodes.items k)
     (λ n. IsSomeAnd (slice_get n.slots.items i) (λ s. s.capability ≡ Some c))
 
--- a capability that is named has a property, or lacks it
+-- a capability has the property P, if one is named; one is named and lacks P
 abbrev pub IfNamed : (Capability → Type 0) → Option Capability → Type 0
 IfNamed P None = Unit {0}
 IfNamed P (Some c) = P c
@@ -136,7 +136,7 @@ abbrev pub LacksIt : (Capability → Type 0) → Option Capability → Type 0
 LacksIt P None = ⊥
 LacksIt P (Some c) = P c → ⊥
 
--- all capabilities of a list, of a process or of a description have it
+-- all capabilities have P: those of a list, of a process, of a description
 abbrev pub AllIn : (Capability → Type 0) → List SlotEntry → Type 0
 AllIn P slots = All (λ s. IfNamed P s.capability) slots
 
@@ -147,7 +147,7 @@ pub record AllHave (P : Capability → Type 0) (d : Description) : Type 0 where
   pub processes : All (AllOfProcess P) d.processes.items
   pub nodes : All (λ n. AllIn P n.slots.items) d.nodes.items
 
--- the first capability that lacks it: processes before nodes, the address space of a process before its registers
+-- the first capability that lacks P: processes before nodes, the address space of a process before its registers
 abbrev pub OneOf : (Capability → Type 0) → List SlotEntry → ℕ → Type 0
 OneOf P slots i = IsFirst (λ s. IfNamed P s.capability) (λ s. LacksIt P s.capability) slots i
 
@@ -158,21 +158,21 @@ FirstLacks P d (held.Register k i) =
 FirstLacks P d (held.Slot k i) = All (AllOfProcess P) d.processes.items
     × IsFirst (λ n. AllIn P n.slots.items) (λ n. OneOf P n.slots.items i) d.nodes.items k
 
--- it names an object of its kind in the frames of a description, and does not resume a process that isn't waiting
+-- a capability names an object of its kind in the described frames; a process that it resumes is waiting
 abbrev pub NamesItsObject : Description → Capability → Type 0
 NamesItsObject d c = (frames : List Frame) → IsDescribed d frames → NamesItsRole frames c
 
--- the first that names no number of its kind; or, where there is none, the first that names no object of its kind
+-- the first capability that names no number of its kind; if there is none, the first that names no object of its kind
 abbrev pub IsFirstTarget : Description → Held → Type 0
 IsFirstTarget d at = FirstLacks (IsTarget d.geometry) d at
     ⊎ (AllHave (IsTarget d.geometry) d × FirstLacks (NamesItsObject d) d at)
 
--- the first that is wrong, and what it names is no object of its kind, or a process that isn't waiting
+-- the first wrong capability: it names no object of its kind, or resumes a process that isn't waiting
 abbrev pub BreaksTarget : Description → Held → Type 0
 BreaksTarget d at = (c : Capability) × HoldsAt d at c ×
     ((frames : List Frame) → IsDescribed d frames → NamesItsRole frames c → ⊥) × IsFirstTarget d at
 
--- the same among nodes, and among what one process holds: the process of an index
+-- the first capability that lacks P in a list of nodes; in process k alone
 abbrev pub OneOfNodes : (Capability → Type 0) → List NodeEntry → Held → Type 0
 OneOfNodes P ns (held.Slot k i) = IsFirst (λ n. AllIn P n.slots.items) (λ n. OneOf P n.slots.items i) ns k
 OneOfNodes P ns _ = ⊥
@@ -182,13 +182,13 @@ OneOfProcess P k p (held.Space j) = (j ≡ k) × LacksIt P p.space
 OneOfProcess P k p (held.Register j i) = (j ≡ k) × IfNamed P p.space × OneOf P p.registers.items i
 OneOfProcess P k p _ = ⊥
 
--- the capability that is held there lacks it
+-- the capability at this place lacks P
 abbrev pub OneLacks : (Capability → Type 0) → Description → Held → Type 0
 OneLacks P d at = (c : Capability) × HoldsAt d at c × (P c → ⊥)
 
 -- Worlds.
 
--- the first rule that a description breaks of those without which it names no world, and the first place
+-- the first broken rule, and its first place, of the rules without which a description names no frames
 abbrev pub BreaksWorld : Description → WorldFault → Type 0
 BreaksWorld d (fault.Number n) = BreaksNumber d n
 BreaksWorld d (fault.Field p) = HasNumbers d × BreaksField d p

@@ -15,7 +15,7 @@ use Rattle.description.specs.declared.fault.BuildFault.TheVariants as fault
 
 -- The numbers that are named.
 
--- no number comes twice
+-- no number occurs twice
 abbrev pub AreDistinct : List ℕ → Type 0
 AreDistinct [] = Unit {0}
 AreDistinct (n ∷ ns) = (Contains ns n → ⊥) × AreDistinct ns
@@ -29,7 +29,7 @@ node_numbers d = map (λ b. b.number) d.banks.items
 abbrev pub page_numbers : Description → List ℕ
 page_numbers d = map (λ p. p.number) d.pages.items
 
--- each number is of its kind's range, and none is named twice
+-- each number is in the range for its kind, and none is named twice
 pub record HasNumbers (d : Description) : Type 0 where
   pub nodes : All (λ n. n < d.geometry.nodes) (node_numbers d)
   pub pages : All (λ n. (d.geometry.nodes ≤ n) × (n < object_count d.geometry)) (page_numbers d)
@@ -37,18 +37,18 @@ pub record HasNumbers (d : Description) : Type 0 where
 
 -- The fields.
 
--- a text was that of a capability
+-- a text named a capability, and that is within its bounds
 abbrev pub IsSomeCapability : Option Capability → Type 0
 IsSomeCapability None = ⊥
 IsSomeCapability (Some c) = IsWellFormed c
 
--- each slot that is named is one from the first on, none comes twice, and each has a capability
+-- each named slot is one from `first` to 31, none is named twice, and each has a capability
 pub record AreSlots (first : ℕ) (slots : List SlotEntry) : Type 0 where
   pub places : All (λ s. (first ≤ s.index) × (s.index < 32)) slots
   pub distinct : AreDistinct (map (λ s. s.index) slots)
   pub held : All (λ s. IsSomeCapability s.capability) slots
 
--- each word that is named is one of a page, and none comes twice
+-- each named word is one of a page, and none is named twice
 pub record AreWords (words : List WordEntry) : Type 0 where
   pub places : All (λ w. w.index < 512) words
   pub distinct : AreDistinct (map (λ w. w.index) words)
@@ -58,7 +58,7 @@ abbrev pub IsSpaceEntry : Option Capability → Type 0
 IsSpaceEntry None = ⊥
 IsSpaceEntry (Some c) = IsWellFormed c × IsSpace c
 
--- the fields of a process
+-- the fields of a process keep the rule for fields; those of all objects do
 pub record IsProcessEntry (p : ProcessEntry) : Type 0 where
   pub state : p.state ≢ None
   pub key : p.key < 2 ^ 16
@@ -72,20 +72,20 @@ pub record HasFields (d : Description) : Type 0 where
 
 -- The frames.
 
--- what is named for an index: by the first entry for it, else nothing is
+-- the value of the first entry with index i, or `nothing` if there is none
 abbrev pub first_named : {E V : Type 0} → (E → ℕ) → (E → V) → V → List E → ℕ → V
 first_named index value nothing [] i = nothing
 first_named index value nothing (e ∷ es) i = if index e == i then value e else first_named index value nothing es i
 
--- what a slot holds: the capability that is named for it, or nothing
+-- the capability that is named for a slot, or void
 abbrev pub named_at : List SlotEntry → ℕ → Capability
 named_at entries i = first_named (λ s. s.index) (λ s. unwrap_or s.capability Void) Void entries i
 
--- a word: the one that is named for it, or 0
+-- the word that is named for an index, or 0
 abbrev pub word_named_at : List WordEntry → ℕ → ℕ
 word_named_at entries i = first_named (λ w. w.index) (λ w. w.word) 0 entries i
 
--- 32 slots, and 512 words, as they are named
+-- these are the 32 slots that the entries name; these are the 512 words
 pub record HoldsNamed (entries : List SlotEntry) (slots : List Cap) : Type 0 where
   pub count : length slots ≡ 32
   pub each : (i : ℕ) → i < 32 → slice_get slots i ≡ Some (fresh_cap (named_at entries i))
@@ -99,7 +99,7 @@ abbrev pub first_frame : ℕ → Content Cap → Frame
 first_frame owner held =
     record { header = record { role = role_of held; allocations = 0; calls = 0; owner = owner }; content = held }
 
--- a frame is that of the root of a process
+-- f is the frame of the root of this process; of its annex; of this node; of this page
 abbrev pub IsDescribedRoot : ProcessEntry → Frame → Type 0
 IsDescribedRoot p f = (state : State) × (space : Capability) × (p.state ≡ Some state) × (p.space ≡ Some space)
     × (f ≡ first_frame p.owner (content.Root
@@ -130,7 +130,7 @@ pub record IsDescribed (d : Description) (frames : List Frame) : Type 0 where
 -- The faults.
 
 -- the least fault of a description: of a number, else of a field, else a capability that can't name an object of its
--- kind; no other fault comes, but want of memory
+-- kind; there is no other fault, except lack of memory
 abbrev pub IsWorldFault : Description → BuildFault → Type 0
 IsWorldFault d fault.Number = HasNumbers d → ⊥
 IsWorldFault d fault.Field = HasNumbers d × (HasFields d → ⊥)

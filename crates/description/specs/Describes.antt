@@ -8,7 +8,7 @@ use Rattle.description.specs.declared.entry.Description.{Description}
 abbrev pub plain_frame : Object → Frame
 plain_frame o = first_frame o.owner (map_content fresh_cap o.content)
 
--- those of all objects: they stand for the same objects as any frames do, with all counts 0
+-- the plain frames of all objects: they stand for these objects, with all counts 0
 unfoldable pub plain_frames : List Object → List Frame
 plain_frames os = map plain_frame os
 

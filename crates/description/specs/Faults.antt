@@ -4,7 +4,7 @@ use Rattle.description.specs.declared.fault.BuildFault.{BuildFault}
 use Rattle.description.specs.declared.fault.BuildFault.TheVariants.{Shape, Limits, Number, Field, Target, Owner}
 use Rattle.description.specs.declared.fault.BuildFault.TheVariants.{Small, Failed, NoMemory}
 
--- the number of a fault: the least of those that hold is answered
+-- the number of a fault; if several hold, the answer is the least
 abbrev pub fault_number : BuildFault → ℕ
 fault_number Shape = 1
 fault_number Limits = 2

@@ -12,29 +12,29 @@ use Rattle.description.specs.declared.flaw.Part.TheVariants as part
 use Rattle.description.specs.declared.flaw.SlotFlaw.{SlotFlaw}
 use Rattle.description.specs.declared.flaw.SlotFlaw.TheVariants as slot
 
--- what stands at a place is bad, and all that stands before it in the list is good
+-- item i of a list is bad, and all items before it are good
 abbrev pub IsFirst : {A : Type 0} → (A → Type 0) → (A → Type 0) → List A → ℕ → Type 0
 IsFirst Good Bad xs i = All Good (take i xs) × IsSomeAnd (slice_get xs i) Bad
 
--- the first number outside a range
+-- item i of a list is the first number outside a range
 abbrev pub IsOutside : ℕ → ℕ → List ℕ → ℕ → Type 0
 IsOutside first end ns i = IsFirst (λ n. (first ≤ n) × (n < end)) (λ n. (first ≤ n) × (n < end) → ⊥) ns i
 
--- two places of one number
+-- the same number is at the places i and j
 abbrev pub IsTwice : List ℕ → ℕ → ℕ → Type 0
 IsTwice ns i j = (i < j) × (n : ℕ) × (slice_get ns i ≡ Some n) × (slice_get ns j ≡ Some n)
 
--- the first number that stands before too, and where it does
+-- j is the first place whose number occurs before it too, at place i
 abbrev pub IsFirstTwice : List ℕ → ℕ → ℕ → Type 0
 IsFirstTwice ns i j = AreDistinct (take j ns) × IsTwice ns i j
 
--- the first index outside its range; or, where there is none, the first that comes twice
+-- the first index outside its range; if there is none, the first that occurs twice
 unfoldable pub BreaksIndexed : ℕ → ℕ → List ℕ → Indexed → Type 0
 BreaksIndexed first end indexes (indexed.OutOfRange i) = IsOutside first end indexes i
 BreaksIndexed first end indexes (indexed.Twice i j) =
     All (λ n. (first ≤ n) × (n < end)) indexes × IsFirstTwice indexes i j
 
--- a bad index; or, where all are good, the first text that is that of no capability
+-- a bad index; if all are good, the first text that names no capability
 unfoldable pub BreaksSlots : ℕ → List SlotEntry → SlotFlaw → Type 0
 BreaksSlots first slots (slot.Index i) = BreaksIndexed first 32 (map (λ s. s.index) slots) i
 BreaksSlots first slots (slot.Text i) =
@@ -50,7 +50,7 @@ BreaksProcess p (part.Registers k flaw) =
     (p.state ≢ None) × (p.key < 2 ^ 16) × IsSpaceEntry p.space × BreaksSlots 1 p.registers.items flaw
 BreaksProcess p _ = ⊥
 
--- the index of its process
+-- the index of the process with this part
 abbrev pub process_of : Part → ℕ
 process_of (part.State k) = k
 process_of (part.Key k) = k
@@ -58,7 +58,7 @@ process_of (part.Space k) = k
 process_of (part.Registers k flaw) = k
 process_of _ = 0
 
--- the first bad field of the first bad process; or, where all are good, of the first bad node; or of the first bad page
+-- the first bad field of the first bad process; if all are good, of the first bad node; else of the first bad page
 abbrev pub BreaksField : Description → Part → Type 0
 BreaksField d (part.Slots k flaw) = All IsProcessEntry d.processes.items
     × IsFirst (λ n. AreSlots 0 n.slots.items) (λ n. BreaksSlots 0 n.slots.items flaw) d.nodes.items k

@@ -15,7 +15,7 @@ use Rattle.description.specs.Described.{first_frame}
 use Rattle.description.specs.declared.world.World.{World}
 use Rattle.description.specs.Described.{HasFields, HasNumbers, IsDescribed}
 
--- an object that is named
+-- an object that a description names
 pub data Entry : Type 0 where
   OfBank : BankEntry → Entry
   OfRoot : ProcessEntry → Entry
@@ -23,7 +23,7 @@ pub data Entry : Type 0 where
   OfNode : NodeEntry → Entry
   OfPage : PageEntry → Entry
 
--- all of them
+-- all objects that a description names
 abbrev pub entries : Description → List Entry
 entries d = map OfBank d.banks.items ++ map OfRoot d.processes.items ++ map OfAnnex d.processes.items ++ map OfNode
     d.nodes.items
@@ -41,7 +41,7 @@ abbrev pub set_each : {E V : Type 0} → (E → ℕ) → (E → V) → List E �
 set_each index value [] xs = xs
 set_each index value (e ∷ es) xs = set_each index value es (slice_set xs (index e) (value e))
 
--- slots and words with those that are named, over void ones and zeros
+-- slots and words as these entries name them; all others are void or 0
 abbrev pub slot_held : SlotEntry → Cap
 slot_held s = fresh_cap (unwrap_or s.capability Void)
 
@@ -60,7 +60,7 @@ root_of p = content.Root (record {
   space = fresh_cap (unwrap_or p.space Void);
 })
 
--- the frame of an object
+-- the frame of an object that a description names
 abbrev pub frame_of : Entry → Frame
 frame_of (OfBank b) = first_frame b.owner (content.Bank b.limit)
 frame_of (OfRoot p) = first_frame p.owner (root_of p)
@@ -68,7 +68,7 @@ frame_of (OfAnnex p) = first_frame p.owner (content.Annex (slots_of p.registers.
 frame_of (OfNode n) = first_frame n.owner (content.Node (slots_of n.slots.items))
 frame_of (OfPage p) = first_frame p.owner (content.Page (words_of p.words.items))
 
--- its numbers have 64 bits
+-- the numbers of an entry have 64 bits
 abbrev pub Fits : Entry → Type 0
 Fits (OfBank b) = (b.owner < 2 ^ 64) × (b.limit < 2 ^ 64)
 Fits (OfRoot p) = (p.owner < 2 ^ 64) × AreKeptWords 4 p.words
@@ -76,7 +76,7 @@ Fits (OfAnnex p) = p.owner < 2 ^ 64
 Fits (OfNode n) = n.owner < 2 ^ 64
 Fits (OfPage p) = (p.owner < 2 ^ 64) × All (λ w. w < 2 ^ 64) (words_of p.words.items)
 
--- the frames of a world, and as many headers as contents
+-- the frames of a world; the world has `count` headers and contents
 abbrev pub frames_of : World → List Frame
 frames_of w = frames_in w.headers.items w.contents.items
 
@@ -84,18 +84,18 @@ pub record HasCount (count : ℕ) (w : World) : Type 0 where
   pub headers : vec_len w.headers ≡ count
   pub contents : vec_len w.contents ≡ count
 
--- frames with those of some objects laid over them
+-- the frames, with those of these entries in their places
 unfoldable pub laid : List Entry → List Frame → List Frame
 laid es fs = set_each number_of frame_of es fs
 
--- some objects are laid
+-- the frames of these entries were laid over those of a world
 pub record IsLaid (es : List Entry) (old new : World) : Type 0 where
   pub frames : frames_of new ≡ laid es (frames_of old)
   pub fits : All Fits es
   pub headers : vec_len new.headers ≡ vec_len old.headers
   pub contents : vec_len new.contents ≡ vec_len old.contents
 
--- a frame is put at a number
+-- frame f was put at number n
 pub record IsPut (n : ℕ) (f : Frame) (old new : World) : Type 0 where
   pub frames : frames_of new ≡ slice_set (frames_of old) n f
   pub headers : vec_len new.headers ≡ vec_len old.headers

@@ -1,4 +1,4 @@
--- What a table says.
+-- What a TOML table says, read as a description.
 use Rattle.description.specs.Names.{ℕ, pos, Bool, true, false, Option, None, Some, List, [], length, codes, IfSome}
 use Rattle.description.specs.Names.{IsTrue, IsSomeAnd, MatchOption, list_any, NumberRange, IsWellFormed, named}
 use Rattle.description.specs.Names.{capability_text, state_text, Capability, Void, Geometry, State, Data, integer}
@@ -16,13 +16,13 @@ use Rattle.description.specs.declared.object.ProcessFields.{ProcessFields}
 
 -- Values
 
--- a text, and the capability that has it, or none where none has it; numbers of objects have 64 bits
+-- a text, and the capability that it names, or `None` if it names none; numbers of objects have 64 bits
 abbrev pub IsCapability : Data → Option Capability → Type 0
 IsCapability d (Some c) = IsWellFormed c × IfSome (named c) (λ n. n < 2 ^ 64) × (d ≡ string (capability_text c))
 IsCapability d None = (text : List ℕ) × (d ≡ string text) ×
     ((c : Capability) → IsWellFormed c → IfSome (named c) (λ n. n < 2 ^ 64) → capability_text c ≢ text)
 
--- a number; those of TOML end below 2^63
+-- a number as an integer of TOML, below 2^63
 abbrev pub IsNumber : Data → ℕ → Type 0
 IsNumber d n = (n < 2 ^ 63) × (d ≡ integer (pos n))
 
@@ -30,7 +30,7 @@ IsNumber d n = (n < 2 ^ 63) × (d ≡ integer (pos n))
 unfoldable pub IsWideNumber : Data → ℕ → Type 0
 IsWideNumber d n = IsNumber d n ⊎ ((2 ^ 63 ≤ n) × IsCapability d (Some (Number n)))
 
--- a text, and the state that has it, or none where no state has it
+-- a text, and the state that it names, or `None` if it names none
 abbrev pub IsState : Data → Option State → Type 0
 IsState d (Some s) = d ≡ string (state_text s)
 IsState d None = (text : List ℕ) × (d ≡ string text) × ((s : State) → state_text s ≢ text)
@@ -58,25 +58,25 @@ IsTable P d x = (ms : Members) × (d ≡ table ms) × P ms x
 
 -- Keys
 
--- the table has no other keys than these
+-- whether a table has no keys but these
 abbrev pub has_only : List (List ℕ) → Members → Bool
 has_only keys no_members = true
 has_only keys (member k d ms) = list_any (same_key k) keys && has_only keys ms
 
--- the table has a key
+-- whether a table has this key
 abbrev pub has_key : List ℕ → Members → Bool
 has_key key no_members = false
 has_key key (member k d ms) = same_key key k || has_key key ms
 
--- the value at a key, which is there
+-- the table has this key, and its value says x
 abbrev pub At : {A : Type 0} → List ℕ → (Data → A → Type 0) → Members → A → Type 0
 At key P ms x = IsSomeAnd (get_member key ms) (λ d. P d x)
 
--- the value at a key, or else this one
+-- the value at this key says x; if the table lacks the key, x is the default
 abbrev pub AtOr : {A : Type 0} → A → List ℕ → (Data → A → Type 0) → Members → A → Type 0
 AtOr default key P ms x = MatchOption (get_member key ms) (x ≡ default) (λ d. P d x)
 
--- a list of entries at a key, none where the key is missing
+-- the value at this key, if the table has it, is a list of entries
 abbrev pub HasList : {A : Type 0} → (Data → A → Type 0) → List ℕ → Members → Type 0
 HasList {A = A} P key ms = (xs : List A) × AtOr [] key (IsList P) ms xs
 
@@ -97,7 +97,7 @@ pub record IsBank (ms : Members) (bank : BankEntry) : Type 0 where
   pub owner : At (codes "owner") IsNumber ms bank.owner
   pub limit : At (codes "limit") IsWideNumber ms bank.limit
 
--- the fields of a process beside its registers
+-- the fields of a process, except its registers
 pub record HasProcessFields (ms : Members) (fields : ProcessFields) : Type 0 where
   pub known : IsTrue (has_only
       (codes "root" ∷ codes "annex" ∷ codes "owner" ∷ codes "state" ∷ codes "key" ∷ codes "words" ∷ codes "space" ∷
@@ -123,7 +123,7 @@ pub record IsProcess (ms : Members) (process : ProcessEntry) : Type 0 where
   pub space : AtOr (Some Void) (codes "space") IsCapability ms process.space
   pub registers : AtOr [] (codes "registers") (IsList IsSlot) ms process.registers.items
 
--- a number and an owner, in a table with no other keys than these and one more
+-- a table with the keys `number` and `owner`, at most one further key, `other`, and no more
 pub record HasNumberAndOwner (other : List ℕ) (ms : Members) (numbers : ℕ × ℕ) : Type 0 where
   pub known : IsTrue (has_only (codes "number" ∷ codes "owner" ∷ other ∷ []) ms)
   pub number : At (codes "number") IsNumber ms numbers.0
@@ -146,11 +146,11 @@ pub record IsGeometry (ms : Members) (g : Geometry) : Type 0 where
   pub pages : At (codes "pages") IsNumber ms g.pages
   pub log : At (codes "log") IsNumber ms g.log
 
--- all nodes, and then all pages
+-- one range of all nodes, and one of all pages
 abbrev pub whole_ranges : Geometry → List NumberRange
 whole_ranges g = record { first = 0; count = g.nodes } ∷ record { first = g.nodes; count = g.pages } ∷ []
 
--- a table is that of a description
+-- a table says this description
 pub record IsDescription (ms : Members) (d : Description) : Type 0 where
   pub known : IsTrue (has_only
       (codes "nodes" ∷ codes "pages" ∷ codes "log" ∷ codes "layout" ∷ codes "age" ∷ codes "ranges" ∷ codes "bank" ∷

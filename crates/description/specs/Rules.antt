@@ -10,21 +10,21 @@ use Rattle.description.specs.declared.entry.Description.{Description}
 use Rattle.description.specs.Described.{HasFields, HasNumbers, IsDescribed}
 use Rattle.description.specs.Reading.{IsDescription}
 
--- the version of the layout that has a number, where there is one
+-- the version of the layout with this number, if there is one
 abbrev pub version_of : ℕ → Version
 version_of n = if n == 2 then Two else One
 
--- where the parts of the image lie
+-- where the parts of the image of a description lie
 abbrev pub plan_for : Description → Plan
 plan_for d = plan_from (version_of d.layout) d.geometry d.ranges.items
 
--- a version, objects, ranges and an age that an image may have
+-- the layout, sizes, ranges and age of a description are some that an image may have
 pub record IsWithinLimits (d : Description) : Type 0 where
   pub layout : (v : Version) × (d.layout ≡ version_number v)
   pub laid : MayBeLaid d.geometry d.ranges.items
   pub age : d.age ≤ 2 ^ 62
 
--- the rule that a fault breaks, where an image is built on a device of `sectors` sectors
+-- the rule that a fault breaks, for an image on a device of `sectors` sectors
 abbrev pub Rule : Description → ℕ → BuildFault → Type 0
 Rule d sectors Limits = IsWithinLimits d
 Rule d sectors Number = HasNumbers d
@@ -38,24 +38,24 @@ Rule d sectors _ = Unit {0}
 abbrev pub IsAccepted : Description → ℕ → Type 0
 IsAccepted d sectors = (fault : BuildFault) → Rule d sectors fault
 
--- a rule is broken, and those of all lesser faults are kept
+-- the rule of this fault is broken, and those of all lesser faults are kept
 pub record IsFirstBroken (d : Description) (sectors : ℕ) (fault : BuildFault) : Type 0 where
   pub kept : (lesser : BuildFault) → fault_number lesser < fault_number fault → Rule d sectors lesser
   pub broken : Rule d sectors fault → ⊥
 
--- a description is refused with a fault; with the last two for what isn't its own
+-- why a description is refused: by its first broken rule; if it breaks none, by a device failure; or memory ran out
 abbrev pub IsRefused : Description → ℕ → BuildFault → Type 0
 IsRefused d sectors Failed = IsAccepted d sectors
 IsRefused d sectors NoMemory = Unit {0}
 IsRefused d sectors fault = IsFirstBroken d sectors fault
 
--- a table is
+-- why a table is refused: it says no description, or its description is refused, or memory ran out
 abbrev pub Refuses : Members → ℕ → BuildFault → Type 0
 Refuses ms sectors Shape = (d : Description) → IsDescription ms d → ⊥
 Refuses ms sectors NoMemory = Unit {0}
 Refuses ms sectors fault = (d : Description) × IsDescription ms d × IsRefused d sectors fault
 
--- the faults for which a table has no number of sectors
+-- why it isn't known how many sectors the image of a table takes
 abbrev pub TellsNoSize : Members → BuildFault → Type 0
 TellsNoSize ms Shape = (d : Description) → IsDescription ms d → ⊥
 TellsNoSize ms Limits = (d : Description) × IsDescription ms d × (IsWithinLimits d → ⊥)

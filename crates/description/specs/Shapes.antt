@@ -57,7 +57,7 @@ keys_of (name.Process i) = ProcessRoot ∷ ProcessAnnex ∷ ObjectOwner ∷ Proc
 keys_of (name.Node i) = ObjectNumber ∷ ObjectOwner ∷ NodeSlots ∷ []
 keys_of (name.Page i) = ObjectNumber ∷ ObjectOwner ∷ PageWords ∷ []
 
--- what stands at a key, or its being missing, says a value of its type
+-- the value at a key has the key's type; or the key is missing, and may be
 abbrev pub FitsAt : Key → Members → Type 0
 FitsAt Nodes ms = (n : ℕ) × At (codes "nodes") IsNumber ms n
 FitsAt Pages ms = (n : ℕ) × At (codes "pages") IsNumber ms n
@@ -82,7 +82,7 @@ FitsAt ProcessRegisters ms = HasList IsSlot (codes "registers") ms
 FitsAt NodeSlots ms = HasList IsSlot (codes "slots") ms
 FitsAt PageWords ms = HasList IsWord (codes "words") ms
 
--- an item of the list at a key says a value of its type
+-- an item of the list at a key has the type of this list's items
 abbrev pub IsItem : Key → Data → Type 0
 IsItem Ranges d = (r : NumberRange) × IsRange d r
 IsItem Banks d = (b : BankEntry) × IsTable IsBank d b
@@ -94,7 +94,7 @@ IsItem NodeSlots d = (s : SlotEntry) × IsSlot d s
 IsItem PageWords d = (w : WordEntry) × IsWord d w
 IsItem _ d = ⊥
 
--- it has another form: an object is a table
+-- an item isn't of the form of the list's items; in a list of objects these are tables
 abbrev pub IsFormless : Key → Data → Type 0
 IsFormless Banks d = (ms : Members) → d ≡ table ms → ⊥
 IsFormless Processes d = (ms : Members) → d ≡ table ms → ⊥
@@ -102,7 +102,7 @@ IsFormless NodeList d = (ms : Members) → d ≡ table ms → ⊥
 IsFormless PageList d = (ms : Members) → d ≡ table ms → ⊥
 IsFormless key d = IsItem key d → ⊥
 
--- whether a list stands at a key
+-- whether the value at a key is a list
 abbrev pub is_list : Key → Bool
 is_list Ranges = true
 is_list Banks = true
@@ -114,39 +114,39 @@ is_list NodeSlots = true
 is_list PageWords = true
 is_list _ = false
 
--- The first.
+-- The first flaw.
 
 -- the first key of a table that is none of these
 abbrev pub first_unknown : List (List ℕ) → Members → Option (List ℕ)
 first_unknown keys no_members = None
 first_unknown keys (member k d ms) = if list_any (same_key k) keys then first_unknown keys ms else Some k
 
--- something fits at each key
+-- the values at all these keys fit
 abbrev pub FitAll : Members → List Key → Type 0
 FitAll ms [] = Unit {0}
 FitAll ms (key ∷ keys) = FitsAt key ms × FitAll ms keys
 
--- a table has no keys but these, and something fits at all before one
+-- a table has no keys but these, and the values at all of them before this one fit
 abbrev pub FitsBefore : List Key → Members → Key → Type 0
 FitsBefore keys ms key = IsTrue (has_only (map key_name keys) ms) ×
     (n : ℕ) × (slice_get keys n ≡ Some key) × FitAll ms (take n keys)
 
--- the item of an index is so, and those before it are good
+-- item i has the property `So`, and all items before it are good
 abbrev pub IsFirstItem : (Data → Type 0) → (Data → Type 0) → ℕ → Items → Type 0
 IsFirstItem Good So i no_items = ⊥
 IsFirstItem Good So zero (item d ds) = So d
 IsFirstItem Good So (suc i) (item d ds) = Good d × IsFirstItem Good So i ds
 
--- the same of the list at a key
+-- the list at a key has this first item
 abbrev pub HasFirstItem : Key → (Data → Type 0) → ℕ → Members → Type 0
 HasFirstItem key So i ms =
     (ds : Items) × (get_member (key_name key) ms ≡ Some (array ds)) × IsFirstItem (IsItem key) So i ds
 
--- where entries are to be listed, there is no list
+-- the value at a key should be a list, and isn't
 abbrev pub IsUnlisted : Key → Members → Type 0
 IsUnlisted key ms = IsTrue (is_list key) → (ds : Items) → get_member (key_name key) ms ≡ Some (array ds) → ⊥
 
--- the first flaw of a table with these keys: a key that is none of them; a key where nothing fits; or an item of
+-- the first flaw of a table with these keys: a key that is none of them; a key whose value doesn't fit; or an item of
 -- another form in a list
 abbrev pub IsFirstFlaw : List Key → Members → Flaw → Type 0
 IsFirstFlaw keys ms (Unknown key) = first_unknown (map key_name keys) ms ≡ Some key.now
@@ -154,12 +154,12 @@ IsFirstFlaw keys ms (Misfit key) = FitsBefore keys ms key × (FitsAt key ms → 
 IsFirstFlaw keys ms (Item key i) = FitsBefore keys ms key × IsTrue (is_list key) ×
     HasFirstItem key (IsFormless key) i ms
 
--- the first flaw of a table that is listed at a key of the whole
+-- the first flaw of table i in the list at a key
 abbrev pub IsFirstInside : Key → ℕ → List Key → Members → Flaw → Type 0
 IsFirstInside key i keys ms flaw = FitsBefore (keys_of name.Whole) ms key ×
     HasFirstItem key (λ d. (t : Members) × (d ≡ table t) × IsFirstFlaw keys t flaw) i ms
 
--- the first flaw of all, by its table
+-- the first flaw of all, given with the table that has it
 abbrev pub BreaksAt : Members → TableName → Flaw → Type 0
 BreaksAt ms name.Whole flaw = IsFirstFlaw (keys_of name.Whole) ms flaw
 BreaksAt ms (name.Bank i) flaw = IsFirstInside Banks i (keys_of (name.Bank i)) ms flaw
@@ -170,6 +170,6 @@ BreaksAt ms (name.Page i) flaw = IsFirstInside PageList i (keys_of (name.Page i)
 abbrev pub BreaksShape : Members → ShapePlace → Type 0
 BreaksShape ms place = BreaksAt ms place.table place.flaw
 
--- a place at a key
+-- the place of a key whose value doesn't fit
 abbrev pub misfit : TableName → Key → ShapePlace
 misfit which key = record { table = which; flaw = Misfit key }

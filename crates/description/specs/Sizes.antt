@@ -2,7 +2,7 @@
 use Rattle.description.specs.Names.{unwrap_or, Geometry}
 use Rattle.description.specs.declared.sizes.Sizes.{Sizes}
 
--- sizes, and an image's own where there are none
+-- the requested sizes; where none is requested, an image's own
 abbrev pub grown_geometry : Geometry → Sizes → Geometry
 grown_geometry own sizes = record {
   nodes = unwrap_or sizes.nodes own.nodes;

@@ -1,4 +1,4 @@
--- What is reported of a description holds.
+-- What is reported about a description holds.
 use Rattle.description_explainer.proofs.Names.{ℕ, List, subst, Frame, Unbanked, AreNamed, NamesItsRole, IsUnbanked, unbanked_refuted, Description, HasFields}
 use Rattle.description_explainer.proofs.Names.{HasNumbers, IsDescribed, IsTarget, described_once, IsFirstBroken, IsWithinLimits, Refuses, field_broken}
 use Rattle.description_explainer.proofs.Names.{limits_broken, number_broken, owner_broken, target_broken, Held, Limit, Misnumbered, Part, BreaksField}

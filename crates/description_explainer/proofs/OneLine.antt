@@ -1,4 +1,4 @@
--- Texts that stand on one line.
+-- Texts that have just one line.
 use Rattle.description_explainer.proofs.Names.{none-some, same_Some, nat_tests, ℕ, zero, suc, Bool, false, List, [], Option, None, Some, refl, ap}
 use Rattle.description_explainer.proofs.Names.{arith, All-cons, All-head, All-tail, IfSome, codes, decimal, list_any, IsOneLine, Description, Key}
 use Rattle.description_explainer.proofs.Names.{Flaw, TableName, Part, Unbanked, Held, Limit, Misnumbered, Named, Place, Rule, IsFlawText, IsPlaceText}

@@ -10,7 +10,7 @@ use Rattle.description_explainer.specs.declared.place.Rule.{Rule}
 use Rattle.description_explainer.specs.declared.place.Rule.TheVariants as rule
 use Rattle.description.specs.Broken.{BreaksLimit, BreaksNumber, BreaksTarget}
 
--- the fault that `build` answers
+-- the fault that `build` answers if this rule is the first broken one
 abbrev pub rule_fault : Rule → BuildFault
 rule_fault (rule.Limit l) = fault.Limits
 rule_fault (rule.Number n) = fault.Number
@@ -22,11 +22,11 @@ abbrev pub fault_of : Place → BuildFault
 fault_of (place.Shape s) = fault.Shape
 fault_of (place.Rule d r) = rule_fault r
 
--- the first place where the banks are no tree that owns all objects within their limits
+-- the first place where the rule of owners and banks is broken
 abbrev pub BreaksOwner : Description → Unbanked → Type 0
 BreaksOwner d unbanked = (frames : List Frame) → IsDescribed d frames → IsUnbanked frames unbanked
 
--- what stands at a place breaks its rule, and is the first that does
+-- this is the first place that breaks its rule
 abbrev pub BreaksRule : Description → Rule → Type 0
 BreaksRule d (rule.Limit l) = BreaksLimit d l
 BreaksRule d (rule.Number n) = BreaksNumber d n
@@ -38,8 +38,8 @@ abbrev pub Breaks : Members → Place → Type 0
 Breaks ms (place.Shape s) = BreaksShape ms s
 Breaks ms (place.Rule d r) = IsDescription ms d × BreaksRule d r
 
--- A table is that of a description, and is accepted on each device that is large enough; or it breaks a rule at a
--- place, and is refused on each device for the fault of that rule.
+-- A table says a description, and is accepted on each device that is large enough; or it breaks a rule at a place, and
+-- is refused on each device for the fault of that rule.
 abbrev pub Explains : Members → Option Place → Type 0
 Explains ms None = (d : Description) × IsDescription ms d ×
     ((sectors : ℕ) → (plan_for d).total ≤ sectors → IsAccepted d sectors)

@@ -26,11 +26,11 @@ use Rattle.description_explainer.specs.Places.{fault_of}
 
 -- Shapes.
 
--- an item of a list, and what follows
+-- the text of an item of a list, and what follows it
 abbrev pub item_text : List ℕ → ℕ → List ℕ → List ℕ
 item_text list i after = list ++ (codes "[" ++ (decimal i ++ (codes "]" ++ after)))
 
--- what stands before a key of a table
+-- the text before a key: the table that has it
 abbrev pub table_text : TableName → List ℕ
 table_text name.Whole = []
 table_text (name.Bank k) = item_text (codes "bank") k (codes ", ")
@@ -38,7 +38,7 @@ table_text (name.Process k) = item_text (codes "process") k (codes ", ")
 table_text (name.Node k) = item_text (codes "node") k (codes ", ")
 table_text (name.Page k) = item_text (codes "page") k (codes ", ")
 
--- a key, or an item of its list; an unknown key stands in quotes, as `{:?}` writes it, on one line
+-- the text of a flaw: a key, or an item of its list; an unknown key in quotes, as `{:?}` writes it, on one line
 abbrev pub IsFlawText : Flaw → List ℕ → Type 0
 IsFlawText (flaw.Unknown key) text = (shown : List ℕ) × IfSome (debug_str key.now) (λ s. shown ≡ s)
     × IsOneLine shown × (text ≡ codes "key " ++ shown)
@@ -60,7 +60,7 @@ limit_text limit.RangeCount = codes "ranges"
 limit_text (limit.RangesEnd next) = codes "ranges"
 limit_text (limit.Range i next) = item_text (codes "ranges") i []
 
--- the key of a number
+-- the place of an object's number
 abbrev pub named_text : Named → List ℕ
 named_text (named.Bank k) = item_text (codes "bank") k (codes ", number")
 named_text (named.Root k) = item_text (codes "process") k (codes ", root")
@@ -68,7 +68,7 @@ named_text (named.Annex k) = item_text (codes "process") k (codes ", annex")
 named_text (named.Node k) = item_text (codes "node") k (codes ", number")
 named_text (named.Page k) = item_text (codes "page") k (codes ", number")
 
--- of two equal numbers the second
+-- the place of a wrong number; of two equal ones, the second
 abbrev pub misnumbered_text : Misnumbered → List ℕ
 misnumbered_text (misnumbered.OutOfRange who) = named_text who
 misnumbered_text (misnumbered.Twice who other) = named_text other
@@ -79,7 +79,7 @@ misnumbered_text (misnumbered.Twice who other) = named_text other
 abbrev pub listed_number : Description → Named → ℕ
 listed_number d who = unwrap_or (number_at d who) 0
 
--- a process, a node and a page, by its index in its list
+-- the text of a process, a node or a page, by its index in its list
 abbrev pub process_text : Description → ℕ → List ℕ
 process_text d k = codes "process " ++ decimal (listed_number d (named.Root k))
 
@@ -89,13 +89,13 @@ node_text d k = codes "node " ++ decimal (listed_number d (named.Node k))
 abbrev pub page_text : Description → ℕ → List ℕ
 page_text d k = codes "page " ++ decimal (listed_number d (named.Page k))
 
--- an object by its number, which is a process if a number of the process at this index is
+-- the object with number n: the process at index k, if one has this number; else a node or a page
 abbrev pub part_text : Description → ℕ → Option ℕ → List ℕ
 part_text d n (Some k) = process_text d k
 part_text d n None =
     if list_any (λ o. o.number == n) d.nodes.items then codes "node " ++ decimal n else codes "page " ++ decimal n
 
--- an object by its number; an annex is named as its process
+-- the object with number n; an annex is named as its process
 abbrev pub object_text : Description → ℕ → List ℕ
 object_text d n =
     if list_any (λ b. b.number == n) d.banks.items then codes "bank " ++ decimal n
@@ -103,7 +103,7 @@ object_text d n =
 
 -- Fields, capabilities and owners.
 
--- the entry that is wrong; of two with one index the second
+-- the wrong entry; of two with the same index, the second
 abbrev pub indexed_entry : Indexed → ℕ
 indexed_entry (indexed.OutOfRange i) = i
 indexed_entry (indexed.Twice i j) = j
@@ -112,7 +112,7 @@ abbrev pub slot_entry : SlotFlaw → ℕ
 slot_entry (slot.Index i) = indexed_entry i
 slot_entry (slot.Text i) = i
 
--- an entry of a list of an object
+-- the text of an entry in a list of an object
 abbrev pub entry_text : List ℕ → List ℕ → ℕ → List ℕ
 entry_text object list i = object ++ (codes ", " ++ item_text list i [])
 

@@ -1,4 +1,4 @@
--- What is known of an image that a crash may leave.
+-- What is known about an image that a crash may leave.
 use Rattle.std.proofs.Common.{◌≡◌, ◌<◌, ℕ, sym, ◌∙◌, ⊎_elim}
 use Rattle.std.proofs.Math.Path.{fun_ext}
 use Rattle.std.proofs.lemmas.Bool.{cases_lt}

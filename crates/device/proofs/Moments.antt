@@ -1,4 +1,4 @@
--- How a run of device calls goes on.
+-- Runs of device calls, one after another.
 use Rattle.std.proofs.Common.{◌⊎◌, ◌≡◌, ◌<◌, ◌≤◌, ℕ, inl, inr, ⊎_elim, refl, arith, true, false, Result, Ok, Err, sym, subst}
 use Rattle.std.proofs.lemmas.Bool.{cases_lt}
 use Rattle.device.specs.Disk.{Image, Disk}

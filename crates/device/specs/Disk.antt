@@ -16,6 +16,6 @@ pub record Disk : Type 1 where
   pub sectors : ℕ  -- how many there are
   pub seen : Image  -- what a read gives
   pub may_leave : Image → Type 0  -- what a crash now may leave
-  pub moment : ℕ  -- a number that doesn't fall
-  pub left_since : ℕ → Image → Type 0  -- what a crash at some moment from that one on might have left
+  pub moment : ℕ  -- a clock: this number never falls
+  pub left_since : ℕ → Image → Type 0  -- what a crash at this moment or a later one might have left
   pub failures : ℕ  -- how many calls have failed

@@ -2,7 +2,7 @@
 use Rattle.std.specs.Prelude.{◌≤◌, ◌⊎◌, ℕ}
 use Rattle.device.specs.Disk.{Image, Disk}
 
--- Time goes on: a crash since t might have left what it might have left before, or what it may leave now.
+-- Time goes on: a crash since t might have left what was known before, or what a crash may leave now.
 pub record Elapses (old new : Disk) : Type 0 where
   pub later : old.moment ≤ new.moment
   pub nothing_else : (t : ℕ) (c : Image) → t ≤ old.moment → new.left_since t c → old.left_since t c ⊎ new.may_leave c
@@ -12,10 +12,10 @@ pub record Elapses (old new : Disk) : Type 0 where
 pub record LeavesOnly (old new : Disk) (P : Image → Type 0) : Type 0 where
   pub later : old.moment ≤ new.moment
   pub each : (c : Image) → new.left_since old.moment c → P c
-  -- for a run that began earlier
+  -- since an earlier moment t, a crash might have left no new image without P
   pub before : (t : ℕ) (c : Image) → t ≤ old.moment → new.left_since t c → old.left_since t c ⊎ P c
   pub keeps : (t : ℕ) (c : Image) → t ≤ old.moment → old.left_since t c → new.left_since t c
 
--- A crash at any moment since old leaves what it could have left then: nothing was written.
+-- A crash at any moment since old leaves an image that a crash of old may leave: nothing was written.
 abbrev pub Peeks : Disk → Disk → Type 0
 Peeks old new = LeavesOnly old new old.may_leave

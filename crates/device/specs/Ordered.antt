@@ -3,12 +3,12 @@ use Rattle.std.specs.Prelude.{◌⊎◌, ℕ, List}
 use Rattle.device.specs.Disk.{Image}
 use Rattle.device.specs.Calls.{sectors_of, AreSectors, Elsewhere}
 
--- these sectors have these bytes, and all others those of the old image
+-- `bytes` are in the sectors from `at` on, and all other sectors are those of the old image
 pub record IsWrittenAt (at : ℕ) (bytes : List ℕ) (old new : Image) : Type 0 where
   pub whole : AreSectors new at bytes
   pub elsewhere : Elsewhere at (sectors_of bytes) old new
 
--- the first run is old or torn, and nothing else is touched; or it is whole, and then the second may be torn
+-- either the first run is old or torn, and nothing else is touched; or it is whole, and the second may be torn
 abbrev pub IsInOrder : ℕ → List ℕ → ℕ → List ℕ → Image → Image → Type 0
 IsInOrder at first next second old c =
     Elsewhere at (sectors_of first) old c

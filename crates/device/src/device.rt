@@ -19,9 +19,9 @@ pub struct Failed;
 
 /// A device of sectors of 512 bytes, numbered from 0.
 ///
-/// A `read`, a `write` or a `sync` may fail, and the count of failures then rises and never else.
-/// Between two syncs a crash may leave any bytes in each sector that was written, independently of
-/// the other sectors. The clauses hold at `Err` as well as at `Ok`.
+/// A `read`, a `write` or a `sync` may fail; only then the count of failures rises. Between two syncs
+/// a crash may leave any bytes in each sector that was written, independently of the other sectors.
+/// The clauses hold at `Err` as well as at `Ok`.
 ///
 /// A call for several sectors takes whole sectors that lie on the device, which its caller can test
 /// by `sectors`.
@@ -69,8 +69,8 @@ pub trait Device: Drop {
         ensures time { Elapses (disk self.old) (disk self.new) }
         ensures cause { Counts (disk self.old) (disk self.new) result };
 
-    /// The power goes and comes back. What a read gives is then one of the things that a crash
-    /// might have left just before, and it is durable.
+    /// The power goes and comes back. What a read gives then is an image that a crash might have left
+    /// just before, and it is durable.
     fn power_cut(&mut self)
         ensures left { (disk self.old).may_leave (disk self.new).seen }
         ensures durable { Only (disk self.new).seen (disk self.new) }
@@ -78,14 +78,14 @@ pub trait Device: Drop {
         ensures time { Elapses (disk self.old) (disk self.new) }
         ensures no_failure { (disk self.new).failures ≡ (disk self.old).failures };
 
-    /// What a read gives is one of the things that a crash now may leave.
+    /// A crash now may leave what a read gives.
     ghost seen_left: { (device : Self) → (disk device).may_leave (disk device).seen };
 
-    /// This moment is one of those since an earlier one.
+    /// A crash now is one of the crashes since an earlier moment.
     ghost counts_now: { (device : Self) (t : ℕ) (c : Image) → t ≤ (disk device).moment → (disk device).may_leave c
         → (disk device).left_since t c };
 
-    /// Since this moment there is no other.
+    /// A crash since this moment may leave only what a crash now may leave.
     ghost only_now: { (device : Self) (c : Image) → (disk device).left_since (disk device).moment c
         → (disk device).may_leave c };
 

@@ -1,4 +1,4 @@
--- Each call keeps the copy and the file in accord.
+-- Each call keeps the copy and the file in agreement.
 use Rattle.devices.proofs.Names.{nat_tests, ℕ, List, [], length, All, Result, Ok, Err, OnOk, OnErr, refl, sym, ap, subst, arith, inl, ⊎_elim, cases_lt, Keep}
 use Rattle.devices.proofs.Names.{IsWhole, Elsewhere, AreSectors, sectors_of, image_of, Narrows, Tears, Only, Elapses, Event, cut, State, at_first, after}
 use Rattle.devices.proofs.Names.{MayLeave, disk_of, writes_of, image_whole, IsCopy, unwritten_same, synced}

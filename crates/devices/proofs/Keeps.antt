@@ -1,4 +1,4 @@
--- Each call keeps the bytes and the record in accord.
+-- Each call keeps the bytes and the record in agreement.
 use Rattle.devices.proofs.Names.{nat_tests, ℕ, zero, suc, Bool, true, false, nat_eq, List, [], length, drop, All, sym, ap, arith, inl, inr, ⊎_elim, cases_lt}
 use Rattle.devices.proofs.Names.{cases_Bool, or_cases, eqb-true, eqb-false, cases_order, drop-append-le, drop_all, or_assoc, Outcome, Synced, RecordEntry, None}
 use Rattle.devices.proofs.Names.{Agrees, Elsewhere, Patches, AreSectors, sectors_of, image_of, Event, wrote, synced, cut, State, at_first, after, replay}

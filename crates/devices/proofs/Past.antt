@@ -1,4 +1,4 @@
--- How a device with a record goes on.
+-- How a device with a record changes with time.
 use Rattle.devices.proofs.Names.{nat_tests, ℕ, zero, suc, Bool, false, List, [], take, refl, sym, ap, arith, inl, ⊎_elim, length-append, take-append-le}
 use Rattle.devices.proofs.Names.{take_all, cases_lt, eq-eqb, ne_eqb, Image, image_of, Elapses, Event, wrote, State, at_first, after, replay, disk_of, writes_of}
 use Rattle.devices.proofs.Names.{IsQuiet}

@@ -1,4 +1,4 @@
--- Sectors of which some are stored, and the bytes of all.
+-- Sectors, of which only some are stored, and the bytes of all.
 use Rattle.devices.proofs.Names.{nat_tests, ℕ, List, [], Option, Some, None, All, length, take, drop, replicate, refl, sym, ap, arith, inl, inr, length-append}
 use Rattle.devices.proofs.Names.{length-take-le, take-append-le, length-replicate, drop-drop, take-add, cases_lt, length-drop, zero, suc, subst, false}
 use Rattle.devices.proofs.Names.{image_of, sectors_of, AreSectors, Elsewhere, AreWhole, IsSector, bytes_of, item_at, is_some, get_or, Fits, w8, get_or_default}

@@ -5,7 +5,7 @@ use Rattle.devices.specs.declared.record.Outcome.TheVariants.{Keep, Drop}
 use Rattle.devices.specs.declared.record.Outcome.TheVariants.{Fill}
 use Rattle.devices.specs.Past.{Event, wrote, synced, cut}
 
--- which event, a number and bytes
+-- an event as plain data: its kind, a number and bytes
 abbrev Parts : Type 0
 Parts = ℕ × (ℕ × List ℕ)
 

@@ -7,7 +7,7 @@ use Rattle.devices.specs.declared.fuse.Fuse.{Fuse}
 abbrev pub beneath : {D : Type 0} → Fuse D → D
 beneath fuse = fuse.inner
 
--- how many calls are still passed on, or `None` where each is
+-- how many calls are still passed on, or `None` if all are
 abbrev pub calls_left : {D : Type 0} → Fuse D → Option ℕ
 calls_left fuse = fuse.left
 
@@ -22,7 +22,7 @@ pub record Passes {D T E : Type 0} (disk : D → Disk) (old new : Fuse D) (resul
   pub passed : (IsBlown old → ⊥) → IsErr result → (disk (beneath old)).failures < (disk (beneath new)).failures
   pub left : calls_left new ≡ option_map (λ calls. calls - 1) (calls_left old)
 
--- the device beneath, with the failures of the fuse's own
+-- the device beneath, with the fuse's own failures added
 abbrev pub fused : {D : Type 0} → (D → Disk) → Fuse D → Disk
 fused disk fuse = record {
   sectors = (disk fuse.inner).sectors;

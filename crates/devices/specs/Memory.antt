@@ -6,26 +6,26 @@ use Rattle.devices.specs.declared.record.Outcome.{Outcome}
 use Rattle.devices.specs.Past.{Event, State}
 use Rattle.devices.specs.Mirror.{past_of, state_of, disk_of_mirror}
 
--- all that has happened to it
+-- all that has happened to a device in memory
 abbrev pub memory_past : Memory → List Event
 memory_past m = past_of m.mirror
 
--- its sectors now
+-- the sectors of the device now
 abbrev pub memory_state : Memory → State
 memory_state m = state_of m.mirror
 
--- how many entries its record still takes
+-- how many more entries the device's record has memory for
 abbrev pub capacity_left : Memory → ℕ
 capacity_left m = m.room - vec_len m.mirror.entries
 
--- what its power cuts leave
+-- what a power cut leaves of this device
 abbrev pub outcome_of : Memory → Outcome
 outcome_of m = m.outcome
 
--- nothing was written to it, and its record is as it was
+-- nothing was written to the device, and its record is unchanged
 abbrev pub IsUntouched : Memory → Memory → Type 0
 IsUntouched old new = new.mirror ≡ old.mirror
 
--- it as its users see it
+-- the device as its users see it
 abbrev pub memory_disk : Memory → Disk
 memory_disk m = disk_of_mirror m.failures.number m.mirror

@@ -1,15 +1,15 @@
--- A device in memory as what it has gone through.
+-- A device in memory, as the events that it has gone through.
 use Rattle.devices.specs.Names.{ℕ, List, Disk, image_of}
 use Rattle.devices.specs.declared.mirror.Mirror.{Mirror}
 use Rattle.devices.specs.Past.{Event, State, disk_of}
 use Rattle.devices.specs.Record.{events_of}
 use Rattle.devices.specs.MirrorSound.{now_of}
 
--- all that has happened to it
+-- all that has happened to the device
 abbrev pub past_of : Mirror → List Event
 past_of m = events_of m.entries.items
 
--- its sectors now
+-- the sectors of the device now
 abbrev pub state_of : Mirror → State
 state_of m = now_of m.first.items m.entries.items
 

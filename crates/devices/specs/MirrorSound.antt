@@ -1,20 +1,20 @@
--- What holds of the bytes and the record of a device in memory, whatever was done to it.
+-- What always holds of the bytes and the record of a device in memory.
 use Rattle.devices.specs.Names.{ℕ, true, false, List, length, drop, All, Agrees, image_of}
 use Rattle.std.specs.Prelude.{◌≡◌, ◌<◌, ◌≤◌, ◌*◌}
 use Rattle.devices.specs.declared.record.RecordEntry.{RecordEntry}
 use Rattle.devices.specs.Past.{State, at_first, replay}
 use Rattle.devices.specs.Record.{events_of, names}
 
--- the sectors after all that the record has
+-- the sectors after all events of the record
 abbrev pub now_of : List ℕ → List RecordEntry → State
 now_of first entries = replay (at_first (image_of first)) (events_of entries)
 
--- sectors with these entries, the last ones unsynced
+-- sectors with these present and synced bytes; the entries `unsynced` came after the last sync
 abbrev pub state_with : List ℕ → List ℕ → List RecordEntry → State
 state_with present synced unsynced =
     record { present = image_of present; durable = image_of synced; unsynced = names unsynced }
 
--- The record gives these bytes, and the entries from `settled` on are what is not durable yet.
+-- The events of the record give these bytes; its entries from `settled` on aren't durable yet.
 pub record IsSoundMirror (sectors : ℕ) (first present synced : List ℕ) (entries : List RecordEntry) (settled : ℕ) : Type
     0 where
   pub few : sectors ≤ 131072

@@ -1,4 +1,4 @@
--- What follows for the sectors of a device in memory from what holds of its bytes and its record.
+-- What `IsSoundMirror` implies for the sectors of a device in memory.
 use Rattle.devices.specs.Names.{ℕ, false, List, sym, subst, fun_ext, IsWhole}
 use Rattle.std.specs.Prelude.{◌≡◌}
 use Rattle.std.proofs.Common.{◌∙◌}
@@ -17,12 +17,12 @@ module _ (sectors : ℕ) (first present synced : List ℕ) (entries : List Recor
   durable_whole = subst (IsWhole sectors) (fun_ext sound.durable_is)
       (image_whole sectors synced sound.synced_size sound.synced_fits)
 
-  -- what wasn't written since the last sync is durable
+  -- a sector that wasn't written since the last sync is durable
   pub synced_same : (i : ℕ) → (now_of first entries).unsynced i ≡ false →
       (now_of first entries).present i ≡ (now_of first entries).durable i
   synced_same i none = sym (sound.present_is i) ∙ sound.same_elsewhere i (sym (sound.unsynced_are i) ∙ none) ∙
       sound.durable_is i
 
-  -- what a read gives may be left
+  -- a crash may leave what a read gives
   pub sound_seen_left : MayLeave sectors (now_of first entries) (now_of first entries).present
   sound_seen_left = record { whole = present_whole; untouched = synced_same }

@@ -14,7 +14,7 @@ use Rattle.devices.specs.declared.openable.LockAnswer.{LockAnswer}
 use Rattle.devices.specs.declared.openable.LockAnswer.TheVariants.{Held}
 use Rattle.devices.specs.RawCalls.{Adds}
 
--- a call that went well, with its answer
+-- a successful call, with its answer
 pub data OpeningCall : Type 0 where
   opened : List ℕ → Access → OpeningCall  -- open the file at this path
   locked : Lock → LockAnswer → OpeningCall  -- ask for a lock
@@ -98,7 +98,7 @@ pub record IsMade (path : List ℕ) (access : Access) (sectors : ℕ) (calls : L
       ∷ resized 0 ∷ resized (512 * sectors) ∷ synced ∷ listed path ∷ []
   pub free : answer ≢ Held
 
--- only the first of these calls were made, and not all
+-- a beginning of these calls was made, and not all of them
 abbrev pub StopsWithin : List OpeningCall → Option (List OpeningCall) → Option (List OpeningCall) → Type 0
 StopsWithin calls old new =
     (front : List OpeningCall) × (left : List OpeningCall) × (calls ≡ front ++ left) × (left ≢ []) × Adds old new front
@@ -133,7 +133,7 @@ bytes_after bytes (got at piece) = bytes
 bytes_after bytes (resized n) = take n (bytes ++ replicate n 0)
 bytes_after bytes (listed path) = bytes
 
--- what a call says of a file with these bytes is true
+-- the call's answer is true of a file with these bytes
 abbrev pub IsTrueOf : List ℕ → OpeningCall → Type 0
 IsTrueOf bytes (opened path access) = ⊤
 IsTrueOf bytes (locked lock answer) = ⊤
@@ -148,7 +148,7 @@ abbrev pub Answers : List ℕ → List OpeningCall → List ℕ → Type 0
 Answers first [] now = now ≡ first
 Answers first (call ∷ calls) now = IsTrueOf first call × Answers (bytes_after first call) calls now
 
--- if the file answered truly, whatever it held, the device has its sectors
+-- if the answers are true of a file, whatever it held, the device has the first whole sectors of that file
 abbrev pub Mirrors : List OpeningCall → Disk → Type 0
 Mirrors calls disk =
     (first now : List ℕ) → Answers first calls now

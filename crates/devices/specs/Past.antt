@@ -1,4 +1,4 @@
--- What a device with a record has gone through, and what a crash may leave at each moment of that.
+-- What a device with a record has gone through, and what a crash at each moment of this past may leave.
 use Rattle.devices.specs.Names.{ℕ, Bool, false, List, [], length, take, replicate, zero, suc, Image, IsWhole, Disk}
 use Rattle.devices.specs.Names.{image_of}
 use Rattle.std.specs.Prelude.{◌≡◌, ◌≤◌, ◌⊎◌, ◌+◌, ◌||◌, ◌==◌, if◌then◌else◌, ◌∷◌, ◌++◌}
@@ -15,7 +15,7 @@ pub data Event : Type 0 where
 pub record State : Type 0 where
   pub present : Image  -- what a read gives
   pub durable : Image  -- what the last sync or power cut left
-  pub unsynced : ℕ → Bool  -- which were written since
+  pub unsynced : ℕ → Bool  -- which sectors were written since then
 
 -- a device on which nothing has happened
 abbrev pub at_first : Image → State
@@ -42,7 +42,7 @@ abbrev pub replay : State → List Event → State
 replay s [] = s
 replay s (e ∷ es) = replay (after s e) es
 
--- a crash leaves what is durable, but for any bytes in each sector that was written since
+-- a crash leaves the durable sectors, with any bytes in each sector that isn't synced
 pub record MayLeave (sectors : ℕ) (s : State) (c : Image) : Type 0 where
   pub whole : IsWhole sectors c
   pub untouched : (i : ℕ) → s.unsynced i ≡ false → c i ≡ s.durable i
@@ -64,10 +64,10 @@ abbrev pub writes_of : ℕ → ℕ → List ℕ → List Event
 writes_of at zero bytes = []
 writes_of at (suc n) bytes = writes_of at n bytes ++ wrote (at + n) (image_of bytes n) ∷ []
 
--- nothing has happened yet, or last the power was cut
+-- nothing has happened yet, or the last event is a power cut
 abbrev pub IsQuiet : List Event → Type 0
 IsQuiet past = (past ≡ []) ⊎ ((front : List Event) × (outcome : Outcome) × (past ≡ front ++ cut outcome ∷ []))
 
--- the power is cut, which leaves no trace where all was quiet
+-- a power cut adds its event; if the device was quiet, it may add none
 abbrev pub EndsCut : Outcome → List Event → List Event → Type 0
 EndsCut outcome old new = (new ≡ old ++ cut outcome ∷ []) ⊎ ((new ≡ old) × IsQuiet old)

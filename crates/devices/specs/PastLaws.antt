@@ -1,11 +1,11 @@
--- What holds of each device with a record: the laws that a device has to meet.
+-- The laws that a device has to meet hold for each device with a record.
 use Rattle.devices.specs.Names.{ℕ, List, length, take, drop, All, arith, sym, subst, ap, length-drop, take_all}
 use Rattle.devices.specs.Names.{drop_all, length-take-le, All-take, All-drop, Image, IsWhole, image_of}
 use Rattle.std.specs.Prelude.{◌≡◌, ◌≤◌, ◌<◌, ◌*◌}
 use Rattle.devices.specs.Past.{Event, at_first, replay, MayLeave}
 
 module _ (sectors : ℕ) (first : Image) (past : List Event) where
-  -- what a crash now may leave counts among what one since an earlier moment might have left
+  -- an image that a crash may leave now is also one that a crash since an earlier moment might have left
   pub past_counts_now : (t : ℕ) (c : Image) → t ≤ length past → MayLeave sectors (replay (at_first first) past) c
       → (k : ℕ) × (t ≤ k) × (k ≤ length past) × MayLeave sectors (replay (at_first first) (take k past)) c
   past_counts_now t c le left =
@@ -17,7 +17,7 @@ module _ (sectors : ℕ) (first : Image) (past : List Event) where
             (sym all) left,
       )
 
-  -- since this moment there is no other
+  -- a crash since this moment might have left only images that a crash may leave now
   pub past_only_now : (c : Image) → (k : ℕ) × (length past ≤ k) × (k ≤ length past) × MayLeave sectors
       (replay (at_first first) (take k past)) c
       → MayLeave sectors (replay (at_first first) past) c

@@ -4,12 +4,12 @@ use Rattle.std.specs.Prelude.{◌≡◌, ◌+◌, ◌*◌, ◌∷◌, ◌++◌}
 use Rattle.devices.specs.declared.record.Outcome.TheVariants.{Keep}
 use Rattle.devices.specs.Past.{Event, synced, cut, writes_of}
 
--- a call that went well: bytes taken from a byte on, or what was written made durable
+-- a successful call: it took bytes to write from a byte on, or it made the written bytes durable
 pub data Call : Type 0 where
   took : ℕ → List ℕ → Call
   kept : Call
 
--- known calls, and more; what isn't known stays so
+-- the calls known now are those known before, and `more`; unknown calls stay unknown
 abbrev pub Adds : {X : Type 0} → Option (List X) → Option (List X) → List X → Type 0
 Adds None now more = now ≡ None
 Adds (Some calls) None more = ⊥
@@ -19,16 +19,16 @@ Adds (Some calls) (Some now) more = now ≡ calls ++ more
 pub data Deed : Type 0 where
   writes : ℕ → List (List ℕ) → Deed  -- these pieces are written from a sector on
   fails_write : ℕ → List (List ℕ) → List ℕ → Deed  -- these pieces are written, and a write of the rest fails
-  syncs : Deed  -- it is synced
+  syncs : Deed  -- the file is synced
   fails_sync : Deed  -- a sync fails
   cuts : Deed  -- the power is cut
 
--- pieces are taken one after the other from a byte on
+-- the calls that take these pieces, one after the other, from a byte on
 abbrev pub taken : ℕ → List (List ℕ) → List Call
 taken byte [] = []
 taken byte (piece ∷ pieces) = took byte piece ∷ taken (byte + length piece) pieces
 
--- the calls that do it
+-- the successful calls of a deed
 abbrev pub calls_of : Deed → List Call
 calls_of (writes at pieces) = taken (512 * at) pieces
 calls_of (fails_write at pieces rest) = taken (512 * at) pieces
@@ -36,7 +36,7 @@ calls_of syncs = kept ∷ []
 calls_of fails_sync = []
 calls_of cuts = []
 
--- what it is to a device: a write that fails may have written any of its sectors
+-- what a deed is to a device: a write that fails may have written any of its sectors
 abbrev pub events_by : Deed → List Event
 events_by (writes at pieces) = writes_of at (sectors_of (concat pieces)) (concat pieces)
 events_by (fails_write at pieces rest) = writes_of at (sectors_of (concat pieces ++ rest)) (concat pieces ++ rest)
@@ -44,7 +44,7 @@ events_by syncs = synced ∷ []
 events_by fails_sync = []
 events_by cuts = cut Keep ∷ []
 
--- how many calls of the device fail in it
+-- how many calls of the device fail in a deed
 abbrev pub failures_by : Deed → ℕ
 failures_by (writes at pieces) = 0
 failures_by (fails_write at pieces rest) = 1
@@ -61,7 +61,7 @@ abbrev pub TakesFront : ℕ → Option (List Call) → Option (List Call) → Li
 TakesFront byte old new bytes =
     (pieces : List (List ℕ)) × (rest : List ℕ) × (concat pieces ++ rest ≡ bytes) × Adds old new (taken byte pieces)
 
--- known calls, and no others, did these events and met this number of failures
+-- the known calls are those of some deeds, and these have exactly these events and this number of failures
 abbrev pub Tells : List Event → ℕ → Option (List Call) → Type 0
 Tells events failures None = ⊤
 Tells events failures (Some calls) =

@@ -7,12 +7,12 @@ use Rattle.devices.specs.declared.record.Action.TheVariants.{Wrote, Synced}
 use Rattle.devices.specs.declared.record.RecordEntry.{RecordEntry}
 use Rattle.devices.specs.Past.{Event, wrote, synced, cut}
 
--- what was done
+-- the event of an action
 abbrev pub event_of : Action → Event
 event_of (Wrote sector bytes) = wrote sector bytes
 event_of Synced = synced
 
--- the power cut of a mark, if there is one
+-- the event of a mark: the power cut after an entry, if there was one
 abbrev pub mark_of : Option Outcome → List Event
 mark_of None = []
 mark_of (Some outcome) = cut outcome ∷ []
@@ -41,11 +41,11 @@ entries_of at zero bytes = []
 entries_of at (suc n) bytes = entries_of at n bytes ++ record { action = Wrote (at + n) (image_of bytes n); cut = None }
     ∷ []
 
--- the entry with a mark, unless it has one
+-- the entry with a mark for a power cut, unless it already has one
 abbrev pub mark_after : Outcome → RecordEntry → RecordEntry
 mark_after outcome e = record { action = e.action; cut = Some (unwrap_or e.cut outcome) }
 
--- the entries with a mark on the last of them, unless there is none or it has one
+-- the entries, the last of them with a mark for a power cut
 abbrev pub marked : Outcome → List RecordEntry → List RecordEntry
 marked outcome [] = []
 marked outcome (e ∷ []) = mark_after outcome e ∷ []

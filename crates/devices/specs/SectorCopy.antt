@@ -11,7 +11,7 @@ bytes_of (Some bytes) = bytes
 unfoldable pub bytes_in : List (Option (List ℕ)) → List ℕ
 bytes_in stored = concat (map bytes_of stored)
 
--- 512 bytes
+-- the 512 bytes of a sector
 pub record IsSector (bytes : List ℕ) : Type 0 where
   pub size : length bytes ≡ 512
   pub fits : All (λ b. b < 256) bytes

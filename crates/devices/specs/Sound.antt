@@ -1,4 +1,4 @@
--- What holds of a file and its copy, whatever was done to it.
+-- What always holds of a file and its copy.
 use Rattle.devices.specs.Names.{ℕ, List, length, All, IsWhole, Agrees, image_of}
 use Rattle.std.specs.Prelude.{◌≡◌, ◌<◌, ◌≤◌, ◌*◌}
 use Rattle.devices.specs.Past.{Event, State, at_first, replay}

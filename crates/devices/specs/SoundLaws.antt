@@ -1,4 +1,4 @@
--- What follows for the sectors of a file from what holds of its copy.
+-- What `IsCopy` implies for the sectors of a file.
 use Rattle.devices.specs.Names.{ℕ, Bool, false, List, [], refl, ap, subst, fun_ext, Image, IsWhole, image_of, or_parts}
 use Rattle.std.specs.Prelude.{◌≡◌, ◌==◌, if◌then◌else◌, ◌∷◌}
 use Rattle.std.proofs.Common.{◌∙◌}
@@ -6,7 +6,7 @@ use Rattle.devices.specs.Past.{Event, wrote, synced, cut, State, at_first, after
 use Rattle.devices.specs.PastLaws.{image_whole}
 use Rattle.devices.specs.Sound.{IsCopy, now_of}
 
--- what wasn't written since the last sync or power cut is durable
+-- a sector that wasn't written since the last sync or power cut is durable
 abbrev IsSame : State → Type 0
 IsSame s = (i : ℕ) → s.unsynced i ≡ false → s.present i ≡ s.durable i
 
@@ -28,6 +28,6 @@ module _ (sectors : ℕ) (copy first : List ℕ) (events : List Event) (sound : 
   pub present_whole : IsWhole sectors (now_of first events).present
   present_whole = subst (IsWhole sectors) (fun_ext sound.present_is) (image_whole sectors copy sound.size sound.fits)
 
-  -- what a read gives may be left
+  -- a crash may leave what a read gives
   pub copy_seen_left : MayLeave sectors (now_of first events) (now_of first events).present
   copy_seen_left = record { whole = present_whole; untouched = unwritten_same (image_of first) events }

@@ -15,7 +15,7 @@ events_of Synced = synced ∷ []
 events_of Cut = cut Keep ∷ []
 events_of Failed = []
 
--- the bytes that the file held at first, with those that a step found after them
+-- the bytes that the file held at first; a step `Held` adds what it found
 abbrev pub first_after : List ℕ → Step → List ℕ
 first_after first (Held bytes) = first ++ bytes.now
 first_after first (Wrote at bytes) = first
@@ -23,7 +23,7 @@ first_after first Synced = first
 first_after first Cut = first
 first_after first Failed = first
 
--- how many calls fail in it
+-- how many calls fail in a step
 abbrev pub failures_of : Step → ℕ
 failures_of (Held bytes) = 0
 failures_of (Wrote at bytes) = 0
@@ -31,7 +31,7 @@ failures_of Synced = 0
 failures_of Cut = 0
 failures_of Failed = 1
 
--- a file that holds these bytes, and to which nothing has been done
+-- the history of a file that holds these bytes, and to which nothing has been done
 abbrev pub fresh : List ℕ → History
 fresh bytes = record { first = bytes; events = []; failures = 0 }
 

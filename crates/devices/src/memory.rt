@@ -28,7 +28,7 @@ impl Memory {
     ghost use Rattle.devices.specs.Memory.{memory_disk, memory_past, capacity_left, outcome_of};
 
     /// A device of `sectors` sectors, all zeros and all synced. Its record has space for `room`
-    /// entries, and its power cuts leave `outcome`. The only error is want of memory.
+    /// entries, and its power cuts leave `outcome`. The only error is lack of memory.
     pub fn new(
         alloc: Global,
         sectors: u64,

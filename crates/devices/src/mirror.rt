@@ -10,7 +10,7 @@ use std::alloc::{AllocError, Global};
 #[derive(Drop)]
 pub(crate) struct Mirror {
     pub(crate) sectors: u64,
-    // The bytes that it began with.
+    // The bytes that the device began with.
     first: Vec<u8>,
     // What a read gives.
     present: Vec<u8>,
@@ -83,7 +83,7 @@ impl Mirror {
         note_writes(&mut self.entries, at, from);
     }
 
-    /// Makes all of it durable. The record needs space for an entry.
+    /// Makes all sectors durable. The record needs space for an entry.
     #[tactic(auto, using(crate::proofs::Entries::past_synced))]
     pub fn sync(&mut self)
         requires room { vec_len self.old.entries + 1 ≤ vec_capacity self.old.entries }

@@ -234,8 +234,8 @@ impl<F: Openable> CopiedFile<HostFile<F>> {
         open_locked(rt, path, Access::Write, Lock::Exclusive)
     }
 
-    /// As `open`, of a file that needn't be writable: each write to the device fails. Others that were opened so may
-    /// be open in the file too.
+    /// As `open`, but the file needn't be writable: each write to the device fails. Other devices that were opened in
+    /// this way may be open in the file too.
     pub fn open_to_read(rt: &HostRuntime, path: &str) -> Result<CopiedFile<HostFile<F>>, FileFault>
         ensures opening { IfOk result (λ d. IfSome (F.opening (raw_file d))
             (λ calls. IsOpened path.now Access.Read Lock.Shared calls (file_disk d))) }

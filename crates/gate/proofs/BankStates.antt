@@ -1,4 +1,4 @@
--- What is counted, as a process that returns becomes available, after the reply, and after an invocation with no bank's order.
+-- The banks' state agrees with the objects while a process returns, after the reply, and after an invocation with no bank's order.
 use Rattle.gate.proofs.Names.{nat_tests, ℕ, Bool, true, false, List, Result, Ok, Err, drop, length, refl, sym, ap, subst, arith, IsTrue, OnOk, OnErr, slice_index}
 use Rattle.gate.proofs.Names.{All, Bank, Invocation, Operation, Call, Return, Send, Geometry, Object, Arguments, deliver, AreCurrent, AreKeepable}
 use Rattle.gate.proofs.Names.{IsSoundFrames, is_running, IsNoBankOrder, IsSound, NamesItsKind, Fits, World, annex_at, is_process, is_running_process}

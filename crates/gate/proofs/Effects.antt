@@ -1,4 +1,4 @@
--- The effect and the outcome of an invocation, through a gate too, from what each part of it reported. What follows of the numbers listed.
+-- The effect and outcome of an invocation, through a gate too, from what its parts report. The numbers that are listed for it.
 use Rattle.gate.proofs.Names.{nat_tests, ℕ, zero, suc, Bool, List, Option, None, Some, drop, length, refl, sym, ap, subst, arith, IsTrue, slice_index, All}
 use Rattle.gate.proofs.Names.{Capability, Start, Resume, Invocation, Operation, Call, Return, Send, Frame, Geometry, Object, Available, Arguments, ResultCode}
 use Rattle.gate.proofs.Names.{objects_of, Effect, can_start, invoke, on_kernel_object, ordered, through_gate, AreCurrent, AreKeepable, IsSoundFrames, world_at}

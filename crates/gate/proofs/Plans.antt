@@ -1,5 +1,4 @@
--- What stays of processes while one of them changes. Orders that look only at the words of their arguments, and orders carried out as
--- planned.
+-- What stays of processes while one changes. Orders that look only at the words of their arguments; orders carried out as planned.
 use Rattle.gate.proofs.Names.{nat_tests, ℕ, List, [], refl, sym, ap, IsTrue, slice_index_or, get_or-map, map-set_same, Capability, Invocation, Operation}
 use Rattle.gate.proofs.Names.{Content, Object, State, after_gate, free, is_root, map_content, root_in, with_slot_in, with_word_in, with_root_word, with_space}
 use Rattle.gate.proofs.Names.{consume, resumes, void_where, without, annex_at, content_at, is_process, root_at, with_content, with_root, with_slot, with_state}

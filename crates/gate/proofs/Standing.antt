@@ -1,4 +1,4 @@
--- What sound frames stand for, which numbers have objects, and which capabilities may be kept. Counts of allocations through an invocation.
+-- The objects of sound frames: which numbers have some, and which capabilities may be kept. Allocation counts after an invocation.
 use Rattle.gate.proofs.Names.{nat_tests, ℕ, true, false, Some, List, [], length, refl, ap, subst, arith, IsTrue, All, Capability, Resume, ObjectHeader, Object}
 use Rattle.gate.proofs.Names.{named, is_annex, is_free, NamesItsKind, content_at, is_process, is_running_process, Parts, frames_of, objects_in, annex_used}
 use Rattle.gate.proofs.Names.{bank_used, known_used, node_used, page_used, root_used, sym, get_or-map, Cap, Frame, Geometry, Content, blank_frame, conveyed}

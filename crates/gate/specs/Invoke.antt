@@ -8,7 +8,7 @@ use Rattle.std.specs.Prelude.{◌≡◌, ◌↔◌, ◌+◌, ◌^◌, ◌<◌, �
 use Rattle.model.specs.declared.answer.Refusal.TheVariants as refusal
 use Rattle.gate.specs.declared.gates.Gate.{Gate}
 
--- the objects after an invocation, and the numbers that it touched, which half of the log holds
+-- the objects after an invocation, and the touched numbers, all of which half of the log holds
 abbrev pub Invokes : Geometry → Invocation → List Object → List Bool → List Object → List Bool → Type 0
 Invokes g i before touched after touched_after =
     (effect : Effect) × (invoke g before i ≡ Some effect) × (after ≡ effect.objects)
@@ -25,12 +25,12 @@ IsKernelObject (Start p key) = ⊥
 IsKernelObject (Resume p) = ⊥
 IsKernelObject _ = Unit {0}
 
--- the numbers that an invocation through the gate of another process writes: that one, its annex, and who calls or
+-- the numbers that an invocation through the gate of process q writes: q, its annex, and the invoker if it calls or
 -- returns
 abbrev pub written_through : Operation → ℕ → ℕ → ℕ → List ℕ
 written_through operation process q annex = q ∷ annex ∷ (elim operation [ Send ↦ [] | _ ↦ process ∷ [] ])
 
--- what was read of an invocation
+-- what was read of an invocation and its invoker
 pub record IsRequested (os : List Object) (i : Invocation) (caller : Caller) : Type 0 where
   pub process : caller.process ≡ i.process
   pub operation : caller.operation ≡ i.operation
@@ -47,7 +47,7 @@ abbrev pub KeepsSoundFrames : Parts → Parts → Type 0
 KeepsSoundFrames old new = (age : ℕ) → age < 2 ^ 62 → IsSoundFrames old.geometry age (frames_of old) →
     IsSoundFrames old.geometry (age + 1) (frames_of new)
 
--- a refusal that the gate may give; the others of an invocation come before it
+-- a refusal that the gate may give; the other refusals of an invocation come before these
 abbrev pub IsOfGate : Refusal → Type 0
 IsOfGate refusal.NotRunning = Unit {0}
 IsOfGate refusal.Stalled = Unit {0}
@@ -55,7 +55,7 @@ IsOfGate refusal.LogFull = Unit {0}
 IsOfGate refusal.Fault = Unit {0}
 IsOfGate _ = ⊥
 
--- whether the process runs, where a result says so
+-- whether the process runs, if the result says so
 abbrev pub TellsState : List Object → Invocation → Result (Option ResultCode) Refusal → Type 0
 TellsState os i (Ok code) = is_running_process os i.process ≡ true
 TellsState os i (Err refusal.NotRunning) = is_running_process os i.process ≡ false
@@ -85,11 +85,11 @@ pub record Invoked {S : Type 0} (parts : S → Parts) (Continues : S → S → T
   pub later : (parts old).failures ≤ (parts new).failures
   pub continues : Continues old new
 
--- the capabilities that a gate receives of those that are sent: with a call the last is the right to answer
+-- the capabilities that a gate receives if these are sent: with a call, the last one is the right to resume the caller
 abbrev pub received : Invocation → List Capability → List Capability
 received i sent = elim i.operation [ Call ↦ slice_set sent 3 (Resume i.process) | _ ↦ sent ]
 
--- the capability that a gate is
+-- the capability to a gate
 abbrev pub gate_capability : Gate → Capability
 gate_capability gate = if gate.is_resume then Resume gate.process else Start gate.process gate.key
 

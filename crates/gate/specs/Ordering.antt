@@ -20,8 +20,8 @@ abbrev pub ReadsOnlyWords : Capability → ℕ → Type 0
 ReadsOnlyWords c w = (g : Geometry) (us : List Object) (a b : Arguments) → a.first ≡ b.first → a.second ≡ b.second →
     order g us c w a ≡ order g us c w b
 
--- Arguments with which the order of an invocation does what it does with those of the invocation: the same words, and
--- what is sent, or void.
+-- Arguments with which an invocation's order does the same as with the invocation's own: the same words, and the
+-- capability that is sent, or void.
 pub record AreEnough (os : List Object) (i : Invocation) (c : Capability) (args : Arguments) : Type 0 where
   pub first : args.first ≡ (arguments_of os i).first
   pub second : args.second ≡ (arguments_of os i).second
@@ -42,7 +42,7 @@ answered operation p os reply = elim operation
 abbrev pub ordered_by : List Object → Caller → List ℕ → OrderPlan → List Object
 ordered_by os caller list plan = changed (state_before caller.operation os caller.process) list plan.change
 
--- and after the reply
+-- the objects after a caller's order, and the reply to it
 abbrev pub finished : List Object → Caller → List ℕ → OrderPlan → List Object
 finished os caller list plan = answered caller.operation caller.process (ordered_by os caller list plan) plan.reply
 

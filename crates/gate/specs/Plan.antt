@@ -34,11 +34,11 @@ reduction c w = elim (reduced c w) [
   | None ↦ record { reply = reply_of_code code.BadIndex; change = change.Nothing }
 ]
 
--- each process has the annex that it has in other objects
+-- each process has the same annex in us as in os
 abbrev pub HaveAnnexesOf : List Object → List Object → Type 0
 HaveAnnexesOf os us = (p : ℕ) → annex_at us p ≡ annex_at os p
 
--- the node and the process that a capability of such a kind names
+-- the node that a node capability names; the process that a process capability names
 abbrev pub node_named : Capability → Option ℕ
 node_named (Node n a) = Some n
 node_named _ = None
@@ -47,8 +47,8 @@ abbrev pub process_named : Capability → Option ℕ
 process_named (Process p) = Some p
 process_named _ = None
 
--- a change that an order on a capability may make: of the object that it names, or of the annex of that process,
--- within its bounds, with what was sent
+-- a change that an order on a capability may make: of the object that the capability names, or of its annex if it is a
+-- process; within bounds, and with the capability that was sent
 abbrev pub IsFor : List Object → Capability → Arguments → Change → Type 0
 IsFor os c args change.Nothing = Unit {0}
 IsFor os c args (change.Word page index word) = (index < 512) × (named c ≡ Some page)
@@ -79,7 +79,7 @@ IsWithinObject (change.RootWord process index word) = index < 4
 IsWithinObject (change.Bank made) = ⊥
 IsWithinObject _ = Unit {0}
 
--- a change of a root is one of a process
+-- if a change is of a root, its number is that of a process
 abbrev pub IsOfProcess : List Object → Change → Type 0
 IsOfProcess os (change.RootWord process index word) = IsTrue (is_process os process)
 IsOfProcess os (change.SetState process state) = IsTrue (is_process os process)
@@ -90,7 +90,7 @@ IsOfProcess os _ = Unit {0}
 abbrev pub FitsCap : Geometry → Capability → Type 0
 FitsCap g c = IsKeptCap g 0 (record { what = c; count = 0 })
 
--- a change puts only what may be kept where it may stand
+-- a change puts a capability only where it may be, and only one that can be kept
 abbrev pub MayHold : Geometry → List Object → Change → Type 0
 MayHold g os (change.Slot node slot held) = FitsCap g held × IsTrue (is_node (content_at os node))
 MayHold g os (change.Register process annex register held) = FitsCap g held
@@ -109,7 +109,7 @@ abbrev pub MayChange : Geometry → List Object → List ℕ → Change → Type
 MayChange g os list (change.Bank made) = MayMake g os list made
 MayChange g os list c = MayEdit g os list c
 
--- the numbers that it needs fetched
+-- the numbers that must be fetched for a change
 abbrev pub fetched_of : Change → List ℕ
 fetched_of (change.Bank made) = numbers_of made
 fetched_of c = written_of c

@@ -28,7 +28,7 @@ pub struct Gate {
     pub is_resume: bool,
 }
 
-/// The gate that a capability is, if it is one.
+/// The gate of a start or resume capability; `None` for any other capability.
 pub fn gate_of(capability: Capability) -> Option<Gate>
     ensures gate { IfSome result (λ gate. capability ≡ gate_capability gate) }
     ensures key { IfSome result (λ gate. gate.is_resume ≡ true → gate.key ≡ 0) }

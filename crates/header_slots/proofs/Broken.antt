@@ -1,4 +1,4 @@
--- A header that isn't sound any more.
+-- A header that becomes unsound.
 use Rattle.std.proofs.Common.{◌≡◌, ℕ, ◌+◌, ◌-◌, ◌%◌, ◌<◌, ◌⊎◌, None, Some, ap, subst, sym, ◌∙◌, inl, inr, arith}
 use Rattle.std.proofs.lemmas.Bool.{cases_eq}
 use Rattle.header_slots.specs.Laws.{BrokenHeadersAreSeen}

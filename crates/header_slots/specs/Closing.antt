@@ -3,13 +3,13 @@ use Rattle.std.specs.Prelude.{◌≡◌, ◌⊎◌, ℕ, ◌+◌, ◌%◌, ◌<�
 use Rattle.header_slots.specs.Publish.{OthersStay}
 use Rattle.header_slots.specs.Slots.{Counts, Opens, Slots}
 
--- one gate is being written, and may have any number or none
+-- one gate is being written: it may have any number, or none
 pub record TearsGateOf (slot : ℕ) (old new : Slots) : Type 0 where
   pub others : OthersStay slot old new
   pub header : (new slot).header ≡ (old slot).header
   pub bytes : (new slot).bytes ≡ (old slot).bytes
 
--- it is closed, durably
+-- the gate of one slot is closed, durably
 pub record ClosesGateOf (slot : ℕ) (old new : Slots) : Type 0 where
   pub torn : TearsGateOf slot old new
   pub closed : (new slot).gate ≡ None
@@ -21,13 +21,13 @@ LeftByClosing i j k old new =
     ⊎ ((one : Slots) × ClosesGateOf i old one × TearsGateOf j one new)
     ⊎ ((one : Slots) × (two : Slots) × ClosesGateOf i old one × ClosesGateOf j one two × TearsGateOf k two new)
 
--- header s is committed. If the header in the third slot counts and is older, that slot is the first, then s - 1, s
+-- header s is committed. If the third slot's header counts and is older, its gate is closed first, then s - 1, then s
 abbrev pub OldThirdFirst : Type 0
 OldThirdFirst = (old new : Slots) (s n t : ℕ) (a b : List ℕ) → Opens old s a → Counts old n →
     n % 3 ≡ (s + 1) % 3 → n < s → LeftByClosing ((s + 1) % 3) ((s + 2) % 3) (s % 3) old new →
     Opens new t b → (t ≡ s) × (b ≡ a)
 
--- if it doesn't count, or is newer, s - 1 is the first, then s, the third
+-- if it doesn't count, or is newer, the gate of s - 1 is closed first, then that of s, then that of the third slot
 abbrev pub OtherThirdLast : Type 0
 OtherThirdLast = (old new : Slots) (s t : ℕ) (a b : List ℕ) → Opens old s a →
     ((n : ℕ) → Counts old n → n % 3 ≡ (s + 1) % 3 → s < n) →

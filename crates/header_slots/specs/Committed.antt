@@ -19,7 +19,7 @@ pub record IsPair (slots : Slots) (s : ℕ) : Type 0 where
   pub counts : Counts slots s
   pub neighbour : Counts slots (s - 1)
 
--- no pair counts, or a gate waits for the header after the greatest
+-- why no header is committed: no pair counts, or a gate waits for the header after the greatest pair
 abbrev pub IsRefused : Slots → NotCommitted → Type 0
 IsRefused slots NoPair = (s : ℕ) → IsPair slots s → ⊥
 IsRefused slots NextGate = (s : ℕ) × IsGreatestPair slots s × ((slots ((s + 1) % 3)).gate ≡ Some (s + 1))

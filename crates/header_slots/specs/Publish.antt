@@ -2,7 +2,7 @@
 use Rattle.std.specs.Prelude.{◌≡◌, ◌⊎◌, ℕ, ◌+◌, ◌%◌, List, [], ◌∷◌, Some}
 use Rattle.header_slots.specs.Slots.{IsCommitted, Slots}
 
--- all slots are as before but for one
+-- all slots except one are unchanged
 abbrev pub OthersStay : ℕ → Slots → Slots → Type 0
 OthersStay slot old new = (k : ℕ) → (k ≡ slot → ⊥) → new k ≡ old k
 
@@ -17,15 +17,15 @@ pub record TearsGate (s : ℕ) (row : List ℕ) (old new : Slots) : Type 0 where
   pub header : (new ((s + 1) % 3)).header ≡ Some (s + 1)
   pub bytes : (new ((s + 1) % 3)).bytes ≡ row
 
--- both are durable
+-- header s + 1 and its gate are durable
 pub record IsPublished (s : ℕ) (row : List ℕ) (old new : Slots) : Type 0 where
   pub others : OthersStay ((s + 1) % 3) old new
   pub header : (new ((s + 1) % 3)).header ≡ Some (s + 1)
   pub bytes : (new ((s + 1) % 3)).bytes ≡ row
   pub gate : (new ((s + 1) % 3)).gate ≡ Some (s + 1)
 
--- publishes one after another, each whole or cut off by a crash, and the headers of those that came to their gates, the
--- last first. Each follows the header that is committed then
+-- publishes one after another, each whole or cut off by a crash; each follows the header that is committed then.
+-- The list has the headers whose gates were written, whole or torn, the last first
 pub data Runs : Slots → List (List ℕ) → Slots → Type 0 where
   none : {slots : Slots} → Runs slots [] slots
   cut_at_header : {first old new : Slots} {published : List (List ℕ)} {s : ℕ} →
@@ -33,7 +33,7 @@ pub data Runs : Slots → List (List ℕ) → Slots → Type 0 where
   came_to_gate : {first old new : Slots} {published : List (List ℕ)} {s : ℕ} {bytes : List ℕ} →
       Runs first published old → IsCommitted old s → TearsGate s bytes old new → Runs first (bytes ∷ published) new
 
--- a header of some headers
+-- x is one of these headers
 abbrev pub IsOneOf : List ℕ → List (List ℕ) → Type 0
 IsOneOf x [] = ⊥
 IsOneOf x (y ∷ ys) = (x ≡ y) ⊎ IsOneOf x ys

@@ -24,7 +24,7 @@ pub record IsGreatestPair (slots : Slots) (s : ℕ) : Type 0 where
   pub neighbour : Counts slots (s - 1)
   pub greatest : (n : ℕ) → Counts slots n → Counts slots (n + 1) → n + 1 ≤ s
 
--- header s is committed: it is the greater of that pair, and no gate waits for header s + 1
+-- header s is committed: it is the greater of the greatest pair, and no gate waits for header s + 1
 pub record IsCommitted (slots : Slots) (s : ℕ) : Type 0 where
   pub pair : IsGreatestPair slots s
   pub next : (slots ((s + 1) % 3)).gate ≡ Some (s + 1) → ⊥

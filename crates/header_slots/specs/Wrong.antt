@@ -8,22 +8,22 @@ abbrev pub OneSyncIsTooFew : Type 0
 OneSyncIsTooFew = ((old new : Slots) (s : ℕ) (a b : List ℕ) → Opens old s a → OthersStay ((s + 1) % 3) old new →
     Opens new s a ⊎ Opens new (s + 1) b) → ⊥
 
--- without a neighbour: the header is committed that counts and has the greatest number
+-- a rule without neighbours: the committed header is the one that counts and has the greatest number
 pub record IsGreatestAlone (slots : Slots) (s : ℕ) : Type 0 where
   pub counts : Counts slots s
   pub greatest : (n : ℕ) → Counts slots n → n ≤ s
   pub next : (slots ((s + 1) % 3)).gate ≡ Some (s + 1) → ⊥
 
--- then a torn header commits
+-- by that rule a torn header may become committed
 abbrev pub NeighboursAreNeeded : Type 0
 NeighboursAreNeeded = ((old new : Slots) (s : ℕ) → IsGreatestAlone old s → TearsHeader s old new →
     IsGreatestAlone new s) → ⊥
 
--- without a look at the next gate a torn header commits
+-- by a rule that ignores the next gate, a torn header may become committed
 abbrev pub NextGateIsNeeded : Type 0
 NextGateIsNeeded = ((old new : Slots) (s : ℕ) → IsGreatestPair old s → TearsHeader s old new → IsGreatestPair new s) → ⊥
 
--- and a broken header leaves the one before it committed
+-- and if the committed header breaks, the one before it becomes committed
 abbrev pub NextGateShowsDamage : Type 0
 NextGateShowsDamage = ((old new : Slots) (s t : ℕ) → IsGreatestPair old s → OthersStay (s % 3) old new →
     (new (s % 3)).gate ≡ (old (s % 3)).gate → (new (s % 3)).header ≡ None → IsGreatestPair new t → t ≡ s) → ⊥

@@ -1,4 +1,4 @@
--- What is laid out one after the other is a plan.
+-- Parts that are laid out one after the other make a plan.
 use Rattle.home_ranges.proofs.Names.{nat_tests, ℕ, zero, suc, Bool, List, [], length, map, refl, sym, subst, arith, lt-ltb, le-ltb, All, Geometry, Extent}
 use Rattle.home_ranges.proofs.Names.{Version, One, Two, Cover, IsPlan, IsWithin, AreApart, extent_at, extents, half_extent, nodes_length, range_extent}
 use Rattle.home_ranges.proofs.Names.{NumberRange, MayBeLaid, behind, half_length, laid, placed, plan_from, sectors_of, cover_within, IfSome, IfNone, Plan}

@@ -1,34 +1,34 @@
--- What the sectors of a home hold, and who has it.
+-- What the sectors of a home hold, and which objects have it.
 use Rattle.home_ranges.specs.Names.{ℕ, List, nat_lt, Geometry, Version, Image, home_place, shape_of, bytes_at, shape_bytes, Plan}
 use Rattle.home_ranges.specs.Names.{IsBlankFrom, IsObject, row, shape_end}
 use Rattle.std.specs.Prelude.{◌≡◌, ◌+◌, ◌<◌, ◌≤◌, if◌then◌else◌}
 
--- the bytes of a home are the frames of all that have it
+-- in an image, each object with the home of `number` has the frame there that these bytes have
 abbrev pub HoldsHome : Plan → ℕ → List ℕ → Image → Type 0
 HoldsHome p number bytes image = (n : ℕ) → IsObject p.geometry n → home_place p n ≡ home_place p number →
     bytes_at image (home_place p n) p n ≡ shape_bytes (shape_of p n) bytes
 
--- the `n` numbers from `number` on have its home, and none after them has it
+-- the `n` numbers from `number` on have the home of `number`, and no number after them has it
 pub record HaveHome (p : Plan) (number n : ℕ) : Type 0 where
   pub object : (k : ℕ) → k < n → IsObject p.geometry (number + k)
   pub same : (k : ℕ) → k < n → home_place p (number + k) ≡ home_place p number
   pub all : (a : ℕ) → IsObject p.geometry a → number ≤ a → home_place p a ≡ home_place p number → a < number + n
 
--- a number is the first that has the home of an object
+-- `first` is the least number with the home of `number`
 pub record IsFirstOf (p : Plan) (number first : ℕ) : Type 0 where
   pub below : first ≤ number
   pub home : home_place p first ≡ home_place p number
   pub least : (a : ℕ) → IsObject p.geometry a → home_place p a ≡ home_place p number → first ≤ a
 
--- how many frames of the kind of an object's frame a block has
+-- how many frames the block with an object's frame has
 abbrev pub frames_in_block : Version → Geometry → ℕ → ℕ
 frames_in_block v g number = if nat_lt number g.nodes then (row v).cluster_nodes else 1
 
--- a byte of a block lies after the frames of all that have the home of an object
+-- byte `at` of a block lies after the frames of all objects with the home of `number`
 abbrev pub IsBehindAll : Plan → ℕ → ℕ → Type 0
 IsBehindAll p number at = (n : ℕ) → IsObject p.geometry n → home_place p n ≡ home_place p number → shape_end
     (shape_of p n) ≤ at
 
--- after these frames a block has zeros
+-- after these frames, the block has only zeros
 abbrev pub EndsInZeros : Plan → ℕ → List ℕ → Type 0
 EndsInZeros p number bytes = (at : ℕ) → IsBehindAll p number at → IsBlankFrom at bytes

@@ -1,26 +1,26 @@
--- Where the parts of an image lie whose ranges follow one another.
+-- Where the parts of an image lie if its home ranges follow one another.
 use Rattle.home_ranges.specs.Names.{ℕ, List, [], length, map, Geometry, HomeRange, Version, Plan, plan_of, IsGeometry}
 use Rattle.home_ranges.specs.Names.{Cover, half_extent, range_extent}
 use Rattle.std.specs.Prelude.{◌+◌, ◌≤◌, ◌∷◌}
 use Rattle.home_ranges.specs.declared.number_range.NumberRange.{NumberRange}
 
--- a range with its frames from a sector on
+-- the range r, with its frames from sector `at` on
 abbrev pub placed : ℕ → NumberRange → HomeRange
 placed at r = record { first = r.first; count = r.count; sector = at }
 
--- how many sectors its frames take, wherever they lie, and how many a half of the log
+-- how many sectors the frames of a range take, wherever they lie; how many a half of the log takes
 abbrev pub sectors_of : Version → Geometry → NumberRange → ℕ
 sectors_of v g r = (range_extent v g (placed 0 r)).length
 
 abbrev pub half_length : Geometry → ℕ
 half_length g = (half_extent g 0).length
 
--- ranges whose frames lie one after the other from a sector on
+-- ranges whose frames lie one after the other, from sector `at` on
 unfoldable pub laid : Version → Geometry → ℕ → List NumberRange → List HomeRange
 laid v g at [] = []
 laid v g at (r ∷ rs) = placed at r ∷ laid v g (at + sectors_of v g r) rs
 
--- the sector after them
+-- the sector after the last of these ranges
 unfoldable pub behind : Version → Geometry → ℕ → List NumberRange → ℕ
 behind v g at [] = at
 behind v g at (r ∷ rs) = behind v g (at + sectors_of v g r) rs
@@ -34,11 +34,11 @@ plan_from v g rs = plan_of v g (laid v g 5 rs) (behind v g 5 rs) (behind v g 5 r
 abbrev pub numbers_of : HomeRange → NumberRange
 numbers_of r = record { first = r.first; count = r.count }
 
--- the plan of a version with the objects and the ranges of another
+-- the plan in version v with the objects and ranges of p
 abbrev pub laid_again : Version → Plan → Plan
 laid_again v p = plan_from v p.geometry (map numbers_of p.ranges)
 
--- what the format requires of the numbers, whatever the version and wherever the ranges lie
+-- what the format requires of geometry and ranges, whatever the version and wherever the ranges lie
 pub record MayBeLaid (g : Geometry) (rs : List NumberRange) : Type 0 where
   pub geometry : IsGeometry g
   pub some : 1 ≤ length rs

@@ -1,5 +1,5 @@
--- Home places lie apart from one another and from the log. An image of version 2 takes at most 8 sectors a range more
--- than one of version 1.
+-- Homes lie apart from one another and from the log. In version 2 an image takes at most 8 sectors per range more than
+-- in version 1.
 use Rattle.home_ranges.specs.Names.{ℕ, List, None, row, Image, Elsewhere, Entry, Extent, One, home_place, place_length, Plan}
 use Rattle.home_ranges.specs.Names.{IsPlan, IsWithin, IsApart, half_extent, frame_slot_in, bytes_at, frame_in}
 use Rattle.home_ranges.specs.Names.{half_sector, IsObject, length, Two, Geometry}
@@ -11,16 +11,16 @@ use Rattle.home_ranges.specs.declared.number_range.NumberRange.{NumberRange}
 abbrev pub home_extent : Plan → ℕ → Extent
 home_extent p number = record { sector = home_place p number; length = place_length p number }
 
--- they lie after the headers and before the end
+-- homes lie after the header slots and before the end
 abbrev pub PlacesAreWithin : Type 0
 PlacesAreWithin = (p : Plan) (a : ℕ) → IsPlan p → IsObject p.geometry a → IsWithin p.total (home_extent p a)
 
--- no sector is one of two homes
+-- no sector is in two homes
 abbrev pub PlacesAreApart : Type 0
 PlacesAreApart = (p : Plan) (a b : ℕ) → IsPlan p → IsObject p.geometry a → IsObject p.geometry b →
     (home_place p a ≡ home_place p b → ⊥) → IsApart (home_extent p a) (home_extent p b)
 
--- where a cluster has one node, no two numbers have one home
+-- if a cluster has one node, the homes of different numbers are apart
 abbrev pub NumbersAreApart : Type 0
 NumbersAreApart = (p : Plan) (a b : ℕ) → IsPlan p → (row p.version).cluster_nodes ≡ 1 → IsObject p.geometry a → IsObject p.geometry b →
     (a ≡ b → ⊥) → IsApart (home_extent p a) (home_extent p b)
@@ -30,17 +30,17 @@ abbrev pub PlacesSpareLog : Type 0
 PlacesSpareLog = (p : Plan) (a generation : ℕ) → IsPlan p → IsObject p.geometry a →
     IsApart (home_extent p a) (half_extent p.geometry (half_sector p generation))
 
--- what is changed apart from the home of a number leaves its frame
+-- a change outside a number's home leaves the frame there
 abbrev pub FramesStay : Type 0
 FramesStay = (old new : Image) (p : Plan) (a at n : ℕ) → IsApart (home_extent p a) (record { sector = at; length = n })
     → Elsewhere at n old new → bytes_at new (home_place p a) p a ≡ bytes_at old (home_place p a) p a
 
--- the frame of a number that has no slot of the log, nor has any that shares its home, is the one at home
+-- the frame of a number is the one at home, if no number with this home has a slot of the log
 abbrev pub FramesAreHome : Type 0
 FramesAreHome = (image : Image) (p : Plan) (generation : ℕ) (es : List Entry) (a : ℕ) → frame_slot_in p es a ≡ None →
     frame_in image p generation es a ≡ bytes_at image (home_place p a) p a
 
--- by version 2 an image takes at most 8 sectors a range more than by version 1
+-- in version 2 an image takes at most 8 sectors per range more than in version 1
 abbrev pub SecondTakesFewMore : Type 0
 SecondTakesFewMore = (g : Geometry) (rs : List NumberRange) → (plan_from Two g rs).total ≤ (plan_from One g rs).total +
     8 * length rs

@@ -1,4 +1,4 @@
--- What is refused whatever the device, and with which fault.
+-- Descriptions that are refused whatever the device, and with which fault.
 use Rattle.image_builder.proofs.Names.{ℕ, List, ap, refl, subst, sym, arith, IfErr, OnOk, Result, Ok, Err, Members, Disk, Cap, Frame, ObjectHeader, Content}
 use Rattle.image_builder.proofs.Names.{frames_in, sound_banked, sound_named, BadImage, BadCapability, BadProcess, BadBank, AreBanked, AreNamed}
 use Rattle.image_builder.proofs.Names.{AreWholeProcesses, IsInconsistent, Description, IsDescription, HasFields, HasNumbers, IsDescribed, BuildFault, Shape}

@@ -1,4 +1,4 @@
--- What a device saves, written to another.
+-- The saved state of a device, written to another.
 use Rattle.image_builder.proofs.Names.{ℕ, List, length, ap, inl, inr, refl, subst, sym, arith, Result, Ok, Err, IfErr, IsErrOf, OnOk, Frame, Disk, Image}
 use Rattle.image_builder.proofs.Names.{Agrees, Elsewhere, LeavesOnly, agrees_is, OnlyNow, leaves_weaker, started, Entry, IsDirectory, Encodes, Plan, OpenFault}
 use Rattle.image_builder.proofs.Names.{OnlyReads, kept_of, new_plan, IsLeftWriting, state_of, kept_holds_the_same, none_is_held, IsSoundSaved, NewLayout}

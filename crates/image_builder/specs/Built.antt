@@ -17,17 +17,17 @@ pub record Builds (d : Description) (old new : Disk) : Type 0 where
   pub zeros : (c : Image) → new.may_leave c → EndInZeros (plan_for d) 0 [] c
   pub elsewhere : Elsewhere 0 (plan_for d).total old.seen new.seen
 
--- frames are those described, which stand for a sound world, saved as `build` does
+-- what `build` saves: the described frames, which stand for a sound world
 abbrev pub IsSavedOf : Description → SavedFrames → Type 0
 IsSavedOf d saved = (frames : List Frame) × IsDescribed d frames × IsSoundFrames d.geometry d.age frames ×
     (saved ≡ first_saved d.geometry d.age frames)
 
--- so is that of a table
+-- an image of the description that a table says is built
 abbrev pub BuildsFrom : Members → Disk → Disk → Type 0
 BuildsFrom ms old new = (d : Description) × IsDescription ms d × Builds d old new
 
--- What a crash leaves while an image of a table is built: what saved frames it holds, if any, it could have left
--- before, or they are those described.
+-- What a crash leaves while an image of a table is built: the saved frames that it holds, if any, are some that a crash
+-- could have left at first, or the described ones.
 abbrev pub IsLeftOf : Members → Disk → Image → Type 0
 IsLeftOf ms old c = (saved : SavedFrames) → Holds old.sectors c saved →
     ((before : Image) × old.may_leave before × Holds old.sectors before saved) ⊎

@@ -1,4 +1,4 @@
--- What `upgrade` writes in a new layout, and why it doesn't.
+-- What `upgrade` writes in a new layout, and why it refuses.
 use Rattle.image_builder.specs.Names.{ℕ, List, [], Disk, Image, Elsewhere, LeavesOnly, Entry, Plan, Version, Encodes}
 use Rattle.image_builder.specs.Names.{SavedState, OnlyReads, Holds, SavedFrames, kept_of, frames_of, Parts}
 use Rattle.image_builder.specs.Names.{DurableState, saved_by, laid_again, IsLeftWriting, IsSoundSaved, OpenFault}
@@ -10,12 +10,12 @@ use Rattle.image_builder.specs.declared.new_layout.NewLayout.TheVariants as layo
 use Rattle.image_builder.specs.declared.upgrade_fault.UpgradeFault.{UpgradeFault}
 use Rattle.image_builder.specs.declared.upgrade_fault.UpgradeFault.TheVariants as fault
 
--- entries of the same objects, whose slots rise by one from a number on
+-- entries of the same objects, with slots in order from `at` on
 unfoldable pub numbered : ℕ → List Entry → List Entry
 numbered at [] = []
 numbered at (e ∷ es) = record { object = e.object; slot = at } ∷ numbered (at + 1) es
 
--- the version by which a new image is written, where the old one has this plan
+-- the version of the new image, given the plan of the old one
 abbrev pub version_in : NewLayout → Plan → Version
 version_in (layout.Of version) p = version
 version_in layout.Kept p = p.version
@@ -33,8 +33,8 @@ upgraded l s = record {
   frames = s.frames;
 }
 
--- what an old device saves, which stands for a sound world, is written over what a new one held, and zeros after the
--- frames of each cluster; a crash leaves the same
+-- the saved state of an old device, which stands for a sound world, is written to a new device in a new layout, with
+-- zeros after the frames of each cluster; a crash leaves the same
 pub record Upgrades (l : NewLayout) (old before new : Disk) : Type 0 where
   pub state : SavedState
   pub was : Encodes old.seen old.sectors state
@@ -45,7 +45,7 @@ pub record Upgrades (l : NewLayout) (old before new : Disk) : Type 0 where
       EndInZeros (new_plan l state.plan) state.header.generation (numbered 0 state.directory) c
   pub elsewhere : Elsewhere 0 (new_plan l state.plan).total before.seen new.seen
 
--- a saved state was written over what a new device held, in a new layout; or why not
+-- a saved state was written to a new device in a new layout; or the fault says why not
 pub record WritesUpgraded {E : Type 0} (l : NewLayout) (disk : E → Disk) (s : SavedState) (old new : E)
     (result : Result ℕ UpgradeFault) : Type 0 where
   pub total : IfOk result (λ total. total ≡ (new_plan l s.plan).total)
@@ -62,12 +62,12 @@ pub record WritesUpgraded {E : Type 0} (l : NewLayout) (disk : E → Disk) (s : 
   pub later : (disk old).failures ≤ (disk new).failures
   pub cause : IsErrOf result fault.Failed ↔ ((disk old).failures < (disk new).failures)
 
--- the old device wasn't opened, as by a kernel
+-- why the old device isn't opened; a kernel would refuse it for the same reason
 abbrev pub IsNotOpened : {D : Type 0} → (D → Disk) → D → OpenFault → Type 0
 IsNotOpened disk old opening.NoMemory = ⊥
 IsNotOpened {D} disk old why = (back : D) × RefusesToOpen disk old back why
 
--- an old device saves what stands for a sound world, and needs more sectors in the new layout
+-- an old device's saved state stands for a sound world, and needs more than `sectors` sectors in the new layout
 abbrev pub NeedsMore : NewLayout → Disk → ℕ → Type 0
 NeedsMore l old sectors =
     (state : SavedState) × Encodes old.seen old.sectors state × IsSoundSaved state.plan.geometry (kept_of state)
@@ -86,7 +86,7 @@ IsRefusedAsOld disk old (fault.Old why) = IsNotOpened disk old why
 IsRefusedAsOld disk old fault.NoMemory = Unit {0}
 IsRefusedAsOld disk old _ = ⊥
 
--- a store has in memory all that its device saves, and that stands for a sound world
+-- the present frames of a store are those that its device saves, and stand for a sound world
 pub record IsWhole {D : Type 0} (disk : D → Disk) (parts : Parts) (s : DurableState D) : Type 0 where
   pub saves : Encodes (disk s.beneath).seen (disk s.beneath).sectors (saved_by disk s)
   pub sound : IsSoundSaved (saved_by disk s).plan.geometry (kept_of (saved_by disk s))
@@ -98,20 +98,20 @@ pub record IsOpenedFrom {D : Type 0} (disk : D → Disk) (old : D) (s : DurableS
   pub only_reads : OnlyReads (disk old) (disk s.beneath)
   pub failures : (disk s.beneath).failures ≡ (disk old).failures
 
--- What a crash leaves while an image is upgraded: what saved frames it holds, if any, it could have left before, or
--- they are those of the old device.
+-- What a crash leaves while an image is upgraded: the saved frames that it holds, if any, are some that a crash could
+-- have left at first, or those of the old device.
 abbrev pub IsLeftUpgrading : Disk → Disk → Image → Type 0
 IsLeftUpgrading old before c = (saved : SavedFrames) → Holds before.sectors c saved →
     ((d : Image) × before.may_leave d × Holds before.sectors d saved) ⊎ Holds old.sectors old.seen saved
 
 -- A device was only read between two states: nothing was written to it at any moment. A call of it failed exactly if
--- failure_told holds.
+-- `failure_reported` holds.
 pub record IsOnlyRead (old new : Disk) (failure_reported : Type 0) : Type 0 where
   pub only_reads : OnlyReads old new
   pub later : old.failures ≤ new.failures
   pub cause : failure_reported ↔ (old.failures < new.failures)
 
--- a device was closed in a state up to which it was only read
+-- a device was closed, and was only read until then
 abbrev pub ReadsAndCloses : {D : Type 0} → (D → Disk) → (D → Type 0) → D → Type 0 → Type 0
 ReadsAndCloses {D} disk was_closed old failure_reported =
     (last : D) × was_closed last × IsOnlyRead (disk old) (disk last) failure_reported

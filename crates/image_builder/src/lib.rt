@@ -1,6 +1,6 @@
 //! Images from their descriptions, and from older ones. A table describes what an image holds; it
 //! is written to a device if it stands for a sound world. What an image saves is written to another
-//! device, by version 2 of the layout or by its own.
+//! device, in version 2 of the layout or in its own.
 #![tactic(auto)]
 
 mod blueprint;

@@ -1,4 +1,4 @@
--- Entries that describe all objects of a sound world are a description of it.
+-- Entries that describe all objects of a sound world make a description of it.
 use Rattle.image_describer.proofs.Names.{ℕ, inl, inr, List, map, length, Option, None, Some, slice_index_or, refl, sym, ap, subst, arith, IsTrue, All, Contains}
 use Rattle.image_describer.proofs.Names.{get_or-map, cases_lt, length-map, All-append, All-contains, All-map, All-weaker, Contains-append_left}
 use Rattle.image_describer.proofs.Names.{Contains-append_right, slice_get-get_or, slice_get-map, Cap, Capability, Void, Geometry, Content, Object, Role}

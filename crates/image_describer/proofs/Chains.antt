@@ -1,4 +1,4 @@
--- Tables that come of an empty one by several values put at keys.
+-- Tables made from an empty one by putting values at keys, one after another.
 use Rattle.image_describer.proofs.Names.{nat_tests, ℕ, zero, suc, Bool, true, false, not, List, [], length, Option, None, slice_index_or, sym, ap, subst, arith}
 use Rattle.image_describer.proofs.Names.{IsTrue, list_any, Data, Members, get_member, same_key, has_only}
 use Rattle.std.proofs.Common.{◌≡◌, ◌<◌, ◌&&◌, ◌∷◌, ◌++◌, ◌∙◌}

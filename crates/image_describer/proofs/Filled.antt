@@ -1,4 +1,4 @@
--- What the lines of a description leave in the nodes of TOML's reader.
+-- The lines of a description, as the nodes of TOML's reader have them.
 use Rattle.image_describer.proofs.Names.{nat_tests, arith, ℕ, Bool, true, false, List, [], Option, Some, None, option_and_then, IfSome, MatchOption, append-nil}
 use Rattle.image_describer.proofs.Names.{append_assoc, refl, sym, ap, subst, inr, IsTrue, none-some, same_Some, Key, Data, array, table, Items, no_items, item}
 use Rattle.image_describer.proofs.Names.{push_item, Members, no_members, member, get_member, Nodes, no_nodes, value, open_array, close, insert, Edit, Document}

@@ -1,4 +1,4 @@
--- The objects of a world have numbers in an image of other sizes exactly if those that its description names do.
+-- The objects of a world have numbers in an image of other sizes exactly if the objects of its description do.
 use Rattle.image_describer.proofs.Names.{nat_tests, inl, inr, ℕ, true, false, refl, sym, ap, subst, arith, true≢false, All-contains, Cap, Frame, Geometry}
 use Rattle.image_describer.proofs.Names.{Content, frame_at, is_free, role_of, object_count, World, content_at, fresh_cap, mapped, BankEntry, Description}
 use Rattle.image_describer.proofs.Names.{NodeEntry, PageEntry, ProcessEntry, first_frame, Entry, OfAnnex, OfBank, OfNode, OfPage, OfRoot, number_of, IsFrameOf}

@@ -1,4 +1,4 @@
--- The lines of a description are those that TOML has for its values.
+-- The lines of a description are those that TOML writes for its values.
 use Rattle.image_describer.proofs.Names.{nat_tests, ℕ, suc, pos, Bool, true, false, List, [], codes, decimal, Option, Some, None, IfSome, append-nil}
 use Rattle.image_describer.proofs.Names.{append_assoc, refl, sym, ap, arith, flat_map, join_by, dotted_text, key_text, string_text, Data, string, integer}
 use Rattle.image_describer.proofs.Names.{array, Items, no_items, item, Members, depth, has_valid_dates, items_depth, items_have_valid_dates, Expression}

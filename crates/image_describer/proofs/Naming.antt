@@ -1,4 +1,4 @@
--- What a list holds beside its default, one item after another.
+-- Items of a list that aren't the default, one after another.
 use Rattle.image_describer.proofs.Names.{nat_tests, ℕ, inl, inr, List, [], map, length, slice_index_or, Option, None, Some, option_to_list, sym, subst, arith}
 use Rattle.image_describer.proofs.Names.{All, Contains, cases_lt, get_or_past, All-contains, All-head, All-map, All-push, All-tail, All-weaker, first_named}
 use Rattle.image_describer.proofs.Names.{first_beyond, first_none, first_of, first_there, map_both, AreRising, Names, MayName}

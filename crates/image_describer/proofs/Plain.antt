@@ -1,4 +1,4 @@
--- Plain frames stand for the objects that they were made of, and are sound where those are.
+-- Plain frames stand for the objects that they were made from, and are sound if these are.
 use Rattle.image_describer.proofs.Names.{nat_tests, ℕ, nat_lt, Bool, true, false, List, [], map, length, slice_index_or, refl, sym, ap, subst, arith, All}
 use Rattle.image_describer.proofs.Names.{get_or-map, length-map, All-map, All-weaker, Cap, Capability, Void, Frame, ObjectHeader, Geometry, Content, Object}
 use Rattle.image_describer.proofs.Names.{blank_frame, conveyed, current_count, frame_at, header_at, headers, object_of, objects_of, void_held, AreCurrent}

@@ -1,4 +1,4 @@
--- The texts of capabilities and states stand between quotes as they are.
+-- The texts of capabilities and states need no escapes between quotes.
 use Rattle.image_describer.proofs.Names.{ℕ, Bool, true, false, not, nat_lt, List, [], codes, decimal, IfSome, inl, inr, refl, arith, list_all, list_any}
 use Rattle.image_describer.proofs.Names.{AllDigits, cases_Bool, nat_tests, decimal_is_IsNumeral, digit_from_value, is_non_eol, encoding_of, escaped, is_control}
 use Rattle.image_describer.proofs.Names.{needs_escape, quotes_after, string_text, IsWellFormed, named, access_text, capability_text, state_text, Access}

@@ -1,21 +1,21 @@
--- Descriptions that name nothing at its default, and all in order.
+-- Descriptions that leave defaults out, and name the rest in order.
 use Rattle.image_describer.specs.Names.{ℕ, List, [], map, length, slice_index_or, unwrap_or, Some, All, Capability}
 use Rattle.image_describer.specs.Names.{Void, Description, SlotEntry, WordEntry, first_named}
 use Rattle.std.specs.Prelude.{◌≡◌, ◌≢◌, ◌<◌, ◌∷◌}
 
--- numbers rise
+-- each number is greater than the one before it
 abbrev pub AreRising : List ℕ → Type 0
 AreRising [] = Unit {0}
 AreRising (n ∷ ns) = All (λ m. n < m) ns × AreRising ns
 
--- entries name what a list holds beside its default, in order
+-- the entries name those items of a list that aren't the default, in order
 pub record Names {E V : Type 0} (index : E → ℕ) (value : E → V) (default : V) (xs : List V) (es : List E) : Type 0 where
   pub each : (i : ℕ) → first_named index value default es i ≡ slice_index_or xs i default
   pub some : All (λ e. value e ≢ default) es
   pub within : All (λ e. index e < length xs) es
   pub rising : AreRising (map index es)
 
--- the capabilities of slots that aren't void, and the words of a page that aren't 0
+-- the entries name the capabilities that aren't void; the words that aren't 0
 abbrev pub NamesSlots : List Capability → List SlotEntry → Type 0
 NamesSlots slots entries = Names (λ s. s.index) (λ s. unwrap_or s.capability Void) Void slots entries
 
@@ -29,7 +29,7 @@ AreBriefSlots slots = AreRising (map (λ s. s.index) slots) × All (λ s. s.capa
 abbrev pub AreBriefWords : List WordEntry → Type 0
 AreBriefWords words = AreRising (map (λ w. w.index) words) × All (λ w. w.word ≢ 0) words
 
--- nothing is named that is at its default, and all numbers rise
+-- nothing at its default is named, and all numbers rise
 pub record IsBrief (d : Description) : Type 0 where
   pub banks : AreRising (map (λ b. b.number) d.banks.items)
   pub processes : AreRising (map (λ p. p.root) d.processes.items)

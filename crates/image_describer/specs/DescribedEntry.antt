@@ -7,7 +7,7 @@ use Rattle.model.specs.declared.object.Content.TheVariants as content
 use Rattle.model.specs.declared.object.Role.TheVariants as role
 use Rattle.image_describer.specs.Brief.{AreRising, NamesSlots, NamesWords}
 
--- what is named of an item at an index: an entry that has it, or nothing where it is at its default
+-- the entry for item x at index i: it has the item, or is `None` if the item is the default
 abbrev pub MayName : {E V : Type 0} → (E → ℕ) → (E → V) → V → ℕ → V → Option E → Type 0
 MayName index value default i x (Some e) = (index e ≡ i) × (value e ≡ x) × (x ≢ default)
 MayName index value default i x None = x ≡ default
@@ -24,7 +24,7 @@ abbrev pub TellsPage : List Object → PageEntry → Type 0
 TellsPage os p = (words : List ℕ) × NamesWords words p.words.items ×
     (object_at os p.number ≡ record { owner = p.owner; content = content.Page words })
 
--- that of a process the root and the annex
+-- the entry of a process describes its root and its annex
 abbrev pub TellsRoot : List Object → ProcessEntry → Type 0
 TellsRoot os p = (state : State) × (space : Capability) × (p.state ≡ Some state) × (p.space ≡ Some space)
     × (object_at os p.root ≡ record {
@@ -39,7 +39,7 @@ TellsAnnex os p = (registers : List Capability) × NamesSlots registers p.regist
 abbrev pub TellsProcess : List Object → ProcessEntry → Type 0
 TellsProcess os p = TellsRoot os p × TellsAnnex os p
 
--- the entry of a number: one where its object is of this kind, else none
+-- the entry for number n: it describes the object, or is `None` if the object is of another kind
 abbrev pub MayTell : {E : Type 0} → (E → ℕ) → (E → Type 0) → Role → List Object → ℕ → Option E → Type 0
 MayTell number Tells kind os n (Some e) = (number e ≡ n) × Tells e
 MayTell number Tells kind os n None = role_of (content_at os n) ≢ kind
@@ -58,14 +58,14 @@ pub record HasNoObjects (d : Description) : Type 0 where
   pub nodes : d.nodes.items ≡ []
   pub pages : d.pages.items ≡ []
 
--- it describes all of these
+-- a description describes all these objects
 pub record TellsObjects (os : List Object) (d : Description) : Type 0 where
   pub banks : TellAll (λ b. b.number) (TellsBank os) role.Bank os d.banks.items
   pub processes : TellAll (λ p. p.root) (TellsProcess os) role.Root os d.processes.items
   pub nodes : TellAll (λ n. n.number) (TellsNode os) role.Node os d.nodes.items
   pub pages : TellAll (λ p. p.number) (TellsPage os) role.Page os d.pages.items
 
--- and what it says beside them is the same
+-- what two descriptions say besides objects is the same
 pub record IsSameBeside (old new : Description) : Type 0 where
   pub geometry : new.geometry ≡ old.geometry
   pub layout : new.layout ≡ old.layout

@@ -11,7 +11,7 @@ use Rattle.description.specs.declared.sizes.GrowthFault.TheVariants as fault
 abbrev pub moved : Geometry → Geometry → ℕ → ℕ
 moved old new n = if nat_lt n old.nodes then n else if nat_lt n (object_count old) then n - old.nodes + new.nodes else n
 
--- a capability that names the object at its number in the other image
+-- a capability, renumbered: it names its object by the number in the other image
 abbrev pub moved_capability : (ℕ → ℕ) → Capability → Capability
 moved_capability at Void = Void
 moved_capability at (Number n) = Number n
@@ -24,7 +24,7 @@ moved_capability at (Resume p) = Resume (at p)
 moved_capability at (Bank b) = Bank (at b)
 moved_capability at Discrim = Discrim
 
--- an object whose capabilities do so
+-- an object with its capabilities renumbered
 abbrev pub moved_object : (ℕ → ℕ) → Object → Object
 moved_object at o = record { owner = o.owner; content = map_content (moved_capability at) o.content }
 
@@ -38,7 +38,7 @@ pub record IsGrown (old new : Geometry) (w v : World) : Type 0 where
   pub others : (m : ℕ) → ((n : ℕ) → is_free (content_at w.objects n) ≡ false → moved old new n ≢ m) →
       object_at v.objects m ≡ free
 
--- each object has a number in the other image
+-- each object with a node's number has a number in the other image; so has each page
 abbrev pub NodesFit : Geometry → Geometry → World → Type 0
 NodesFit old new w = (n : ℕ) → is_free (content_at w.objects n) ≡ false → n < old.nodes → n < new.nodes
 
@@ -46,7 +46,7 @@ abbrev pub PagesFit : Geometry → Geometry → World → Type 0
 PagesFit old new w = (n : ℕ) → is_free (content_at w.objects n) ≡ false → old.nodes ≤ n →
     moved old new n < object_count new
 
--- the least reason why a world has no image of other sizes; the last isn't one
+-- the least reason why a world has no image of other sizes; or memory ran out
 abbrev pub IsUnsuited : Geometry → Geometry → World → GrowthFault → Type 0
 IsUnsuited old new w fault.Limits = IsGeometry new → ⊥
 IsUnsuited old new w fault.Nodes = IsGeometry new × (NodesFit old new w → ⊥)
@@ -55,7 +55,7 @@ IsUnsuited old new w fault.NoMemory = Unit {0}
 
 -- The same of a description.
 
--- home ranges stay where the numbers of nodes and pages do; else they are one of all nodes and one of all pages
+-- home ranges stay if the counts of nodes and pages do; else there is one of all nodes and one of all pages
 abbrev pub grown_ranges : Geometry → Geometry → List NumberRange → List NumberRange
 grown_ranges old new ranges = if old.nodes == new.nodes && old.pages == new.pages then ranges else whole_ranges new
 
@@ -87,7 +87,7 @@ pub record IsMovedPage (at : ℕ → ℕ) (p q : PageEntry) : Type 0 where
   pub owner : q.owner ≡ p.owner
   pub words : q.words ≡ p.words
 
--- a description is another's, renumbered for its own sizes
+-- e is the description d, renumbered for the sizes of e
 pub record IsRenumbered (d e : Description) : Type 0 where
   pub layout : e.layout ≡ d.layout
   pub age : e.age ≡ d.age
@@ -97,7 +97,7 @@ pub record IsRenumbered (d e : Description) : Type 0 where
   pub nodes : AllZip (IsMovedNode (moved d.geometry e.geometry)) d.nodes.items e.nodes.items
   pub pages : AllZip (IsMovedPage (moved d.geometry e.geometry)) d.pages.items e.pages.items
 
--- the numbers of nodes that it names are numbers of nodes there, and those of pages numbers of pages
+-- the node numbers that a description names are below `count`; its page numbers, moved, exist in the other image
 pub record NamesNodes (count : ℕ) (d : Description) : Type 0 where
   pub banks : All (λ b. b.number < count) d.banks.items
   pub processes : All (λ p. (p.root < count) × (p.annex < count)) d.processes.items
@@ -106,7 +106,7 @@ pub record NamesNodes (count : ℕ) (d : Description) : Type 0 where
 abbrev pub NamesPages : Geometry → Geometry → Description → Type 0
 NamesPages old new d = All (λ p. moved old new p.number < object_count new) d.pages.items
 
--- the least reason why a description isn't renumbered
+-- the least reason why a description isn't renumbered; or memory ran out
 abbrev pub IsNotRenumbered : Description → Geometry → GrowthFault → Type 0
 IsNotRenumbered d new fault.Limits = IsGeometry new → ⊥
 IsNotRenumbered d new fault.Nodes = IsGeometry new × (NamesNodes new.nodes d → ⊥)

@@ -1,4 +1,4 @@
--- What a description of a world is laid as, and that it has a text.
+-- The frames of the description of a world, and its text.
 use Rattle.image_describer.specs.Names.{ℕ, List, map, Some, Frame, Geometry, IsSoundFrames, world_at, IsSound, World}
 use Rattle.image_describer.specs.Names.{Members, parse_document, IsPlan, Plan, version_number, numbers_of}
 use Rattle.image_describer.specs.Names.{IsDescription, Description, HasFields, IsDescribed, IsWorldFault, BuildFault}
@@ -14,12 +14,12 @@ DescribedIsSame = (g : Geometry) (age : ℕ) (fs gs : List Frame) (d : Descripti
     Describes g (world_at age fs) d → IsDescribed d gs →
     IsSoundFrames d.geometry d.age gs × (world_at d.age gs ≡ world_at age fs)
 
--- and laying the description can only fail for want of memory
+-- laying out such a description fails only for lack of memory
 abbrev pub DescribedIsLaid : Type 0
 DescribedIsLaid = (g : Geometry) (age : ℕ) (fs : List Frame) (d : Description) (fault : BuildFault) →
     IsSoundFrames g age fs → Describes g (world_at age fs) d → IsWorldFault d fault → fault ≡ NoMemory
 
--- With the home ranges and the version of a plan it has a text.
+-- The description of a world has a text, if its home ranges and version are those of a plan.
 abbrev pub DescribedHasText : Type 0
 DescribedHasText = (p : Plan) (age : ℕ) (fs : List Frame) (d : Description) → IsPlan p →
     IsSoundFrames p.geometry age fs → Describes p.geometry (world_at age fs) d →

@@ -4,7 +4,7 @@ use Rattle.image_describer.specs.Names.{BankEntry, Description, NodeEntry, PageE
 use Rattle.image_describer.specs.Names.{WordEntry}
 use Rattle.std.specs.Prelude.{◌≡◌, ◌^◌, ◌<◌}
 
--- a number that TOML has, and one of 64 bits
+-- a number that TOML has; a number of 64 bits
 abbrev pub IsShort : ℕ → Type 0
 IsShort n = n < 2 ^ 63
 

@@ -15,7 +15,7 @@ quoted text = codes "\"" ++ text ++ codes "\""
 abbrev pub wide_text : ℕ → List ℕ
 wide_text n = if nat_lt n (2 ^ 63) then decimal n else quoted (capability_text (Number n))
 
--- a capability, and a state
+-- the text of a capability; of a state
 abbrev pub held_text : Option Capability → List ℕ
 held_text c = quoted (capability_text (unwrap_or c Void))
 
@@ -23,7 +23,7 @@ abbrev pub state_value : Option State → List ℕ
 state_value None = quoted []
 state_value (Some state) = quoted (state_text state)
 
--- a list, and one of two values
+-- the text of a list; of a list of two values
 abbrev pub list_text : {A : Type 0} → (A → List ℕ) → List A → List ℕ
 list_text f xs = codes "[" ++ join_by f (codes ", ") xs ++ codes "]"
 
@@ -74,7 +74,7 @@ abbrev pub list_unless_empty : {A : Type 0} → (A → List ℕ) → List A → 
 list_unless_empty f [] = None
 list_unless_empty f (x ∷ xs) = Some (list_text f (x ∷ xs))
 
--- a range is this one, and ranges are one of all nodes and one of all pages
+-- whether a range is this one; whether ranges are one of all nodes and one of all pages
 abbrev pub is_range : NumberRange → ℕ → ℕ → Bool
 is_range r n count = r.first == n && r.count == count
 

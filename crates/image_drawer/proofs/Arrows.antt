@@ -1,4 +1,4 @@
--- Arrows are those of the world.
+-- The arrows of the graph are those of the world.
 use Rattle.image_drawer.proofs.Names.{nat_tests, arith, ℕ, Bool, true, false, inl, inr, List, [], map, Option, None, Some, slice_index_or, refl, sym, ap, subst}
 use Rattle.image_drawer.proofs.Names.{IsTrue, Contains, flat_map, All-contains, Contains-append_cases, Contains-append_left, Contains-append_right, Capability}
 use Rattle.image_drawer.proofs.Names.{Void, Geometry, Object, named, is_node, is_root, root_in, slots_in, World, annex_at, content_at, is_process, register_at}

@@ -1,4 +1,4 @@
--- Boxes and owners are those of the world.
+-- The boxes and owners of the graph are those of the world.
 use Rattle.image_drawer.proofs.Names.{ℕ, true, false, inl, inr, List, [], map, refl, sym, ap, subst, arith, Contains, flat_map, cases_eq, nat_tests}
 use Rattle.image_drawer.proofs.Names.{Contains-append_cases, Contains-append_left, Contains-append_right, flat_map-map, Capability, Geometry, Content, Object}
 use Rattle.image_drawer.proofs.Names.{free, is_annex, is_free, World, object_at, owner_at, Description, AreDistinct, node_numbers, page_numbers, Entry, OfAnnex}

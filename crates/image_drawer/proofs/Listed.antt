@@ -1,4 +1,4 @@
--- The numbers of those who hold an object, and of the boxes.
+-- The numbers of an object's holders, and of the boxes.
 use Rattle.image_drawer.proofs.Names.{ℕ, Bool, true, false, List, [], length, map, refl, sym, ap, subst, arith, All, Contains, nat_tests, All-append}
 use Rattle.image_drawer.proofs.Names.{All-contains, All-map, object_count, BankEntry, Description, NodeEntry, PageEntry, ProcessEntry, HasNumbers, OfBank}
 use Rattle.image_drawer.proofs.Names.{OfNode, OfPage, OfRoot, in_range, all_from, contains_here, contains_there, boxes, is_listed, slice_set, replicate}

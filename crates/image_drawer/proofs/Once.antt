@@ -1,4 +1,4 @@
--- Lists in which nothing comes twice, and what lists of lists hold.
+-- Lists in which nothing occurs twice, and the members of lists of lists.
 use Rattle.image_drawer.proofs.Names.{ℕ, inl, inr, List, [], map, sym, subst, Contains, flat_map, Contains-append_cases, Contains-append_left}
 use Rattle.image_drawer.proofs.Names.{Contains-append_right, AreDistinct, contains_cases, contains_here, contains_map, contains_none, contains_there, IsOnce}
 use Rattle.std.proofs.Common.{◌≡◌, ◌∷◌, ◌++◌, ◌∙◌}

@@ -1,4 +1,4 @@
--- What the graph of a part of a description shows.
+-- The graph of a part of a description.
 use Rattle.image_drawer.proofs.Names.{nat_tests, arith, ℕ, Bool, true, false, Option, Some, None, List, [], map, refl, sym, ap, AllZip, filter, flat_map}
 use Rattle.image_drawer.proofs.Names.{filter-append, Capability, Void, named, BankEntry, Description, NodeEntry, PageEntry, ProcessEntry, SlotEntry, Arrow}
 use Rattle.image_drawer.proofs.Names.{Place, arrow_of, arrow_to, arrows_at, joined, node_arrows, process_arrows, IsPart, IsPartOfNode, IsPartOfProcess}

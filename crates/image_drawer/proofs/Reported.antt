@@ -1,4 +1,4 @@
--- The objects of a world, by the entries of its description.
+-- The objects of a world, and the entries of its description.
 use Rattle.image_drawer.proofs.Names.{nat_tests, ℕ, List, [], map, length, Some, slice_index_or, refl, sym, ap, arith, Contains, get_or-map, get_or_past}
 use Rattle.image_drawer.proofs.Names.{length-map, All-contains, get_or_from_slice_get, Cap, Capability, Void, Frame, Geometry, Content, Object, State, named}
 use Rattle.image_drawer.proofs.Names.{blank_frame, frame_at, free, map_content, World, object_at, fresh_cap, BankEntry, Description, NodeEntry, PageEntry}

@@ -15,17 +15,17 @@ abbrev pub boxes : Description → List ℕ
 boxes d = map (λ b. b.number) d.banks.items ++ map (λ p. p.root) d.processes.items
     ++ map (λ n. n.number) d.nodes.items ++ map (λ p. p.number) d.pages.items
 
--- an owner and what it owns, unless that is itself
+-- an owner paired with an object that it owns; nothing if the object is the owner itself
 abbrev pub joined : ℕ → ℕ → List (ℕ × ℕ)
 joined owner number = if owner == number then [] else (owner, number) ∷ []
 
--- what is owned by another, each after its owner
+-- each object that another owns, paired with its owner
 abbrev pub owners : Description → List (ℕ × ℕ)
 owners d = flat_map (λ b. joined b.owner b.number) d.banks.items ++ flat_map (λ p. joined p.owner p.root)
     d.processes.items
     ++ flat_map (λ n. joined n.owner n.number) d.nodes.items ++ flat_map (λ p. joined p.owner p.number) d.pages.items
 
--- a capability at a place of a holder, where it names a target
+-- the arrow of a capability at a place of its holder, if the capability names an object
 abbrev pub arrow_to : ℕ → Place → Capability → Option ℕ → List Arrow
 arrow_to holder at c None = []
 arrow_to holder at c (Some target) = record { holder = holder; place = at; capability = c; target = target } ∷ []
@@ -38,11 +38,11 @@ abbrev pub place_in : Bool → ℕ → Place
 place_in true index = place.Slot index
 place_in false index = place.Register index
 
--- those of registers and of slots
+-- the arrows of a list of registers or slots
 abbrev pub arrows_at : ℕ → (ℕ → Place) → List SlotEntry → List Arrow
 arrows_at holder at slots = flat_map (λ s. arrow_of holder (at s.index) (unwrap_or s.capability Void)) slots
 
--- those of a process, its space first, and of a node
+-- the arrows of a process, its space first; of a node
 abbrev pub process_arrows : ProcessEntry → List Arrow
 process_arrows p = arrow_of p.root place.Space (unwrap_or p.space Void) ++ arrows_at p.root place.Register
     p.registers.items
@@ -50,13 +50,13 @@ process_arrows p = arrow_of p.root place.Space (unwrap_or p.space Void) ++ arrow
 abbrev pub node_arrows : NodeEntry → List Arrow
 node_arrows n = arrows_at n.number place.Slot n.slots.items
 
--- all capabilities that name an object
+-- the arrows of all capabilities that name an object
 abbrev pub arrows : Description → List Arrow
 arrows d = flat_map process_arrows d.processes.items ++ flat_map node_arrows d.nodes.items
 
--- Their text.
+-- The text of the graph.
 
--- a further line of a box: DOT writes its beginning so
+-- a further line in a box: in DOT it begins with `\n`
 abbrev pub next_line : List ℕ → List ℕ
 next_line text = codes "\\n" ++ text
 
@@ -65,7 +65,7 @@ abbrev pub box_line : ℕ → List ℕ → List ℕ → List ℕ
 box_line number lines shape = line_of
     (spaced (decimal number ∷ (codes "[label=\"" ++ lines ++ codes "\" shape=" ++ shape ++ codes "]") ∷ []))
 
--- what names nothing and isn't void is a line of its holder's box
+-- a number or discrim capability is a line in its holder's box; others add no line
 abbrev pub plain_line : List ℕ → ℕ → Capability → List ℕ
 plain_line name index (Number n) = next_line (spaced ((name ++ decimal index) ∷ capability_text (Number n) ∷ []))
 plain_line name index Discrim = next_line (spaced ((name ++ decimal index) ∷ capability_text Discrim ∷ []))
@@ -97,7 +97,7 @@ node_box n = box_line n.number (spaced (codes "node" ∷ decimal n.number ∷ []
 unfoldable pub page_box : PageEntry → List ℕ
 page_box p = box_line p.number (spaced (codes "page" ∷ decimal p.number ∷ [])) (codes "note")
 
--- what is owned lies in the cluster of its owner
+-- an owned object is drawn in the cluster of its owner
 unfoldable pub owner_line : ℕ × ℕ → List ℕ
 owner_line p = line_of
     (spaced ((codes "subgraph cluster_" ++ decimal p.0) ∷ codes
@@ -108,14 +108,14 @@ place_text place.Space = codes "space"
 place_text (place.Register i) = codes "r" ++ decimal i
 place_text (place.Slot i) = codes "s" ++ decimal i
 
--- what the object that is named doesn't show: the height of a space, the key of a start, and that it is a resume
+-- what an arrow's target doesn't show: the height of a space, the key of a start, and that it is a resume
 abbrev pub kind_text : Capability → List ℕ
 kind_text (Space object height access) = codes " height " ++ decimal height
 kind_text (Start process key) = codes " start " ++ decimal key
 kind_text (Resume process) = codes " resume"
 kind_text _ = []
 
--- what is read-only is dashed, and what is weak dotted
+-- the style of an arrow: dashed if read-only, dotted if weak
 abbrev pub style_text : ℕ → List ℕ
 style_text access = if access == 0 then [] else if access == 1 then codes " style=dashed" else codes " style=dotted"
 
@@ -136,7 +136,7 @@ owner_lines d = flat_map owner_line (owners d)
 abbrev pub arrow_lines : Description → List ℕ
 arrow_lines d = flat_map arrow_line (arrows d)
 
--- how all is drawn: from left to right, in small letters
+-- the first lines: the graph is drawn from left to right, in small letters
 abbrev pub head_lines : List ℕ
 head_lines = line_of (codes "digraph eros {") ++ line_of (codes "graph [rankdir=LR newrank=true]")
     ++ line_of (codes "node [fontsize=10 height=0 margin=0.05]") ++ line_of (codes "edge [fontsize=8]")

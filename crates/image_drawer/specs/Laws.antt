@@ -8,26 +8,26 @@ use Rattle.image_drawer.specs.declared.arrow.Arrow.{Arrow}
 use Rattle.image_drawer.specs.declared.arrow.Place.{Place}
 use Rattle.image_drawer.specs.declared.arrow.Place.TheVariants as place
 
--- nothing comes twice
+-- nothing occurs twice
 abbrev pub IsOnce : {A : Type 0} → List A → Type 0
 IsOnce [] = Unit {0}
 IsOnce (x ∷ xs) = (Contains xs x → ⊥) × IsOnce xs
 
--- what isn't free has a box, and a process one for its root and its annex
+-- each object has a box, but a process has just one, for its root
 abbrev pub HasBox : List Object → ℕ → Type 0
 HasBox os n = (is_free (content_at os n) ≡ false) × (is_annex (content_at os n) ≡ false)
 
--- an owner and what it owns, which differ
+-- p pairs an owner with an object that it owns, and they differ
 abbrev pub IsOwner : List Object → ℕ × ℕ → Type 0
 IsOwner os p = HasBox os p.1 × (owner_at os p.1 ≡ p.0) × (p.0 ≢ p.1)
 
--- a capability is held at a place of a process or a node
+-- a process or a node holds capability c at this place
 abbrev pub Holds : List Object → ℕ → Place → Capability → Type 0
 Holds os n place.Space c = IsTrue (is_process os n) × ((root_at os n).space ≡ c)
 Holds os n (place.Register i) c = IsTrue (is_process os n) × (register_at os n i ≡ c)
 Holds os n (place.Slot i) c = IsTrue (is_node (content_at os n)) × (slot_at os n i ≡ c)
 
--- it is held where the arrow begins, and names the object where it ends
+-- the capability of an arrow is held where the arrow begins, and names the object where it ends
 abbrev pub IsArrow : List Object → Arrow → Type 0
 IsArrow os a = Holds os a.holder a.place a.capability × (named a.capability ≡ Some a.target)
 
@@ -36,7 +36,7 @@ abbrev pub BoxesAreObjects : Type 0
 BoxesAreObjects = (g : Geometry) (w : World) (d : Description) → Describes g w d →
     IsOnce (boxes d) × ((n : ℕ) → Contains (boxes d) n ↔ HasBox w.objects n)
 
--- what is owned by another is joined to its owner, nothing else is, and none twice
+-- each object that another owns is paired with its owner, nothing else is, and nothing twice
 abbrev pub OwnersAreOwners : Type 0
 OwnersAreOwners = (g : Geometry) (w : World) (d : Description) → Describes g w d →
     IsOnce (owners d) × ((p : ℕ × ℕ) → Contains (owners d) p ↔ IsOwner w.objects p)

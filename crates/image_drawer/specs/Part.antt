@@ -16,7 +16,7 @@ leads_inside inside c = is_inside inside (named (unwrap_or c Void))
 abbrev pub space_inside : (ℕ → Bool) → Option Capability → Option Capability
 space_inside inside c = if leads_inside inside c then c else Some Void
 
--- what a process and a node hold of a set
+-- q is process p with only those capabilities that stay inside the set; n is node m with only those
 pub record IsPartOfProcess (inside : ℕ → Bool) (p q : ProcessEntry) : Type 0 where
   pub root : q.root ≡ p.root
   pub annex : q.annex ≡ p.annex
@@ -32,7 +32,7 @@ pub record IsPartOfNode (inside : ℕ → Bool) (m n : NodeEntry) : Type 0 where
   pub owner : n.owner ≡ m.owner
   pub slots : n.slots.items ≡ filter (λ s. leads_inside inside s.capability) m.slots.items
 
--- a description has the objects of another that are in a set, with what they hold of it
+-- e has the objects of d that are in a set, with only those capabilities that stay inside the set
 pub record IsPart (inside : ℕ → Bool) (d e : Description) : Type 0 where
   pub geometry : e.geometry ≡ d.geometry
   pub layout : e.layout ≡ d.layout
@@ -43,7 +43,7 @@ pub record IsPart (inside : ℕ → Bool) (d e : Description) : Type 0 where
   pub nodes : AllZip (IsPartOfNode inside) (filter (λ n. inside n.number) d.nodes.items) e.nodes.items
   pub pages : e.pages.items ≡ filter (λ p. inside p.number) d.pages.items
 
--- In the graph of a part the boxes are those of the set, each with its owner, and the arrows those between them.
+-- In the graph of a part, the boxes are those of the members, with their owners, and the arrows those between members.
 pub record ShowsPart (inside : ℕ → Bool) (d e : Description) : Type 0 where
   pub boxes : boxes e ≡ filter inside (boxes d)
   pub owners : owners e ≡ filter (λ p. inside p.1) (owners d)

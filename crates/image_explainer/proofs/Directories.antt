@@ -1,4 +1,4 @@
--- Entries that are each as they must be are a directory.
+-- Entries that are all right make a directory.
 use Rattle.image_explainer.proofs.Names.{nat_tests, ℕ, List, length, arith, Geometry, Entry, AllFitting, IsDirectory, directory_bytes, directory_fits}
 use Rattle.image_explainer.proofs.Names.{one_directory, get_or_default, DirectoryPart, BreaksDirectory, IsAmong}
 use Rattle.std.proofs.Common.{◌≡◌, ◌<◌}

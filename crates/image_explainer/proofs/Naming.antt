@@ -1,4 +1,4 @@
--- Capabilities that name what they can't.
+-- Capabilities that break `IsNamed`.
 use Rattle.image_explainer.proofs.Names.{nat_tests, ℕ, List, [], None, Option, length, slice_index_or, sym, ap, subst, arith, IfNone, All, get_or_default, Cap}
 use Rattle.image_explainer.proofs.Names.{Frame, ObjectHeader, Content, current_count, frame_at, header_at, caps_in, Parts, frames_of, IsNamed, header_read}
 use Rattle.image_explainer.proofs.Names.{table_read, Misnamed, IsMisnamed, cap_at, void_held}

@@ -1,4 +1,4 @@
--- Sectors are bad for one reason.
+-- Sectors are bad for at most one reason.
 use Rattle.image_explainer.proofs.Names.{ℕ, Some, None, List, refl, sym, ap, subst, Image, BadImage, Entry, CheckpointHeader, header_bytes, HasBadDirectory}
 use Rattle.image_explainer.proofs.Names.{HasBadHeader, HasDirectory, HasHeader, HasNoHeader, HasPlan, IsBadBy, option_at, Plan, same_directory, same_header}
 use Rattle.image_explainer.proofs.Names.{same_plan, IsWhole, IsWholeFrame}

@@ -1,4 +1,4 @@
--- Devices that were refused for what is wrong in their sectors.
+-- Devices that were refused for their sectors.
 use Rattle.image_explainer.proofs.Names.{nat_tests, ℕ, Some, Result, Ok, Err, ⊎_elim, refl, sym, subst, arith, cases_lt, Disk, Image, CountsNow, agrees_is}
 use Rattle.image_explainer.proofs.Names.{BadImage, IsBadBy, OpenFault, CountsOpen, OnlyReads, Refuses, ReadsOnly, IsNoReason, SectorFault, IsFault, ImageFault}
 use Rattle.image_explainer.proofs.Names.{Explains}

@@ -1,4 +1,4 @@
--- What is wrong with an image: the reason that holds for what a fault names, in the sectors or in their frames.
+-- What is wrong with an image: a fault names a place, in the sectors or in their frames, where its reason holds.
 use Rattle.std.specs.Prelude.{◌≡◌, ◌≢◌, ◌<◌, ℕ, length, List}
 use Rattle.std.specs.List.{All}
 use Rattle.device.specs.Disk.{Image}
@@ -27,7 +27,7 @@ reason_of (fault.Capability m) = bad.BadCapability
 reason_of (fault.Process u) = bad.BadProcess
 reason_of (fault.Bank u) = bad.BadBank
 
--- reason 8: an object holds a capability that names what it can't, whose object has this count
+-- reason 8: the holder has this capability at this index, and it isn't as `IsNamed` requires
 pub record IsMisnamed (fs : List Frame) (m : Misnamed) : Type 0 where
   pub within : m.index < length (caps_in (frame_at fs m.holder).content)
   pub held : cap_at (caps_in (frame_at fs m.holder).content) m.index ≡ m.held
@@ -35,17 +35,17 @@ pub record IsMisnamed (fs : List Frame) (m : Misnamed) : Type 0 where
   pub current : m.current ≡ current_count (headers fs) m.held.what
   pub broken : IsNamed fs m.held → ⊥
 
--- it is the first, by holder and index
+-- this capability is the first such, by holder and index
 pub record IsFirstMisnamed (fs : List Frame) (m : Misnamed) : Type 0 where
   pub misnamed : IsMisnamed fs m
   pub here : (k : ℕ) → k < m.index → IsNamed fs (cap_at (caps_in (frame_at fs m.holder).content) k)
   pub before : (n : ℕ) → n < m.holder → All (IsNamed fs) (caps_in (frame_at fs n).content)
 
--- where a number is a root, its annex is one for it, and no root after it has that
+-- if number p is a root, its annex is one for it, and no later root has the same annex
 abbrev pub IsMatched : List Frame → ℕ → Type 0
 IsMatched fs p = (a : ℕ) → IsRootOf fs p a → IsAnnexFor fs p a × ((q : ℕ) → p < q → IsRootOf fs q a → ⊥)
 
--- where a number is an annex, a root has it
+-- if number a is an annex, a root has it
 abbrev pub HasRoot : List Frame → ℕ → Type 0
 HasRoot fs a = role_at fs a ≡ role.Annex → (p : ℕ) × IsRootOf fs p a
 
@@ -56,7 +56,7 @@ IsUnmatched fs (unmatched.Shared first second annex) = IsRootOf fs first annex �
     (first ≢ second)
 IsUnmatched fs (unmatched.Rootless annex) = (role_at fs annex ≡ role.Annex) × ((p : ℕ) → IsRootOf fs p annex → ⊥)
 
--- it is the first: roots come by number, and after them annexes
+-- these are the first such: roots come by number, and after them annexes
 abbrev pub IsFirstUnmatched : List Frame → Unmatched → Type 0
 IsFirstUnmatched fs (unmatched.Annex root annex) = (p : ℕ) → p < root → IsMatched fs p
 IsFirstUnmatched fs (unmatched.Shared first second annex) =
@@ -64,14 +64,14 @@ IsFirstUnmatched fs (unmatched.Shared first second annex) =
     ((q : ℕ) → first < q → q < second → IsRootOf fs q annex → ⊥)
 IsFirstUnmatched fs (unmatched.Rootless annex) = ((p : ℕ) → IsMatched fs p) × ((a : ℕ) → a < annex → HasRoot fs a)
 
--- the reason of a fault holds for what it names among frames, which is the first, and no lesser reason holds
+-- what a fault names among frames is the first place where its reason holds, and no lesser reason holds
 abbrev pub BreaksFrames : List Frame → ImageFault → Type 0
 BreaksFrames fs (fault.Sectors f) = ⊥
 BreaksFrames fs (fault.Capability m) = IsFirstMisnamed fs m
 BreaksFrames fs (fault.Process u) = AreNamed fs × IsUnmatched fs u × IsFirstUnmatched fs u
 BreaksFrames fs (fault.Bank u) = AreNamed fs × AreWholeProcesses fs × IsUnbanked fs u
 
--- the reason of a fault holds for what it names, in `size` sectors of an image or in the frames that they hold
+-- the reason of a fault holds for what the fault names, in `size` sectors of an image or in the frames that they hold
 abbrev pub Breaks : ℕ → Image → ImageFault → Type 0
 Breaks size c (fault.Sectors f) = BreaksSectors size c f
 Breaks size c f = (saved : SavedFrames) × Holds size c saved × BreaksFrames saved.frames f

@@ -12,27 +12,27 @@ use Rattle.image_explainer.specs.declared.fault.Misnamed.{Misnamed}
 use Rattle.image_explainer.specs.declared.fault.Unmatched.{Unmatched}
 use Rattle.image_explainer.specs.Breaking.{BreaksFrames, IsFirstMisnamed, IsFirstUnmatched, IsUnmatched}
 
--- the first capability that names what it can't, or none where all are named
+-- the first capability that isn't as `IsNamed` requires; `None` if all are
 abbrev pub NamesOr : List Frame → Option Misnamed → Type 0
 NamesOr fs None = AreNamed fs
 NamesOr fs (Some m) = IsFirstMisnamed fs m
 
--- a capability of this holder, before which it has none that names what it can't
+-- a capability of this holder, whose capabilities before it are all as `IsNamed` requires
 pub record IsFirstOf (fs : List Frame) (holder : ℕ) (m : Misnamed) : Type 0 where
   pub own : m.holder ≡ holder
   pub here : (k : ℕ) → k < m.index → IsNamed fs (cap_at (caps_in (frame_at fs m.holder).content) k)
 
--- the first root and annex that don't belong together, or none where processes are whole
+-- the first root and annex that don't belong together; `None` if all processes are whole
 abbrev pub MatchesOr : List Frame → Option Unmatched → Type 0
 MatchesOr fs None = AreWholeProcesses fs
 MatchesOr fs (Some u) = IsUnmatched fs u × IsFirstUnmatched fs u
 
--- a fault, or none where frames are consistent
+-- a fault that frames have; `None` if they are consistent
 abbrev pub IsConsistentOr : List Frame → Option ImageFault → Type 0
 IsConsistentOr fs None = AreNamed fs × AreWholeProcesses fs × AreBanked fs
 IsConsistentOr fs (Some f) = BreaksFrames fs f
 
--- the annex that is noted of a number
+-- the annex in the note of a number, if it has a note
 abbrev pub annex_in_note : Option Noted → Option ℕ
 annex_in_note None = None
 annex_in_note (Some note) = Some note.annex

@@ -45,11 +45,11 @@ sector_reason (fault.Header sector part) = bad.BadHeader
 sector_reason (fault.Directory sector part) = bad.BadDirectory
 sector_reason (fault.Frame number is_page part) = bad.BadFrame
 
--- the number at a byte
+-- the number in the eight bytes from `at` on
 abbrev pub number_at : List ℕ → ℕ → ℕ
 number_at bytes at = number_from (drop at bytes)
 
--- reason 2: the first that is wrong in sector 0: the magic, the version, or the zeros at its end
+-- reason 2: the first wrong part of sector 0: the magic, the version, or the zeros at its end
 abbrev pub BreaksMark : List ℕ → SuperblockPart → Type 0
 BreaksMark bytes superblock.Magic = take 8 bytes ≡ codes "EROSCKPT" → ⊥
 BreaksMark bytes superblock.Version =
@@ -68,7 +68,7 @@ geometry_in bytes = record { nodes = number_at bytes 16; pages = number_at bytes
 abbrev pub IsWithin : ℕ → ℕ → ℕ → Type 0
 IsWithin least most n = (least ≤ n) × (n ≤ most)
 
--- reason 3: the first number outside its limits; or none is, and the places aren't those of a superblock
+-- reason 3: the first number outside its limits; or all are within, but no superblock has these places
 abbrev pub BreaksGeometry : List ℕ → GeometryPart → Type 0
 BreaksGeometry bytes (geometry.Nodes n) = (n ≡ number_at bytes 16) × IsOutside 16 4096 n
 BreaksGeometry bytes (geometry.Pages n) =
@@ -123,7 +123,7 @@ BreaksDirectory g es (entry.Order k object before) =
 BreaksDirectory g es (entry.Shared j k slot) = (j < k) × (k < length es) × ((entry_at es j).slot ≡ slot) ×
     ((entry_at es k).slot ≡ slot)
 
--- an entry is as it must be, and so it stands after those before it
+-- entry k is right by itself, and among the entries before it
 pub record IsAmong (g : Geometry) (es : List Entry) (k : ℕ) : Type 0 where
   pub own : IsEntry g (entry_at es k)
   pub rises : 1 ≤ k → (entry_at es (k - 1)).object < (entry_at es k).object
@@ -135,7 +135,7 @@ entry_of (entry.Slot k slot) = k
 entry_of (entry.Order k object before) = k
 entry_of (entry.Shared j k slot) = k
 
--- the entry is the first with which something is wrong
+-- this entry is the first wrong one
 abbrev pub IsFirstEntry : Geometry → List Entry → DirectoryPart → Type 0
 IsFirstEntry g es part = (j : ℕ) → j < entry_of part → IsAmong g es j
 
@@ -143,12 +143,12 @@ IsFirstEntry g es part = (j : ℕ) → j < entry_of part → IsAmong g es j
 abbrev pub HoldsCap : Geometry → ℕ → List ℕ → ℕ → Type 0
 HoldsCap g age bytes k = (c : Cap) × IsKeptCap g age c × (take 24 (drop (32 + 24 * k) bytes) ≡ capability_bytes c)
 
--- the first slot of a node's frame that has none
+-- the first slot of a node's frame without a capability that can be kept
 abbrev pub IsBadSlot : Geometry → ℕ → List ℕ → ℕ → Type 0
 IsBadSlot g age bytes slot =
     (slot < 32) × (HoldsCap g age bytes slot → ⊥) × ((k : ℕ) → k < slot → HoldsCap g age bytes k)
 
--- reason 7: the first that is wrong: a count is above the age, a slot has no capability, or none of this is so and the
+-- reason 7: the first wrong part: a count above the age, a slot without a capability; or neither is wrong, but the
 -- frame can't be kept
 abbrev pub BreaksFrame : Geometry → ℕ → ℕ → List ℕ → FramePart → Type 0
 BreaksFrame g age n bytes (frame.Allocations count most) = (count ≡ number_at bytes 8) × (most ≡ age) × (most < count)

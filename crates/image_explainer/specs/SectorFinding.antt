@@ -19,11 +19,11 @@ use Rattle.image_explainer.specs.SectorBreaking.{BreaksFrame, BreaksGeometry, Br
 use Rattle.image_explainer.specs.SectorBreaking.{IsBadSlot, IsNotCounted}
 use Rattle.image_explainer.specs.SectorBreaking.{number_at}
 
--- bytes are a copy of the sectors of an image, as many as they have
+-- these bytes are a copy of the first sectors of an image
 abbrev pub IsCopy : Image → List ℕ → Type 0
 IsCopy image bytes = AreSectors image 0 bytes
 
--- the frame of an object can be kept
+-- the bytes of object n's frame encode one that can be kept
 abbrev pub IsWholeFrame : Image → Plan → CheckpointHeader → List Entry → ℕ → Type 0
 IsWholeFrame image p h es n = (f : Frame) × IsFrameOf p.geometry h.age n (frame_in image p h.generation es n) f
 
@@ -34,14 +34,14 @@ IsWhole size image =
     image p h es
     × ((n : ℕ) → n < p.geometry.nodes + p.geometry.pages → IsWholeFrame image p h es n)
 
--- a sector isn't a superblock's
+-- a sector is no superblock, and this part of it is wrong
 abbrev pub BreaksSector : List ℕ → SectorFault → Type 0
 BreaksSector bytes (fault.Superblock part) = (HasMark bytes → ⊥) × BreaksMark bytes part
 BreaksSector bytes (fault.Geometry part) = HasMark bytes × ((p : Plan) → IsPlan p → bytes ≡ superblock_bytes p → ⊥) ×
     BreaksGeometry bytes part
 BreaksSector bytes _ = ⊥
 
--- of the bytes of two headers and their gates: the slot of the committed one, and its bytes
+-- from the bytes of two headers and their gates: the committed slot; the header in it
 abbrev pub slot_of : List ℕ → List ℕ → List ℕ → List ℕ → Option ℕ
 slot_of first first_gate second second_gate =
     committed_of (does_count first first_gate 0) (sequence_in first) (does_count second second_gate 1)
@@ -55,7 +55,7 @@ HasHeaderIn log first first_gate second second_gate h =
     (slot : ℕ) × (slot < 2) × (slot_of first first_gate second second_gate ≡ Some slot) × IsHeader log h ×
     (picked slot first second ≡ header_bytes h)
 
--- the header in a sector is none
+-- the bytes of a sector encode no header, and this part of them is wrong
 abbrev pub RefusesHeader : ℕ → ℕ → List ℕ → SectorFault → Type 0
 RefusesHeader sector log bytes (fault.Header at part) = (at ≡ sector) ×
     ((h : CheckpointHeader) → IsHeader log h → bytes ≡ header_bytes h → ⊥) × BreaksHeader log bytes part
@@ -73,7 +73,7 @@ HasNoneIn log first first_gate second second_gate f =
 abbrev pub IsSlotOf : List Entry → ℕ → Type 0
 IsSlotOf es slot = (k : ℕ) × (k < length es) × ((entry_at es k).slot ≡ slot)
 
--- what is wrong with the slots of a node's frame, or that nothing is
+-- which slot of a node's frame is wrong; `Body` says that none is
 abbrev pub BreaksSlots : Geometry → ℕ → List ℕ → FramePart → Type 0
 BreaksSlots g age bytes (frame.Count slot count most) =
     IsBadSlot g age bytes slot × (count ≡ number_at bytes (48 + 24 * slot)) × (most ≡ age) × (most < count)
@@ -81,7 +81,7 @@ BreaksSlots g age bytes (frame.Slot slot) = IsBadSlot g age bytes slot × (numbe
 BreaksSlots g age bytes frame.Body = (k : ℕ) → k < 32 → HoldsCap g age bytes k
 BreaksSlots g age bytes _ = ⊥
 
--- bytes are a frame that can be kept, or which part of them is wrong
+-- these bytes encode a frame that can be kept; or this part of them is wrong
 abbrev pub FitsOr : Geometry → ℕ → ℕ → List ℕ → Option FramePart → Type 0
 FitsOr g age n bytes None = (f : Frame) × IsFrameOf g age n bytes f
 FitsOr g age n bytes (Some part) = ((f : Frame) → IsFrameOf g age n bytes f → ⊥) × BreaksFrame g age n bytes part

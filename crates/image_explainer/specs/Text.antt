@@ -67,7 +67,7 @@ header_part_text header.Bytes = codes ": the magic is not EROSHEAD, or a byte is
 abbrev pub header_text : ℕ → HeaderPart → List ℕ
 header_text sector part = numbered (codes "header in sector") sector ++ header_part_text part
 
--- entries count from 0
+-- the text of what is wrong with a directory; entries are counted from 0
 abbrev pub directory_part_text : DirectoryPart → List ℕ
 directory_part_text (entry.Object k object) = numbered (codes ", entry") k ++ codes ": there is no object" ++ 32 ∷
     decimal object
@@ -152,6 +152,6 @@ place_text (fault.Capability m) = holder_text m.role m.holder m.index ++ misname
 place_text (fault.Process u) = unmatched_text u
 place_text (fault.Bank u) = unbanked_text u
 
--- the place, what is wrong there, and the number of the reason
+-- the text of a fault: the place, what is wrong there, and the number of the reason
 unfoldable pub fault_text : ImageFault → List ℕ
 fault_text f = place_text f ++ codes " (bad image" ++ 32 ∷ decimal (reason_number (reason_of f)) ++ codes ")"

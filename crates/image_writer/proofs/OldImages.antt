@@ -1,4 +1,4 @@
--- What is left of an image whose gates are closed.
+-- What an image holds while its gates are closed.
 use Rattle.image_writer.proofs.Names.{nat_tests, ℕ, List, sym, arith, Image, Entry, directory_in, frame_in, sectors_from, Plan, IsPlan, same_sectors}
 use Rattle.image_writer.proofs.Names.{places_within, KeepsImage, half_behind, frames_behind, Holds, SavedFrames, KeptHoldsTheSame, NoneIsHeld}
 use Rattle.std.proofs.Common.{◌≡◌, ◌+◌, ◌<◌, ◌≤◌}

@@ -1,19 +1,19 @@
--- What is written of a home.
+-- What is written to a home, or to a slot of the log.
 use Rattle.image_writer.specs.Names.{ℕ, List, Frame, frame_at, Image, frame_bytes}
 use Rattle.image_writer.specs.Names.{home_place, place_length, shape_of, bytes_at, shape_bytes, Plan, IsObject, EndsInZeros}
 use Rattle.image_writer.specs.Names.{sectors_from}
 use Rattle.std.specs.Prelude.{◌≡◌}
 
--- bytes are the frames of all that have the home of a number
+-- these bytes have the frames of all objects with the home of `number`
 abbrev pub AreFramesOf : Plan → List Frame → ℕ → List ℕ → Type 0
 AreFramesOf p frames number bytes = (a : ℕ) → IsObject p.geometry a → home_place p a ≡ home_place p number →
     shape_bytes (shape_of p a) bytes ≡ frame_bytes p.geometry a (frame_at frames a)
 
--- the block in the sectors from one on has zeros after the frames of all that have the home of a number
+-- the block from sector `at` on has zeros after the frames of all objects with the home of `number`
 abbrev pub HasZeros : Plan → ℕ → ℕ → Image → Type 0
 HasZeros p number at image = EndsInZeros p number (sectors_from image at (place_length p number))
 
--- the frames of all that have its home lie in the sectors from one on, and zeros after them
+-- the block from sector `at` on has the frames of all objects with the home of `number`, and zeros after them
 pub record LieAt (p : Plan) (frames : List Frame) (number at : ℕ) (image : Image) : Type 0 where
   pub frame : (a : ℕ) → IsObject p.geometry a → home_place p a ≡ home_place p number →
       bytes_at image at p a ≡ frame_bytes p.geometry a (frame_at frames a)

@@ -19,7 +19,7 @@ first_header age = record { sequence = 0; generation = 0; entries = 0; age = age
 abbrev pub first_state : Plan → ℕ → List Frame → SavedState
 first_state p age frames = record { plan = p; header = first_header age; directory = []; frames = frames }
 
--- and what it saves
+-- the saved frames of a fresh image
 abbrev pub first_saved : Geometry → ℕ → List Frame → SavedFrames
 first_saved g age frames = record { geometry = g; frames = frames; generation = 0; entries = 0; age = age }
 
@@ -33,7 +33,7 @@ abbrev pub AreHome : Plan → List Frame → ℕ → Image → Type 0
 AreHome p frames n image = (a : ℕ) → a < n → bytes_at image (home_place p a) p a ≡ frame_bytes p.geometry a
     (frame_at frames a)
 
--- in the slots of the first n entries lie the frames of all that have the homes of their objects
+-- the slots of the first n entries have the frames of all objects that share a home with the entry's object
 abbrev pub AreInSlots : Plan → ℕ → List Entry → List Frame → ℕ → Image → Type 0
 AreInSlots p generation es frames n image = (j : ℕ) → j < n →
     LieAt p frames (entry_at es j).object (slot_sector p generation (entry_at es j).slot) image
@@ -59,20 +59,20 @@ pub record IsWritten (p : Plan) (h : CheckpointHeader) (es : List Entry) (frames
         (frame_at frames a)
     pub zeros : EndInZeros p h.generation es image
 
--- ---- what a crash leaves on the way
+-- ---- what a crash leaves while an image is written
 
--- both gates are closed
+-- a crash leaves both gates closed
 abbrev pub LeavesClosed : Disk → Type 0
 LeavesClosed disk = (c : Image) → disk.may_leave c → AreClosed c
 
--- what a crash could have left before: the gates alone may be others, and the committed header is the same
+-- c equals an image that a crash may leave, except perhaps in its gates, and has the same committed header
 abbrev pub WasBefore : Disk → Image → Type 0
 WasBefore disk c = (d : Image) × disk.may_leave d × KeepsImage d c
 
--- that, or what has no committed header and so can't be opened
+-- c is such an image, or has no committed header and so can't be opened
 abbrev pub IsBeforeOrNone : Disk → Image → Type 0
 IsBeforeOrNone disk c = WasBefore disk c ⊎ HasNoHeader c
 
--- or the fresh image, whole
+-- c is such an image, or has no committed header, or holds all of the fresh image
 abbrev pub IsLeftWriting : Disk → SavedFrames → Image → Type 0
 IsLeftWriting disk saved c = WasBefore disk c ⊎ HasNoHeader c ⊎ Holds disk.sectors c saved

@@ -1,4 +1,4 @@
--- What an observer made of a run, and how the command ends.
+-- Where an observer ended a run, and how the command ends.
 use Rattle.jobs.proofs.Names.{Written, ℕ, Bool, true, false, List, [], Option, None, Some, Ok, Err, refl, sym, ⊎_elim, Geometry, Up, opened, Turn, Disk, Parts}
 use Rattle.jobs.proofs.Names.{OpenFault, View, Stop, Tracer, AreSeen, Ends, Sees, RunFault, Fault, HasStop, IsRunEnd, OpensAndRuns, OpensAndSees, RunsImage}
 use Rattle.jobs.proofs.Names.{SeesImage, Result, IfErr, SavesImage}

@@ -40,7 +40,7 @@ sizes_text growth.Nodes = codes "eros: too few nodes"
 sizes_text growth.Pages = codes "eros: too few pages"
 sizes_text growth.NoMemory = codes "eros: no memory"
 
--- a stage of saving was refused
+-- the text if a stage of saving was refused
 abbrev pub not_saved_text : Refusal → List ℕ
 not_saved_text why = spaced (codes "eros: not saved:" ∷ refusal_text why ∷ [])
 
@@ -61,14 +61,14 @@ fault_text (fault.Sizes why) = sizes_text why
 fault_text (fault.NotSaved why) = not_saved_text why
 fault_text (fault.NoProcess p) = spaced (codes "eros: no process" ∷ decimal p ∷ [])
 
--- in JSON
+-- the same in JSON
 abbrev pub open_json : OpenFault → List ℕ
 open_json opening.Failed = text_object (codes "fault") (codes "device failed") []
 open_json opening.NoMemory = text_object (codes "fault") (codes "no memory") []
 open_json (opening.Bad reason) = text_object (codes "fault") (codes "bad image")
     (member.Number key.Reason (reason_number reason) ∷ [])
 
--- of a command that only reads an image; those of others have one name each
+-- a fault in JSON, of a command that only reads an image; the faults of other commands have one name each
 abbrev pub fault_json : Fault → List ℕ
 fault_json fault.CannotReadDescription = text_object (codes "fault") (codes "cannot read description") []
 fault_json fault.NotToml = text_object (codes "fault") (codes "bad description") []
@@ -124,8 +124,8 @@ abbrev pub IsReported : Result (Unit {0}) Fault → Written → Written → Type
 IsReported (Ok a) old new = new ≡ old
 IsReported (Err why) old new = (wrote : Result (Unit {0}) RunFault) × Writes old new wrote (line_of (fault_text why))
 
--- The status of a command once the buffer of its output is passed on, or can't be: the status before, and an empty
--- buffer where it is passed on; or 1, where it isn't and the status was 0.
+-- The status of a command after the buffer of its output was passed on: the same as before, and the buffer is empty.
+-- If the buffer can't be passed on, the status is 1 if it was 0, else the same.
 abbrev pub PassesOn : Result (Unit {0}) RunFault → ℕ → ℕ → List ℕ → Result (Unit {0}) Fault → Type 0
 PassesOn (Ok a) before after left outcome = (outcome ≡ Ok tt) × (after ≡ before) × (left ≡ [])
 PassesOn (Err e) before after left (Ok a) = (after ≡ before) × (before ≢ 0)

@@ -56,7 +56,7 @@ UpgradesAndTells l disk new_disk old before new Reported =
     (done : Upgrades l (disk old) (new_disk before) (new_disk new)) × Reported
     (line_of (upgraded_text l (new_plan l done.state.plan).total))
 
--- an image was written in a new layout, and its total; or the total couldn't be written whole; or no image was
+-- an image was written in a new layout, and its total; or the total couldn't be written whole; or no image was written
 abbrev pub UpgradesImage : {D E : Type 0} → NewLayout → (D → Disk) → (E → Disk) → D → E → E → Written → Written →
     Result (Unit {0}) Fault → Type 0
 UpgradesImage l disk new_disk old before new output output_left (Ok a) = UpgradesAndTells l disk new_disk old before new
@@ -83,7 +83,7 @@ module _ {D S : Type 0} (disk : D → Disk) (view : S → View D) (parts : S →
       last input input_left output output_left outcome
       × IsDeviceOf disk view parts last back
 
-  -- so it was, and an observer saw each turn
+  -- a kernel was opened and a script run over it in this way, and an observer saw each turn
   abbrev pub OpensAndSees : {O : Type 0} → (Geometry → Turn → O → O → Bool → Type 0) → D → D → O → O
       → Option (List ℕ) → Option (List ℕ) → Written → Written → Result (Unit {0}) RunFault → Type 0
   OpensAndSees sees device back before after input input_left output output_left outcome =
@@ -91,7 +91,7 @@ module _ {D S : Type 0} (disk : D → Disk) (view : S → View D) (parts : S →
       × RunsSeen disk view parts sees first last before after input input_left output output_left outcome × IsDeviceOf
       disk view parts last back
 
-  -- so it was; or the device wasn't opened, nothing was read or written, and the observer saw nothing
+  -- a script was run and seen in this way; or the device wasn't opened, and nothing was read, written or seen
   abbrev pub SeesImage : {O : Type 0} → (Geometry → Turn → O → O → Bool → Type 0) → D → D → O → O
       → Option (List ℕ) → Option (List ℕ) → Written → Written →
       Result (Result (Unit {0}) RunFault) OpenFault → Type 0
@@ -100,14 +100,14 @@ module _ {D S : Type 0} (disk : D → Disk) (view : S → View D) (parts : S →
   SeesImage sees device back before after input input_left output output_left (Err why) =
       RefusesToOpen disk device back why × (input_left ≡ input) × (output_left ≡ output) × (after ≡ before)
 
-  -- the outcome of a command that runs a script: the run that its observer saw, and where that ended it
+  -- the outcome of a command that runs a script: the run that its observer saw, and where the observer ended it
   abbrev pub EndsAs : {O : Type 0} → (Geometry → Turn → O → O → Bool → Type 0) → (O → Option Stop) → D → D → O → O
       → Option (List ℕ) → Option (List ℕ) → Written → Written → Result (Unit {0}) Fault → Type 0
   EndsAs sees stop device back before after input input_left output output_left result =
       (outcome : Result (Result (Unit {0}) RunFault) OpenFault) × IsRunEnd outcome (stop after) result
       × SeesImage sees device back before after input input_left output output_left outcome
 
-  -- so it was; or the device wasn't opened, and nothing was read or written, there either
+  -- a script was run over a kernel in this way; or the device wasn't opened, and nothing was read or written
   abbrev pub RunsImage : D → D → Option (List ℕ) → Option (List ℕ) → Written → Written →
       Result (Unit {0}) Fault → Type 0
   RunsImage device back input input_left output output_left (Ok a) = OpensAndRuns device back input input_left output
@@ -120,15 +120,15 @@ module _ {D S : Type 0} (disk : D → Disk) (view : S → View D) (parts : S →
       × (input_left ≡ input) × (output_left ≡ output)
   RunsImage device back input input_left output output_left (Err _) = ⊥
 
--- a device was opened with no failure, nothing was written to it at any moment, and `Reported` holds of what is saved
--- on it
+-- a device was opened with no failure, nothing was written to it at any moment, and `Reported` holds of the line about
+-- what it saves
 abbrev pub TellsSaved : {D : Type 0} → Format → (D → Disk) → D → D → (List ℕ → Type 0) → Type 0
 TellsSaved f disk device back Reported =
     (geometry : Geometry) × (saved : Saved) × Denotes geometry (disk device).sectors (disk device).seen saved × Reported
     (line_of (checked_text f saved.generation saved.world.age saved.entries))
     × OnlyReads (disk device) (disk back) × ((disk back).failures ≡ (disk device).failures)
 
--- so it was; or that couldn't be written whole; or the device wasn't opened
+-- the line about a device was written; or couldn't be written whole; or the device wasn't opened
 abbrev pub ChecksImage : {D : Type 0} → Format → (D → Disk) → D → D → Written → Written →
     Result (Unit {0}) Fault → Type 0
 ChecksImage f disk device back output output_left (Ok a) = TellsSaved f disk device back (Wrote output output_left)

@@ -12,26 +12,26 @@ abbrev pub saved_text : Result Answer Refusal → List ℕ
 saved_text (Ok a) = printed a
 saved_text (Err why) = line_of (refusal_text why)
 
--- how the command ends, by whether that was written
+-- how the command ends: by whether this text was written, and then by whether all was saved
 abbrev pub saved_end : Result Answer Refusal → Result (Unit {0}) RunFault → Result (Unit {0}) Fault
 saved_end saved (Err e) = Err fault.CannotWriteOutput
 saved_end (Ok a) (Ok u) = Ok u
 saved_end (Err why) (Ok u) = Err (fault.NotSaved why)
 
--- the end of the run where that is a fault, and else of saving
+-- the fault of the run if it has one, else the end of saving
 abbrev pub first_fault : Result (Unit {0}) Fault → Result (Unit {0}) Fault → Result (Unit {0}) Fault
 first_fault (Ok a) saved = saved
 first_fault (Err why) saved = Err why
 
 -- The parameters are ghost members of a device and of an object store.
 module _ {D S : Type 0} (disk : D → Disk) (view : S → View D) (parts : S → Parts) where
-  -- all was saved, or a stage was refused, and that was written
+  -- all was saved, or a stage was refused, and the answer was written
   abbrev pub SavesAndTells : Power D S → Power D S → Written → Written → Result (Unit {0}) Fault → Type 0
   SavesAndTells old new output output_left end =
       (saved : Result Answer Refusal) × Saves disk view parts old new saved
       × (wrote : Result (Unit {0}) RunFault) × Writes output output_left wrote (saved_text saved) × (end ≡ saved_end saved wrote)
 
-  -- so it was where the script was read to its end; and else nothing more was done
+  -- if the script was read to its end, all was saved in this way; else nothing more was done
   abbrev pub SavesIf : Result (Unit {0}) RunFault → Power D S → Power D S → Written → Written → Result (Unit {0}) Fault →
       Type 0
   SavesIf (Ok a) old new output output_left end = SavesAndTells old new output output_left end
@@ -49,7 +49,7 @@ module _ {D S : Type 0} (disk : D → Disk) (view : S → View D) (parts : S →
   SavesImage sees device back before after input input_left output output_left (Err why) end =
       RefusesToOpen disk device back why × (input_left ≡ input) × (output_left ≡ output) × (after ≡ before)
 
-  -- the outcome of such a command
+  -- the outcome of a command that runs a script and then saves all
   abbrev pub EndsSaved : {O : Type 0} → (Geometry → Turn → O → O → Bool → Type 0) → (O → Option Stop) → D → D → O → O
       → Option (List ℕ) → Option (List ℕ) → Written → Written → Result (Unit {0}) Fault → Type 0
   EndsSaved sees stop device back before after input input_left output output_left result =

@@ -7,7 +7,7 @@ use Rattle.std.specs.Prelude.{◌≡◌, ◌||◌}
 abbrev pub unsaved_text : List ℕ
 unsaved_text = codes "eros: some invocations or stores are not committed"
 
--- a line is written, as far as it can be written, or none is
+-- if the flag is set, a line is written, as far as it can be written
 abbrev pub TellsIf : Bool → List ℕ → Written → Written → Type 0
 TellsIf true text old new = (wrote : Result (Unit {0}) RunFault) × Writes old new wrote (line_of text)
 TellsIf false text old new = new ≡ old

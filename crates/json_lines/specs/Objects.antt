@@ -39,7 +39,7 @@ member_text (member.Number k n) = named_value (key_text k) (decimal n)
 member_text (member.Capability k c) = named_value (key_text k) (quoted (capability_text c))
 member_text (member.No k) = named_value (key_text k) (codes "false")
 
--- a member after another
+-- the text of a member that isn't the first
 abbrev pub next_text : Member → List ℕ
 next_text m = codes ", " ++ member_text m
 

@@ -1,5 +1,4 @@
--- Which numbers were renewed since the last checkpoint or restart. From a store that serves to a machine that is up or down, and what a
--- crash leaves.
+-- Which numbers were renewed since the last checkpoint or restart. The machine of a store, up or down, and what a crash leaves.
 use Rattle.kernel.proofs.Names.{ℕ, Bool, true, false, not, List, length, map, refl, sym, ap, arith, range_with_len, get_or-map, ne_eqb, ext_get_or}
 use Rattle.kernel.proofs.Names.{get_or-map-range_with_len, length-map-range_with_len, Cap, Frame, ObjectHeader, Content, blank_frame, frame_at, frames_in}
 use Rattle.kernel.proofs.Names.{header_at, renewing, is_given_up, Parts, Renews, frames_of, objects_in, headers_in, Snapshots, moved_saved, FrozenFrames}

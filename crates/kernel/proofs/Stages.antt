@@ -1,4 +1,4 @@
--- Steps of the machine: evictions, the stages of a checkpoint, and what opens it. What is sound stays sound through each stage.
+-- Steps of the machine: evictions, the stages of a checkpoint, and openings. Sound frames stay sound through each stage.
 use Rattle.kernel.proofs.Names.{ℕ, Bool, true, Option, None, Some, List, [], refl, sym, ap, subst, arith, nat_tests, Geometry, Frozen, Saved, Running, Up}
 use Rattle.kernel.proofs.Names.{touched_count, untouched, object_count, Step, carried_out, committed, refusal_of, second, World, option_map, Frame}
 use Rattle.kernel.proofs.Names.{objects_of, AreKeepable, IsSoundFrames, world_at, IsSound, Snapshots, freezing, moved_saved, next_saved, all_frozen, whole}

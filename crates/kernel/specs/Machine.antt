@@ -7,7 +7,7 @@ use Rattle.std.specs.Prelude.{◌≡◌, ◌↔◌, ◌<◌, ◌≤◌}
 use Rattle.model.specs.declared.answer.Answer.TheVariants as answer
 use Rattle.model.specs.declared.answer.Refusal.TheVariants as refusal
 
--- the machine whose objects now are those of present frames
+-- the machine that is up with these present frames
 abbrev pub machine_at : ℕ → Parts → List Bool → Option Frozen → Saved → ℕ → Machine
 machine_at age p renewed frozen saved to_move =
     Up (record {
@@ -19,21 +19,21 @@ machine_at age p renewed frozen saved to_move =
       to_move = to_move;
     })
 
--- those of a set of numbers, and those whose objects are rescinded from some parts to others
+-- a set of renewed numbers, with those added whose objects are rescinded from old to new
 abbrev pub renewed_by : List Bool → Parts → Parts → List Bool
 renewed_by renewed old new = renewing renewed (objects_in old) (objects_in new)
 
--- what a step is answered by
+-- the answer to a step: its own, or the refusal
 abbrev pub answer_of : Result Answer Refusal → Answer
 answer_of (Ok a) = a
 answer_of (Err why) = answer.Refused why
 
--- what an invocation is answered by
+-- the answer to an invocation: done, or the refusal
 abbrev pub answer_with : Result (Option ResultCode) Refusal → Answer
 answer_with (Ok code) = answer.Done
 answer_with (Err why) = answer.Refused why
 
--- the result code beside an answer to an invocation
+-- the result code that comes with an answer to an invocation
 abbrev pub code_with : Geometry → List Object → Invocation → Answer → Option ResultCode
 code_with g os i answer.Done = result_code g os i
 code_with g os i _ = None
@@ -50,14 +50,14 @@ abbrev pub MakesNoDeviceCall : Answer → Type 0
 MakesNoDeviceCall (answer.Refused why) = NeedsNoDeviceCall why
 MakesNoDeviceCall _ = ⊥
 
--- sound frames at an age, in the same geometry, where allocations are counted on
+-- the frames are sound at an age, in the same geometry, and allocation counts rise with each object that is freed
 pub record StaysSound (old new : Parts) (age : ℕ) : Type 0 where
   pub renews : Renews old new
   pub sound : IsSoundFrames new.geometry age (frames_of new)
   pub geometry : new.geometry ≡ old.geometry
 
--- from parts at an age to parts at an age a command is answered as the machine answers it, whatever was renewed and is
--- frozen and saved, unless the device fails: then the machine is down, and nothing is said of the parts
+-- a command leads from old to new parts, and its answer is one of the machine's, whatever is renewed, frozen and saved.
+-- If the device fails, the machine is down, and nothing is said of the parts
 pub record Performs (old_age : ℕ) (old : Parts) (c : Command) (a : Answer) (new_age : ℕ) (new : Parts) : Type 0 where
   pub step : (renewed : List Bool) (frozen : Option Frozen) (saved : Saved) (to_move : ℕ) →
       (a ≡ answer.Refused refusal.Fault → ⊥) →
@@ -67,7 +67,7 @@ pub record Performs (old_age : ℕ) (old : Parts) (c : Command) (a : Answer) (ne
   pub later : old.failures ≤ new.failures
   pub cause : (a ≡ answer.Refused refusal.Fault) ↔ (old.failures < new.failures)
 
--- why a process can't act, or nothing where it runs
+-- why number p can't act, or `None` if its process runs
 abbrev pub IsEarly : List Object → ℕ → Option Refusal → Type 0
 IsEarly os p None = (is_process os p ≡ true) × (is_running_process os p ≡ true)
 IsEarly os p (Some refusal.NoProcess) = is_process os p ≡ false

@@ -8,12 +8,12 @@ use Rattle.layout.specs.declared.open_fault.OpenFault.TheVariants as fault
 use Rattle.kernel.specs.Power.{Power}
 use Rattle.kernel.specs.Standing.{Stands, disk_of}
 
--- the refusal where a device isn't opened that a kernel left
+-- the refusal if a kernel can't open its device again
 abbrev pub refused_by : OpenFault → Refusal
 refused_by fault.Failed = refusal.Fault
 refused_by _ = refusal.NoMemory
 
--- a crash leaves one of some saved parts
+-- a crash leaves an image that denotes one of some saved states
 abbrev pub IsSomeDown : {D : Type 0} → (D → Disk) → D → Type 0
 IsSomeDown disk d = (g : Geometry) × (saved : List Saved) × Leaves g (disk d) saved
 
@@ -23,7 +23,7 @@ IsNoReason (fault.Bad reason) = ⊥
 IsNoReason _ = Unit {0}
 
 module _ {D S : Type 0} (disk : D → Disk) (view : S → View D) (parts : S → Parts) where
-  -- a device was opened, and nothing was written: the machine is up at the saved part that its sectors denote, and a
+  -- a device was opened, and nothing was written: the machine is up at the saved state that its sectors denote, and a
   -- crash leaves what a read gives
   pub record Opens (device : D) (p : Power D S) : Type 0 where
     pub geometry : Geometry
@@ -34,7 +34,7 @@ module _ {D S : Type 0} (disk : D → Disk) (view : S → View D) (parts : S →
     pub only_reads : OnlyReads (disk device) (disk_of disk view parts p)
     pub failures : (disk_of disk view parts p).failures ≡ (disk device).failures
 
-  -- a device was opened again; a crash had left one of some saved parts on it
+  -- a device was opened again, which denoted one of these saved states
   pub record Reopened (g : Geometry) (saved : List Saved) (device : D) (a : Answer) (new : Power D S) : Type 0 where
     pub after : Machine
     pub step : Step g (Down saved) command.Restart a after

@@ -7,7 +7,7 @@ pub data Power (D S : Type 0) : Type 0 where
   Down : D → Power D S
   Between : Power D S
 
--- that of a kernel, from its fields
+-- whether the machine of a kernel is up, from the kernel's two fields
 abbrev pub power_of : {D S : Type 0} → Option (Live S) → Option D → Power D S
 power_of (Some l) d = Up l
 power_of None (Some d) = Down d

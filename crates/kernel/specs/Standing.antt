@@ -11,11 +11,11 @@ use Rattle.kernel.specs.Machine.{code_with}
 use Rattle.kernel.specs.Power.{Power}
 use Rattle.kernel.specs.Power as power
 
--- no device
+-- the disk of a kernel without a device
 abbrev pub nothing : Disk
 nothing = record { sectors = 0; seen = λ k. []; may_leave = λ c. ⊥; moment = 0; left_since = λ t c. ⊥; failures = 0 }
 
--- the result code beside an answer: that of an order which an invocation carried out, and else none
+-- the result code that comes with an answer: of the order that an invocation carried out, else none
 abbrev pub reported_code : Geometry → Machine → Command → Answer → Option ResultCode
 reported_code g (Up r) (command.Invoke i) a = code_with g r.now.objects i a
 reported_code g m c a = None
@@ -24,7 +24,7 @@ reported_code g m c a = None
 abbrev pub done_with : Option ResultCode → Served
 done_with code = record { answer = answer.Done; code = code }
 
--- the committed checkpoint of a machine that is up, and none of one that is down
+-- the reported checkpoint is the committed one of a machine that is up; for one that is down, none is reported
 abbrev pub IsCheckpointOf : Machine → Option Checkpoint → Type 0
 IsCheckpointOf (Up r) (Some c) = (c.generation ≡ r.saved.generation) × (c.age ≡ r.saved.world.age)
     × (c.entries ≡ r.saved.entries)
@@ -47,8 +47,8 @@ pub record IsSameDisk (one other : Disk) : Type 0 where
 
 -- The parameters are ghost members of a device and of an object store.
 module _ {D S : Type 0} (disk : D → Disk) (view : S → View D) (parts : S → Parts) where
-  -- from one store to another a command is answered as the machine may answer it, or the device failed; a crash at any
-  -- moment in its course leaves what denotes the saved part, or what the command may save besides
+  -- a command leads from one store to another, and its answer is one of the machine's, or the device failed; a crash at
+  -- any moment during it leaves an image that denotes the saved state, or what the command may save besides
   pub record ServesAt (g : Geometry) (old : Live S) (c : Command) (a : Answer) (new : Live S) : Type 0 where
     pub step : (a ≡ answer.Refused refusal.Fault → ⊥) →
         Step g (Up (running disk view parts old)) c a (Up (running disk view parts new))
@@ -66,7 +66,7 @@ module _ {D S : Type 0} (disk : D → Disk) (view : S → View D) (parts : S →
   disk_of (power.Down d) = disk d
   disk_of power.Between = nothing
 
-  -- the device beneath it
+  -- d is the device beneath a kernel
   abbrev pub IsDeviceOf : Power D S → D → Type 0
   IsDeviceOf (power.Up l) d = d ≡ (view l.store).beneath
   IsDeviceOf (power.Down other) d = d ≡ other
@@ -80,13 +80,13 @@ module _ {D S : Type 0} (disk : D → Disk) (view : S → View D) (parts : S →
   Stands g (power.Down d) (Down saved) = Leaves g (disk d) saved
   Stands g power.Between m = ⊥
 
-  -- it stands for some machine
+  -- a kernel stands for some machine
   abbrev pub IsSomeMachine : Power D S → Type 0
   IsSomeMachine p = (g : Geometry) × (m : Machine) × Stands g p m
 
-  -- From a kernel that stands for a machine to one that stands for the machine after it, a command is answered as the
-  -- machine may answer it; a crash at any moment in its course leaves what denotes a candidate of the machine before,
-  -- or what the command may save besides.
+  -- A command leads from a kernel that stands for m to one that stands for the machine after it, and its answer is one
+  -- of the machine's; a crash at any moment during it leaves an image that denotes a candidate of m, or what the
+  -- command may save besides.
   pub record ServesFrom (g : Geometry) (m : Machine) (old : Power D S) (c : Command) (a : Answer) (new : Power D S) :
       Type 0 where
     pub after : Machine
@@ -94,7 +94,7 @@ module _ {D S : Type 0} (disk : D → Disk) (view : S → View D) (parts : S →
     pub stands : Stands g new after
     pub leaves : LeavesOne g (disk_of old) (disk_of new) (candidates m ++ second m c)
 
-  -- whichever machine it stands for
+  -- the same, for each machine that the old kernel stands for
   abbrev pub Serves : Power D S → Command → Answer → Power D S → Type 0
   Serves old c a new = (g : Geometry) (m : Machine) → Stands g old m → ServesFrom g m old c a new
 
@@ -119,6 +119,6 @@ module _ {D S : Type 0} (disk : D → Disk) (view : S → View D) (parts : S →
   HasDevice power.Between = ⊥
   HasDevice _ = Unit {0}
 
-  -- whichever machine it stands for, its committed checkpoint was reported
+  -- the reported checkpoint is the committed one of each machine that the kernel stands for
   abbrev pub IsReported : Power D S → Option Checkpoint → Type 0
   IsReported p reported = (g : Geometry) (m : Machine) → Stands g p m → IsCheckpointOf m reported

@@ -13,8 +13,8 @@ use recovery::Live;
 
 /// Begins a checkpoint: all objects are frozen as they are, and the age rises by one.
 ///
-/// It is refused by the first that applies of `Worn` at the greatest age, `CheckpointRunning` where
-/// one is on its way, and `MigrationPending` where the last one isn't home.
+/// It is refused by the first that applies: `Worn` at the greatest age, `CheckpointRunning` if a
+/// checkpoint is frozen already, and `MigrationPending` if the last one isn't home.
 #[inline(never)]
 pub fn checkpoint<D: Device, S: ObjectStore<D>>(live: &mut Live<S>) -> Result<Answer, Refusal>
     requires { IsSomeUp D.disk S.view S.parts live.old }

@@ -14,11 +14,11 @@ use recovery::Live;
 /// Saves the present words of a page without a checkpoint. All else that is saved of the page
 /// stays, and so do all other objects. The age rises by one.
 ///
-/// It is refused by the first that applies of `Worn` at the greatest age, `CheckpointRunning` where
-/// a checkpoint is on its way, `MigrationPending` where what is saved isn't home, `BadNumber` where
-/// no object has the number, and `NotJournaled`, with `NotPage` where the object isn't a page, else
-/// with `Renewed` where no page is saved at the number, or the saved one was freed since. `Fault` if
-/// the device failed: then what is saved is the state before, or that with the page.
+/// It is refused by the first that applies: `Worn` at the greatest age, `CheckpointRunning` if a
+/// checkpoint is frozen, `MigrationPending` if a saved object isn't home, `BadNumber` if no object
+/// has the number, and `NotJournaled`, with `NotPage` if the object isn't a page, else with `Renewed`
+/// if no page is saved at the number, or the saved one was freed since. `Fault` if the device failed:
+/// then the saved state is the old one, or that with the page.
 #[inline(never)]
 pub fn journal<D: Device, S: ObjectStore<D>>(
     live: &mut Live<S>,

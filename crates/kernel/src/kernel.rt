@@ -87,7 +87,7 @@ fn go_down<D: Device, S: ObjectStore<D>>(
     *device = Some(closed);
 }
 
-// The refusal if a device isn't opened that a crash of a kernel left.
+// The refusal if a device that a crash of a kernel left isn't opened.
 fn refusal(fault: OpenFault) -> Refusal
     requires { IsNoReason fault }
     ensures why { result ≡ refused_by fault }
@@ -138,7 +138,7 @@ fn rise<D: Device, S: ObjectStore<D>>(
 }
 
 impl<D: Device, S: ObjectStore<D>> Kernel<D, S> {
-    /// Opens a device, and writes nothing to it: the machine is up at the saved part that its
+    /// Opens a device, and writes nothing to it: the machine is up at the saved state that its
     /// sectors denote.
     ///
     /// A refusal gives the device back: `Failed` exactly if the device failed, `NoMemory` only
@@ -262,8 +262,8 @@ impl<D: Device, S: ObjectStore<D>> Kernel<D, S> {
     /// `NoProcess` and `Down` make no call of the device, and neither does `Migrate` if everything saved
     /// is home.
     ///
-    /// A crash at any moment leaves the saved part, or a candidate if the machine is down. In a `Commit`,
-    /// a `Journal`, or the `Migrate` that brings the last object home, it may leave the part that this
+    /// A crash at any moment leaves the saved state, or a candidate if the machine is down. In a `Commit`,
+    /// a `Journal`, or the `Migrate` that brings the last object home, it may leave the state that this
     /// command saves.
     pub fn step(&mut self, command: Command) -> Answer
         ensures serves { Serves D.disk S.view S.parts self.old command result self.new }

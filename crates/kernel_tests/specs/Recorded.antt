@@ -15,6 +15,6 @@ call_of (Got at bytes) = got at bytes.items
 call_of (Resized bytes) = resized bytes
 call_of (Listed path) = listed path.items
 
--- all of them, in order
+-- all recorded calls, in order
 abbrev pub calls_of : List Made → Option (List OpeningCall)
 calls_of made = Some (map call_of made)

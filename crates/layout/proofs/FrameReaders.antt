@@ -1,4 +1,4 @@
--- Bytes that spell a frame are read as that frame.
+-- Bytes that encode a frame are read as that frame.
 use Rattle.layout.proofs.Names.{nat_tests, [], ℕ, Bool, List, length, take, drop, refl, sym, ap, subst, append_assoc, inl, inr, arith, cases_lt, lt-ltb, le-ltb}
 use Rattle.layout.proofs.Names.{drop_at, take-append-le, drop-append-le, length-drop, All-head, All-tail, All, little_number, little_from-take, Cap}
 use Rattle.layout.proofs.Names.{Frame, ObjectHeader, Geometry, Content, Role, IsKeptCap, role_of, role_number, number, number_from, zeros, capability_bytes}

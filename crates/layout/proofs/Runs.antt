@@ -1,4 +1,4 @@
--- The bytes of sectors, by how many sectors they are.
+-- The bytes of sectors, by the number of sectors.
 use Rattle.layout.proofs.Names.{nat_tests, ℕ, List, length, take, drop, arith, Image, sectors_of, sectors_from}
 use Rattle.std.proofs.Common.{◌≡◌, ◌<◌, ◌+◌, ◌*◌, ◌/◌}
 use Rattle.layout.proofs.Sectors.{whole_sectors}

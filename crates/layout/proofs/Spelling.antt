@@ -1,4 +1,4 @@
--- What bytes spell is what is read of them.
+-- Bytes that encode a value are read as that value.
 use Rattle.layout.proofs.Names.{nat_tests, ℕ, List, length, arith, same_lists, length-map-range_with_len, get_or-map-range_with_len, Frame, Geometry, frame_at}
 use Rattle.layout.proofs.Names.{blank_frame, IsKeepable, Image, Entry, CheckpointHeader, IsFrameOf, frame_bytes, frame_from, frame_in, HasPlan, HasHeader}
 use Rattle.layout.proofs.Names.{HasDirectory, Encodes, count_of, frame_read, frames_read, IsSpelt, AreSpelt, Plan}

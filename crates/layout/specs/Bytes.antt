@@ -17,6 +17,6 @@ short_number n = little_bytes 2 n
 unfoldable pub half_number : ℕ → List ℕ
 half_number n = little_bytes 4 n
 
--- bytes of 0
+-- n bytes of 0
 unfoldable pub zeros : ℕ → List ℕ
 zeros n = replicate n 0

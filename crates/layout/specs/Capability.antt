@@ -4,7 +4,7 @@ use Rattle.layout.specs.Names.{Resume, Bank, Discrim, tag_of, access_bits}
 use Rattle.std.specs.Prelude.{◌+◌, ◌*◌, ◌<◌, ◌==◌, if◌then◌else◌, ◌∷◌, ◌++◌}
 use Rattle.layout.specs.Bytes.{number, short_number}
 
--- the fields of a capability, and 0 for those that it hasn't
+-- the fields of a capability; a field that it lacks is 0
 abbrev pub key_of : Capability → ℕ
 key_of (Start p key) = key
 key_of _ = 0
@@ -33,17 +33,17 @@ head_bytes k = (tag_of k ∷ access_bits k ∷ []) ++ short_number (key_of k) ++
 unfoldable pub capability_bytes : Cap → List ℕ
 capability_bytes c = head_bytes c.what ++ number (number_of c.what) ++ number c.count
 
--- the first eight bytes as one number
+-- the first eight bytes of a capability as one number
 abbrev pub head_number : Capability → ℕ
 head_number k = tag_of k + 256 * access_bits k + 65536 * key_of k + 4294967296 * height_of k
 
--- each of them fits its bytes
+-- access, key and height fit their bytes
 pub record HeadFits (k : Capability) : Type 0 where
   pub access : access_bits k < 256
   pub key : key_of k < 65536
   pub height : height_of k < 256
 
--- the capability with a tag, of the fields that it has
+-- the capability with this tag, made of those fields that its kind has
 abbrev pub assembled : ℕ → Access → ℕ → ℕ → ℕ → Capability
 assembled tag access key height n =
     if tag == 0 then Void else

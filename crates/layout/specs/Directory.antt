@@ -26,11 +26,11 @@ pub record IsEntry (g : Geometry) (e : Entry) : Type 0 where
 abbrev pub AreRising : List Entry → Type 0
 AreRising es = (i : ℕ) → i + 1 < length es → (entry_at es i).object < (entry_at es (i + 1)).object
 
--- no slot comes twice
+-- no slot occurs twice
 abbrev pub HaveOwnSlots : List Entry → Type 0
 HaveOwnSlots es = (i j : ℕ) → i < j → j < length es → (entry_at es i).slot ≡ (entry_at es j).slot → ⊥
 
--- what a directory needs
+-- what a directory requires
 pub record IsDirectory (g : Geometry) (es : List Entry) : Type 0 where
   pub each : All (IsEntry g) es
   pub rising : AreRising es

@@ -1,4 +1,4 @@
--- The failures of what reads.
+-- The failures of calls that read.
 use Rattle.std.specs.Prelude.{◌<◌, ◌≤◌, ◌↔◌, Result, IsErrOf}
 use Rattle.device.specs.Disk.{Disk}
 use Rattle.layout.specs.declared.open_fault.OpenFault.{OpenFault}

@@ -12,7 +12,7 @@ use Rattle.layout.specs.declared.body.Scratch.{Scratch}
 use Rattle.layout.specs.Bytes.{number, zeros}
 use Rattle.layout.specs.Capability.{capability_bytes}
 
--- ---- as bytes
+-- ---- frames as bytes
 
 -- the 32 bytes in front of a frame: its role, seven zeros, its counts and its owner
 unfoldable pub front_bytes : ObjectHeader → List ℕ
@@ -27,7 +27,7 @@ abbrev pub root_slots : Root Cap → List Cap
 root_slots r = number_cap r.annex ∷ number_cap (state_number r.state) ∷ map number_cap r.words ++ number_cap r.key ∷
     r.space ∷ []
 
--- the 32 capabilities that a content is kept as, by its role
+-- the 32 capabilities that a node's frame has for a content, by its role
 abbrev pub slots_of : Content Cap → List Cap
 slots_of content.Free = replicate 32 void_held
 slots_of (content.Page words) = replicate 32 void_held
@@ -48,7 +48,7 @@ node_frame_bytes f = front_bytes f.header ++ slots_bytes (slots_of f.content) ++
 unfoldable pub words_bytes : List ℕ → List ℕ
 words_bytes words = flat_map number words
 
--- the 512 words that a content is kept as
+-- the 512 words that a page's frame has for a content
 abbrev pub page_words : Content Cap → List ℕ
 page_words (content.Page words) = words
 page_words _ = zero_words
@@ -61,17 +61,17 @@ page_frame_bytes f = front_bytes f.header ++ zeros 480 ++ words_bytes (page_word
 abbrev pub frame_length : Geometry → ℕ → ℕ
 frame_length g object = if nat_lt object g.nodes then 2 else 9
 
--- its bytes
+-- the bytes of an object's frame
 abbrev pub frame_bytes : Geometry → ℕ → Frame → List ℕ
 frame_bytes g object f = if nat_lt object g.nodes then node_frame_bytes f else page_frame_bytes f
 
--- a frame that can be kept at an age and a number is spelt by bytes
+-- these bytes encode the frame, which can be kept as this object at this age
 abbrev pub IsFrameOf : Geometry → ℕ → ℕ → List ℕ → Frame → Type 0
 IsFrameOf g age object bytes f = IsKeepable g age object f × (bytes ≡ frame_bytes g object f)
 
--- ---- as they are read
+-- ---- frames as they are read
 
--- the content of a body and of the slots or words that were read beside it
+-- the content made of a body and the slots or words that were read with it
 abbrev pub content_of : Body → List Cap → List ℕ → Content Cap
 content_of body.Free slots words = content.Free
 content_of body.Page slots words = content.Page words
@@ -80,15 +80,15 @@ content_of (body.Root root) slots words = content.Root root
 content_of body.Annex slots words = content.Annex slots
 content_of (body.Bank limit) slots words = content.Bank limit
 
--- the frame of a header and a body that were read
+-- the frame made of a header and a body that were read
 abbrev pub frame_of : ObjectHeader × Body → Scratch → Frame
 frame_of read scratch = record { header = read.0; content = content_of read.1 scratch.slots scratch.words }
 
--- the front of a frame with any first eight bytes, as numbers
+-- the front of a frame, with `first` as its first eight bytes
 unfoldable pub front_numbers : ℕ → ObjectHeader → List ℕ
 front_numbers first h = number first ++ number h.allocations ++ number h.calls ++ number h.owner
 
--- the role with a number, or free
+-- the role with this number, or free if there is none
 abbrev pub role_in : ℕ → Role
 role_in n =
     if n == 1 then role.Page else
@@ -97,7 +97,7 @@ role_in n =
     if n == 4 then role.Annex else
     if n == 5 then role.Bank else role.Free
 
--- the number that a capability is, or 0
+-- the number in a number capability, or 0
 abbrev pub number_field : Capability → ℕ
 number_field (Number n) = n
 number_field _ = 0
@@ -111,7 +111,7 @@ cap_at slots i = slice_index_or slots i void_held
 abbrev pub state_in : ℕ → State
 state_in n = if n == 0 then Available else if n == 1 then Running else Waiting
 
--- the root of a process that 32 slots would be
+-- the root that 32 slots decode to
 abbrev pub root_from : List Cap → Root Cap
 root_from slots = record {
   state = state_in (number_held (cap_at slots 1));
@@ -122,7 +122,7 @@ root_from slots = record {
   space = cap_at slots 7;
 }
 
--- the body that a role and 32 slots would be
+-- the body that a role's number and 32 slots decode to
 abbrev pub body_in : ℕ → List Cap → Body
 body_in n slots =
     if n == 2 then body.Node else
@@ -130,11 +130,11 @@ body_in n slots =
     if n == 4 then body.Annex else
     if n == 5 then body.Bank (number_held (cap_at slots 0)) else body.Free
 
--- the body that a role would be in the frame of a page's number
+-- the body that a role's number decodes to in the frame of a page's number
 abbrev pub page_body_in : ℕ → Body
 page_body_in n = if n == 1 then body.Page else body.Free
 
--- ---- what the readers of both kinds require; together it is what can be kept
+-- ---- what the readers of both kinds of frames require: together, exactly the frames that can be kept
 
 -- what a role requires of its 32 slots
 abbrev pub FollowsRole : Content Cap → Type 0
@@ -145,24 +145,24 @@ FollowsRole (content.Root root) = (length root.words ≡ 4) × (root.key < 2 ^ 1
 FollowsRole (content.Annex registers) = slice_index_or registers 0 void_held ≡ void_held
 FollowsRole (content.Bank limit) = Unit {0}
 
--- a content is that of a role's number and of 32 slots
+-- a role's number and 32 slots encode this content
 pub record IsBody (n owner : ℕ) (slots : List Cap) (c : Content Cap) : Type 0 where
   pub role_is : n ≡ role_number (role_of c)
   pub slots_are : slots ≡ slots_of c
   pub follows : FollowsRole c
   pub unowned : IsTrue (is_free c) → owner ≡ 0
 
--- a role's number and 512 words are those of a page, or of a free number
+-- a role's number and 512 words encode a page, or a free number
 abbrev pub IsPageBody : ℕ → ℕ → List ℕ → Type 0
 IsPageBody n owner words = (n ≡ 1) ⊎ ((n ≡ 0) × (owner ≡ 0) × (words ≡ zero_words))
 
--- a content of a page's number
+-- a content that a page's number may have
 abbrev pub HoldsPage : Content Cap → Type 0
 HoldsPage content.Free = Unit {0}
 HoldsPage (content.Page words) = AreKeptWords 512 words
 HoldsPage _ = ⊥
 
--- what every frame needs
+-- what every frame requires
 pub record IsFront (age : ℕ) (f : Frame) : Type 0 where
   pub role : f.header.role ≡ role_of f.content
   pub allocations : IsCount age f.header.allocations
@@ -170,13 +170,13 @@ pub record IsFront (age : ℕ) (f : Frame) : Type 0 where
   pub owner : f.header.owner < 2 ^ 64
   pub unowned : IsTrue (is_free f.content) → f.header.owner ≡ 0
 
--- what a frame with the number of a node needs
+-- what a frame with the number of a node requires
 pub record IsNodeFrame (g : Geometry) (age : ℕ) (f : Frame) : Type 0 where
   pub front : IsFront age f
   pub slots : AreKeptSlots g age (slots_of f.content)
   pub follows : FollowsRole f.content
 
--- what a frame with the number of a page needs
+-- what a frame with the number of a page requires
 pub record IsPageFrame (age : ℕ) (f : Frame) : Type 0 where
   pub front : IsFront age f
   pub holds : HoldsPage f.content

@@ -1,4 +1,4 @@
--- The frame that bytes would be, whatever they are; where they spell one, it is that one.
+-- Decoding a frame from any bytes; bytes that encode a frame give that frame.
 use Rattle.layout.specs.Names.{ℕ, zero, suc, nat_lt, List, [], drop, Cap, Frame, ObjectHeader, Geometry}
 use Rattle.std.specs.Prelude.{◌/◌, ◌%◌, if◌then◌else◌, ◌∷◌}
 use Rattle.layout.specs.Bytes.{number_from}
@@ -13,21 +13,21 @@ cap_with head object count = record {
   count = count;
 }
 
--- the capability that the first 24 bytes would be
+-- the capability that the first 24 bytes decode to
 unfoldable pub cap_from : List ℕ → Cap
 cap_from bytes = cap_with (number_from bytes) (number_from (drop 8 bytes)) (number_from (drop 16 bytes))
 
--- the first n of them, one after the other
+-- the first n capabilities that the bytes decode to
 unfoldable pub slots_from : ℕ → List ℕ → List Cap
 slots_from zero bytes = []
 slots_from (suc n) bytes = cap_from bytes ∷ slots_from n (drop 24 bytes)
 
--- the first n words
+-- the first n words that the bytes decode to
 unfoldable pub words_from : ℕ → List ℕ → List ℕ
 words_from zero bytes = []
 words_from (suc n) bytes = number_from bytes ∷ words_from n (drop 8 bytes)
 
--- the header that the front of a frame would be
+-- the header that the front of a frame decodes to
 unfoldable pub header_from : List ℕ → ObjectHeader
 header_from bytes = record {
   role = role_in (number_from bytes);
@@ -36,7 +36,7 @@ header_from bytes = record {
   owner = number_from (drop 24 bytes);
 }
 
--- the frame that the bytes of a node's number would be, and those of a page's
+-- the frame that the bytes of a node's number decode to, and those of a page's
 abbrev pub node_from : List ℕ → Frame
 node_from bytes = record {
   header = header_from bytes;
@@ -50,6 +50,6 @@ page_from bytes = record {
       (words_from 512 (drop 512 bytes));
 }
 
--- the frame that the bytes of an object would be
+-- the frame that the bytes of an object decode to
 unfoldable pub frame_from : Geometry → ℕ → List ℕ → Frame
 frame_from g object bytes = if nat_lt object g.nodes then node_from bytes else page_from bytes

@@ -4,7 +4,7 @@ use Rattle.layout.specs.declared.gate.Gate.{Gate}
 use Rattle.layout.specs.declared.gate.Gate.TheVariants.{Closed, Open}
 use Rattle.layout.specs.Bytes.{zeros}
 
--- the sector of a gate: 1 where it is open, and zeros
+-- the sector of a gate: its first byte is 1 if the gate is open, and the rest are zeros
 abbrev pub gate_bytes : Gate → List ℕ
 gate_bytes Closed = 0 ∷ zeros 511
 gate_bytes Open = 1 ∷ zeros 511

@@ -17,7 +17,7 @@ use Rattle.layout.specs.Homes.{home_place, shape_of}
 use Rattle.layout.specs.Shape.{shape_length, shape_bytes}
 use Rattle.layout.specs.Superblock.{Plan, superblock_bytes, HasMark, IsPlan, half_start}
 
--- the bytes of n sectors from one on
+-- the bytes of the n sectors from `at` on
 unfoldable pub sectors_from : Image → ℕ → ℕ → List ℕ
 sectors_from image at zero = []
 sectors_from image at (suc n) = image at ++ sectors_from image (at + 1) n
@@ -31,11 +31,11 @@ sequence_in bytes = number_from (drop 8 bytes)
 
 -- ---- which header is committed
 
--- a header counts where its gate is open and it lies in the slot of its sequence number
+-- a header counts if its gate is open and it lies in the slot of its sequence number
 abbrev pub does_count : List ℕ → List ℕ → ℕ → Bool
 does_count header gate slot = is_open gate && (sequence_in header % 2 == slot)
 
--- of two headers that count the one with the greater sequence number is committed
+-- the committed slot: if both headers count, the one with the greater sequence number
 abbrev pub committed_of : Bool → ℕ → Bool → ℕ → Option ℕ
 committed_of first m second n =
     if first && second then Some (if nat_lt m n then 1 else 0) else
@@ -81,7 +81,7 @@ abbrev pub slot_in : List Entry → ℕ → Option ℕ
 slot_in [] object = None
 slot_in (e ∷ es) object = if e.object == object then Some e.slot else slot_in es object
 
--- the slot of the first entry whose home is that of an object: of its cluster's least entry, or its own
+-- the slot of the first entry that shares a home with an object: the least entry of its cluster, or its own
 abbrev pub slot_beside : Plan → List Entry → ℕ → Option ℕ
 slot_beside p [] object = None
 slot_beside p (e ∷ es) object = if home_place p e.object == home_place p object then Some e.slot else slot_beside p es
@@ -91,7 +91,7 @@ abbrev pub or_beside : Option ℕ → Option ℕ → Option ℕ
 or_beside (Some slot) beside = Some slot
 or_beside None beside = beside
 
--- the slot whose sectors have the frame of an object: its own, else that one
+-- the slot whose sectors have the frame of an object: its own, else its cluster's
 abbrev pub frame_slot_in : Plan → List Entry → ℕ → Option ℕ
 frame_slot_in p es object = or_beside (slot_in es object) (slot_beside p es object)
 
@@ -99,20 +99,20 @@ abbrev pub sector_or : Option ℕ → (ℕ → ℕ) → ℕ → ℕ
 sector_or None in_log home = home
 sector_or (Some slot) in_log home = in_log slot
 
--- the frame of an object is the one in that slot, else the home frame
+-- the first sector of an object's frame: in its log slot, or at home if it has none
 abbrev pub frame_sector : Plan → ℕ → List Entry → ℕ → ℕ
 frame_sector p generation es object = sector_or (frame_slot_in p es object) (slot_sector p generation)
     (home_place p object)
 
--- the bytes of a frame of a shape that lies at a sector
+-- the bytes of a frame of this shape in the block at a sector
 abbrev pub shaped_at : Image → ℕ → Shape → List ℕ
 shaped_at image at shape = shape_bytes shape (sectors_from image at (shape_length shape))
 
--- the bytes of the frame of an object that lies at a sector
+-- the bytes of an object's frame in the block at a sector
 abbrev pub bytes_at : Image → ℕ → Plan → ℕ → List ℕ
 bytes_at image at p object = shaped_at image at (shape_of p object)
 
--- those of the frame that it has
+-- the bytes of an object's frame, in the log or at home
 abbrev pub frame_in : Image → Plan → ℕ → List Entry → ℕ → List ℕ
 frame_in image p generation es object = bytes_at image (frame_sector p generation es object) p object
 
@@ -134,17 +134,17 @@ HasBadGeometry image = (p : Plan) → IsPlan p → image 0 ≡ superblock_bytes 
 abbrev pub HasNoHeader : Image → Type 0
 HasNoHeader image = committed_slot image ≡ None
 
--- 5: the committed header is no spelling of one
+-- 5: the sector of the committed header encodes no header
 abbrev pub HasBadHeader : Image → Plan → Type 0
 HasBadHeader image p = (h : CheckpointHeader) → IsHeader p.geometry.log h →
     committed_bytes image ≡ Some (header_bytes h) → ⊥
 
--- 6: its directory is no spelling of one
+-- 6: the sectors of the directory encode no directory
 abbrev pub HasBadDirectory : Image → Plan → CheckpointHeader → Type 0
 HasBadDirectory image p h = (es : List Entry) → IsDirectory p.geometry es → length es ≡ h.entries →
     directory_in image p h.generation h.entries ≡ directory_bytes es → ⊥
 
--- 7: the frame of some object is no spelling of one
+-- 7: the bytes of some object's frame encode no frame of it
 abbrev pub HasBadFrame : Image → Plan → CheckpointHeader → List Entry → Type 0
 HasBadFrame image p h es =
     (object : ℕ) × (object < p.geometry.nodes + p.geometry.pages)
@@ -159,25 +159,25 @@ pub record HasPlan (image : Image) (size : ℕ) (p : Plan) : Type 0 where
   pub fits : IsPlan p
   pub spelt : image 0 ≡ superblock_bytes p
 
--- its committed header
+-- the committed header of an image
 pub record HasHeader (image : Image) (p : Plan) (h : CheckpointHeader) : Type 0 where
   pub fits : IsHeader p.geometry.log h
   pub spelt : committed_bytes image ≡ Some (header_bytes h)
 
--- the directory of that
+-- the directory of the committed header
 pub record HasDirectory (image : Image) (p : Plan) (h : CheckpointHeader) (es : List Entry) : Type 0 where
   pub count : length es ≡ h.entries
   pub fits : IsDirectory p.geometry es
   pub spelt : directory_in image p h.generation h.entries ≡ directory_bytes es
 
--- a saved state of frames
+-- a saved state: its frames, and where they lie
 pub record SavedState : Type 0 where
   pub plan : Plan
   pub header : CheckpointHeader
   pub directory : List Entry
   pub frames : List Frame
 
--- an image denotes a saved state of frames where none of reasons 1 to 7 holds
+-- an image encodes a saved state if none of reasons 1 to 7 holds
 pub record Encodes (image : Image) (size : ℕ) (s : SavedState) : Type 0 where
   pub plan : HasPlan image size s.plan
   pub header : HasHeader image s.plan s.header
@@ -187,7 +187,7 @@ pub record Encodes (image : Image) (size : ℕ) (s : SavedState) : Type 0 where
       IsFrameOf s.plan.geometry s.header.age object (frame_in image s.plan s.header.generation s.directory object)
       (frame_at s.frames object)
 
--- the least reason that holds, where it is one of the first seven
+-- the least reason that holds, if it is one of the first seven
 abbrev pub IsBadBy : Image → ℕ → BadImage → Type 0
 IsBadBy image size bad.Small = IsTooSmall image size
 IsBadBy image size bad.NotASuperblock = (IsTooSmall image size → ⊥) × IsNoSuperblock image

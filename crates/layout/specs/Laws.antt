@@ -1,4 +1,4 @@
--- Given bytes spell at most one value, a frame is read of the bytes that spell it, and an image denotes at most one
+-- Bytes encode at most one value, bytes that encode a frame are read as that frame, and an image encodes at most one
 -- saved state.
 use Rattle.layout.specs.Names.{ℕ, List, Cap, Frame, Geometry, IsKeptCap, Image}
 use Rattle.std.specs.Prelude.{◌≡◌}
@@ -39,7 +39,7 @@ SpellOneSuperblock = (p q : Plan) → IsPlan p → IsPlan q → superblock_bytes
 abbrev pub DenoteOneState : Type 0
 DenoteOneState = (image : Image) (size : ℕ) (s t : SavedState) → Encodes image size s → Encodes image size t → s ≡ t
 
--- what spells a frame is read as that frame
+-- bytes that encode a frame are read as that frame
 abbrev pub SpeltIsRead : Type 0
 SpeltIsRead = (g : Geometry) (age object : ℕ) (bytes : List ℕ) (f : Frame) → IsFrameOf g age object bytes f →
     frame_from g object bytes ≡ f

@@ -3,7 +3,7 @@ use Rattle.layout.specs.Names.{ℕ}
 use Rattle.layout.specs.declared.bad_image.BadImage.{BadImage}
 use Rattle.layout.specs.declared.bad_image.BadImage.TheVariants as bad
 
--- the number of a reason: the lesser one is given where several hold
+-- the number of a reason; if several hold, the least is given
 abbrev pub reason_number : BadImage → ℕ
 reason_number bad.Small = 1
 reason_number bad.NotASuperblock = 2

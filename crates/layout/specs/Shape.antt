@@ -6,7 +6,7 @@ use Rattle.layout.specs.declared.version.Version.{Version}
 use Rattle.layout.specs.Bytes.{zeros}
 use Rattle.layout.specs.Version.{row}
 
--- a node's frame lies in a cluster by its rank
+-- a node's frame lies in its cluster at the place of its rank
 abbrev pub node_shape : Version → ℕ → Shape
 node_shape v rank = record {
   sectors = (row v).cluster_sectors;
@@ -14,19 +14,19 @@ node_shape v rank = record {
   bytes = (row v).node_bytes;
 }
 
--- a page's frame is a block
+-- a page's frame is a block of its own
 abbrev pub page_shape : Shape
 page_shape = record { sectors = 9; offset = 0; bytes = 4608 }
 
--- how many sectors its block takes
+-- how many sectors a frame's block takes
 abbrev pub shape_length : Shape → ℕ
 shape_length s = s.sectors
 
--- where it ends in the block
+-- the byte of the block where the frame ends
 abbrev pub shape_end : Shape → ℕ
 shape_end s = s.offset + s.bytes
 
--- its bytes in the block: it lacks the zeros at the end of a node's 1024 bytes
+-- a frame's bytes, from its block; a packed node frame has no zeros at its end, so they are added
 abbrev pub shape_bytes : Shape → List ℕ → List ℕ
 shape_bytes s block = between s.offset (shape_end s) block ++ zeros (1024 - s.bytes)
 
@@ -42,11 +42,11 @@ pub record IsShapeFor (g : Geometry) (number : ℕ) (s : Shape) : Type 0 where
 abbrev pub AreBeside : Shape → Shape → Type 0
 AreBeside s t = (shape_end s ≤ t.offset) ⊎ (shape_end t ≤ s.offset)
 
--- from a byte on a block has zeros
+-- a block has only zeros from byte `at` on
 abbrev pub IsBlankFrom : ℕ → List ℕ → Type 0
 IsBlankFrom at bytes = drop at bytes ≡ zeros (length bytes - at)
 
--- beside a frame its block has zeros
+-- the block has zeros before and after the frame
 pub record HasZerosBeside (s : Shape) (bytes : List ℕ) : Type 0 where
   pub before : take s.offset bytes ≡ zeros s.offset
   pub behind : IsBlankFrom (shape_end s) bytes

@@ -1,4 +1,4 @@
--- The frames that the sectors of an image would be, and where they spell them.
+-- The frames that the sectors of an image decode to, and whether the sectors encode them.
 use Rattle.layout.specs.Names.{ℕ, List, map, range_with_len, Frame, Image}
 use Rattle.std.specs.Prelude.{◌+◌, ◌<◌}
 use Rattle.layout.specs.declared.directory.Entry.{Entry}
@@ -12,15 +12,15 @@ use Rattle.layout.specs.Superblock.{Plan}
 abbrev pub count_of : Plan → ℕ
 count_of p = p.geometry.nodes + p.geometry.pages
 
--- the frame of an object, where a directory says that it lies, whatever the bytes are
+-- the frame that the bytes of an object decode to, at the place that the directory gives
 abbrev pub frame_read : Image → Plan → ℕ → List Entry → ℕ → Frame
 frame_read image p generation es object = frame_from p.geometry object (frame_in image p generation es object)
 
--- those of all objects
+-- the frames that the bytes of all objects decode to
 unfoldable pub frames_read : Image → Plan → ℕ → List Entry → List Frame
 frames_read image p generation es = map (frame_read image p generation es) (range_with_len 0 (count_of p))
 
--- it is spelt there, and can be kept at an age
+-- the bytes of an object encode a frame that can be kept at this age; then the same of all objects
 abbrev pub IsSpelt : Image → Plan → ℕ → ℕ → List Entry → ℕ → Type 0
 IsSpelt image p age generation es object = IsFrameOf p.geometry age object (frame_in image p generation es object)
     (frame_read image p generation es object)

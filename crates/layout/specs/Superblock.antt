@@ -62,11 +62,11 @@ pub record IsGeometry (g : Geometry) : Type 0 where
 abbrev pub IsOfOneKind : Geometry → HomeRange → Type 0
 IsOfOneKind g r = (r.first + r.count ≤ g.nodes) ⊎ (g.nodes ≤ r.first)
 
--- a range goes on at a number, is not empty, and is of one kind
+-- the range begins at number n, is not empty, and is of one kind
 abbrev pub IsNext : Geometry → HomeRange → ℕ → Type 0
 IsNext g r n = (r.first ≡ n) × (0 < r.count) × IsOfOneKind g r
 
--- ranges go on from a number without a gap to the last number
+-- these ranges cover the numbers from n to the last, in order and without a gap
 abbrev pub Cover : Geometry → ℕ → List HomeRange → Type 0
 Cover g n [] = n ≡ g.nodes + g.pages
 Cover g n (r ∷ rs) = IsNext g r n × Cover g (n + r.count) rs
@@ -90,15 +90,15 @@ abbrev pub extents : Plan → List Extent
 extents p = map (range_extent p.version p.geometry) p.ranges ++ half_extent p.geometry p.half_0 ∷ half_extent p.geometry
     p.half_1 ∷ []
 
--- sectors after the headers and before the end
+-- these sectors lie after the header slots and before the end
 abbrev pub IsWithin : ℕ → Extent → Type 0
 IsWithin total e = (5 ≤ e.sector) × (e.sector + e.length ≤ total)
 
--- no sector is in both
+-- no sector is in both extents
 abbrev pub IsApart : Extent → Extent → Type 0
 IsApart d e = (d.sector + d.length ≤ e.sector) ⊎ (e.sector + e.length ≤ d.sector)
 
--- sectors that are among others
+-- each sector of `inner` is in `outer`
 pub record IsInside (inner outer : Extent) : Type 0 where
   pub starts : outer.sector ≤ inner.sector
   pub ends : inner.sector + inner.length ≤ outer.sector + outer.length
@@ -109,7 +109,7 @@ extent_at es i = slice_index_or es i (record { sector = 0; length = 0 })
 abbrev pub AreApart : List Extent → Type 0
 AreApart es = (i j : ℕ) → i < j → j < length es → IsApart (extent_at es i) (extent_at es j)
 
--- what a superblock needs
+-- what a superblock requires
 pub record IsPlan (p : Plan) : Type 0 where
   pub geometry : IsGeometry p.geometry
   pub some : 1 ≤ length p.ranges

@@ -1,4 +1,4 @@
-//! The bytes of an image. Each structure has one spelling, and its decoder accepts no other bytes. Other functions
+//! The bytes of an image. Each structure has one encoding, and its decoder accepts no other bytes. Other functions
 //! read and write frames and sectors of any device.
 #![tactic(auto)]
 

@@ -1,4 +1,4 @@
--- The saved frames of all that have one home are put together.
+-- The saved frames of all objects with one home are put together.
 use Rattle.migrator.proofs.Names.{nat_tests, ℕ, Option, Result, List, sym, ap, arith, OnOk, Image, Disk}
 use Rattle.migrator.proofs.Names.{Entry, Shape, home_place, place_length, shape_of, frame_in, frame_slot_in, sector_or, shaped_at}
 use Rattle.migrator.proofs.Names.{slot_sector, shape_bytes, Plan, ReadsOnly, WritesAt, EndsInZeros}

@@ -1,4 +1,4 @@
--- Writes apart from what is kept of a store.
+-- Writes outside the sectors that a store keeps.
 use Rattle.migrator.proofs.Names.{nat_tests, IsRunning, ℕ, refl, subst, Image, Disk, leaves_weaker, Extent, Encodes, SavedState, Books, saved_state}
 use Rattle.migrator.proofs.Names.{LeavesState, GoesOnDisk, kept_of, Holds, LeavesSaved, Spares, Touches, None, List, set, arith, range_with_len, same_lists}
 use Rattle.migrator.proofs.Names.{length-set, get_or-set_same, get_or-set_other, length-map-range_with_len, get_or-map-range_with_len, Elsewhere, entry_at}

@@ -1,4 +1,4 @@
--- Frames that lie apart, and writes apart from them.
+-- Frames that lie apart from one another, and writes outside them.
 use Rattle.migrator.proofs.Names.{ℕ, zero, suc, Bool, true, false, not, nat_eq, Option, Some, None, List, [], length, refl, sym, ap, subst, inl, inr, arith}
 use Rattle.migrator.proofs.Names.{cases_eq, cases_lt, eq-eqb, Entry, IsDirectory, AreRising, entry_at, home_place, shape_of, slot_in, slot_beside}
 use Rattle.migrator.proofs.Names.{frame_slot_in, count_of, Plan, IsPlan, found_slot, own_slot, rising_to, IsWhole, alone, IsFirstOf, beside_behind, beside_here}

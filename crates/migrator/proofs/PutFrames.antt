@@ -1,4 +1,4 @@
--- A frame is put into its slot: what then holds of a device and its books.
+-- A frame is written into its slot: what then holds of a device and its books.
 use Rattle.migrator.proofs.Names.{IfOk-from_err, nat_tests, on_ok_weaker, MayPut, PutsFrame, Stores, ℕ, Bool, true, false, Option, Some, None, Result, List}
 use Rattle.migrator.proofs.Names.{length, set, refl, sym, ap, subst, arith, OnOk, OnErr, Frame, IsKeepable, Image, Disk, Failed, Extent, IsFrameOf, frame_bytes}
 use Rattle.migrator.proofs.Names.{half_sector, place_length, slot_sector, count_of, IsInside, half_extent, bytes_spelt, WritesAt, place_extent, most, Keeps}

@@ -1,4 +1,4 @@
--- A frame is put into a slot.
+-- A frame is written into a slot.
 use Rattle.migrator.proofs.Names.{nat_tests, ℕ, zero, suc, Option, Some, None, List, [], length, get_or, set, refl, sym, ap, subst, inl, inr, arith, cases_eq}
 use Rattle.migrator.proofs.Names.{same_lists, length-set, length-map-range_with_len, get_or-map-range_with_len, Frame, Image, Extent, IsFrameOf, half_sector}
 use Rattle.migrator.proofs.Names.{count_of, entry_at, Plan, IsPlan, IsApart, IsInside, half_extent, apart_inside, home_extent, slot_extent, place_extent}

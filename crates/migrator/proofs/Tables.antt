@@ -1,4 +1,4 @@
--- What is known of a table of places.
+-- What is known about a table of places.
 use Rattle.migrator.proofs.Names.{nat_tests, ℕ, zero, suc, Bool, true, false, Option, Some, None, List, [], length, set, take, drop, refl, sym, ap, subst}
 use Rattle.migrator.proofs.Names.{arith, length-append, replicate, get_or-map, get_or-set_same, get_or-set_other, get_or_default, take_all, drop_all}
 use Rattle.migrator.proofs.Names.{nil_from_length, length-map, map-set, is_marked, IsNextMarked, HasNoneMarked, Geometry, Entry, entry_at, AreRising, IsEntry}

@@ -1,4 +1,4 @@
--- A durable store: what it keeps in memory, and what that and the device make.
+-- A durable store: the books that it keeps in memory, and what device and books hold together.
 use Rattle.migrator.specs.Names.{⊤, ℕ, Option, Some, None, List, length, option_map, slice_set, replicate, Frame}
 use Rattle.migrator.specs.Names.{frame_at, Image, Disk, Agrees, Narrows, Peeks, Entry, CheckpointHeader, IsDirectory}
 use Rattle.migrator.specs.Names.{entry_at, IsHeader, place_length, SavedState, Encodes, slot_sector, AreSpelt}
@@ -16,7 +16,7 @@ use Rattle.migrator.specs.Table.{place_at, slot_of, taken_count}
 use Rattle.migrator.specs.Put.{Put, Absent, put_at, put_or, kept_count, overlaid, slot_bytes, slot_frame, puts_in}
 use Rattle.migrator.specs.Put.{ArePut, Broken, HasFreeSlot, Kept}
 
--- what a read gives, of the device and of that cluster
+-- what a read gives: from the device, except for a cluster that the device failed to write
 abbrev pub seen_by : Image → Books → Image
 seen_by image b = mended image b.unwritten
 
@@ -24,7 +24,7 @@ pub record DurableState (D : Type 0) : Type 0 where
   pub beneath : D
   pub books : Books
 
--- the generation that follows the committed one, and that which frames are put for now
+-- the generation that follows the committed one; the one for which frames are written now
 abbrev pub frozen_generation : Books → ℕ
 frozen_generation b = b.header.generation + 1
 
@@ -37,12 +37,12 @@ working_generation b = generation_after b.header.generation b.frozen_size
 
 -- ---- the three maps of frames
 
--- a checkpoint on its way: what was put for it, and how many objects it writes
+-- a frozen checkpoint: what was written for it, and how many objects it writes
 pub record FrozenPuts : Type 0 where
   pub put : List Put
   pub size : ℕ
 
--- of how many of them the frame is still to be put
+-- how many of its frames are still to be written
 abbrev pub left_of : FrozenPuts → ℕ
 left_of f = f.size - kept_count f.put
 
@@ -61,7 +61,7 @@ puts = record {
   left = left_of;
 }
 
--- what is kept beside the frames put since, and a stage of a checkpoint, which leaves these alone
+-- the frozen and the saved state, without the working frames; then a stage of a checkpoint, which leaves these alone
 abbrev pub snapshots_in : Stored → Snapshots FrozenPuts
 snapshots_in s = record { frozen = s.frozen; saved = s.saved; to_move = s.to_move }
 
@@ -87,7 +87,7 @@ stored_in image b = record {
   to_move = b.header.entries - b.moved;
 }
 
--- what lies below a frame that is kept in memory: the frozen one that was put, else the saved one
+-- the frame below a working one: the frozen frame that was written, else the saved one
 abbrev pub frozen_put : Option FrozenPuts → ℕ → Put
 frozen_put None n = Absent
 frozen_put (Some f) n = put_at f.put n
@@ -95,7 +95,7 @@ frozen_put (Some f) n = put_at f.put n
 abbrev pub below_at : Stored → ℕ → Frame
 below_at s n = put_or (frozen_put s.frozen n) (frame_at s.saved.frames n)
 
--- the newest frame of an object: the one put last, else the frozen one, else the saved one
+-- the newest frame of an object: the working one, else the frozen one, else the saved one
 abbrev pub newest : Stored → ℕ → Frame
 newest s n = put_or (put_at s.working n) (below_at s n)
 
@@ -105,7 +105,7 @@ newest s n = put_or (put_at s.working n) (below_at s n)
 abbrev pub IsHome : Image → Plan → ℕ → List Entry → ℕ → Type 0
 IsHome image p generation es i = IsCopied image image p generation es (entry_at es i).object
 
--- a checkpoint is on its way only where all that is saved is home, and has slots enough
+-- a checkpoint is frozen only if all saved frames are home, and the log has slots enough for it
 abbrev pub MayRun : ℕ → ℕ → List Place → Option ℕ → Type 0
 MayRun entries log ps None = (n : ℕ) → place_at ps n ≡ Nowhere
 MayRun entries log ps (Some size) = (entries ≡ 0) × (taken_count ps ≤ size) × (size ≤ log)
@@ -113,7 +113,7 @@ MayRun entries log ps (Some size) = (entries ≡ 0) × (taken_count ps ≤ size)
 abbrev pub IsRunning : Books → Option ℕ → Type 0
 IsRunning b o = MayRun b.header.entries b.plan.geometry.log b.frozen o
 
--- all frames that a directory names, and those at home beside them, can be read on `size` sectors
+-- all frames can be read on `size` sectors: those that the directory names, and the others at home
 pub record IsReadable (size : ℕ) (image : Image) (p : Plan) (h : CheckpointHeader) (es : List Entry) : Type 0 where
   pub plan : IsPlan p
   pub inside : p.total ≤ size
@@ -122,7 +122,7 @@ pub record IsReadable (size : ℕ) (image : Image) (p : Plan) (h : CheckpointHea
   pub directory : IsDirectory p.geometry es
   pub saved : AreSpelt image p h.age h.generation es
 
--- an image on `size` sectors has all that the books name but the header and the superblock, whatever failed
+-- an image of `size` sectors has all that the books name, except header and superblock, even after a failure
 pub record IsIntact (size : ℕ) (image : Image) (b : Books) : Type 0 where
   pub readable : IsReadable size image b.plan b.header b.directory
   pub open readable use *
@@ -132,7 +132,7 @@ pub record IsIntact (size : ℕ) (image : Image) (b : Books) : Type 0 where
   pub running : IsRunning b b.frozen_size
   pub working : ArePut image b.plan (working_generation b) b.working
 
--- a cluster is unwritten only in a commit that failed: that of the slot of a frozen node
+-- a cluster that isn't written, after a commit that failed: it belongs to the slot of a frozen node
 pub record IsUnwrittenOf (p : Plan) (generation : ℕ) (o : Option ℕ) (ps : List Place) (u : Unwritten) : Type 0 where
   pub size : length u.bytes ≡ 4096
   pub count : ℕ
@@ -170,7 +170,7 @@ LeavesState disk s = (c : Image) → disk.may_leave c → Encodes c disk.sectors
 abbrev pub IsSoundOn : Disk → Books → Type 0
 IsSoundOn disk b = LeavesState disk (saved_state (seen_by disk.seen b) b)
 
--- the same but for what was put of one object
+-- the stored state with another working frame of object n; with another frozen one
 abbrev pub with_working : ℕ → Put → Stored → Stored
 with_working n put s = record s { working = slice_set s.working n put }
 
@@ -194,13 +194,13 @@ module _ {D : Type 0} (disk : D → Disk) where
   abbrev pub is_sound : DurableState D → Type 0
   is_sound s = IsSoundOn (disk s.beneath) s.books
 
--- what was put is frozen, and nothing is put since
+-- the working frames become the frozen ones, and there are no working ones
 abbrev pub freezing_puts : ℕ → Stored → Stored
 freezing_puts size s =
     let f : FrozenPuts = record { put = s.working; size = size } in
     record (on_snapshots (freezing f) s) { working = replicate (length s.working) Absent }
 
--- the header that is committed next, at an age
+-- the next header to be committed, at an age
 abbrev pub next_header : ℕ → Books → CheckpointHeader
 next_header age b = record {
   sequence = b.header.sequence + 1;
@@ -209,8 +209,8 @@ next_header age b = record {
   age = age;
 }
 
--- from one disk and books to others the same is saved, and nothing was written that it is read from: a crash at any
--- moment leaves what is saved, if one before would
+-- the same is saved, and no sector was written that it is read from: a crash at any moment leaves what is saved, if a
+-- crash of `old` would
 pub record GoesOnDisk (old new : Disk) (b c : Books) : Type 0 where
   pub plan : c.plan ≡ b.plan
   pub size : new.sectors ≡ old.sectors
@@ -220,17 +220,17 @@ pub record GoesOnDisk (old new : Disk) (b c : Books) : Type 0 where
 abbrev pub GoesOn : {D : Type 0} → (D → Disk) → DurableState D → DurableState D → Type 0
 GoesOn disk old new = GoesOnDisk (disk old.beneath) (disk new.beneath) old.books new.books
 
--- and this is held then
+-- the same is saved, and the store now holds s
 pub record Stores (old new : Disk) (b c : Books) (s : Stored) : Type 0 where
   pub stands : IsDurable new c
   pub stored : stored_on new c ≡ s
   pub goes_on : GoesOnDisk old new b c
 
--- nothing that is held changed
+-- nothing that the store holds has changed
 abbrev pub Stays : Disk → Disk → Books → Books → Type 0
 Stays old new b c = Stores old new b c (stored_on old b)
 
--- a frame may be put for the checkpoint on its way, which writes `size` objects
+-- a frame may be written for the frozen checkpoint, which writes `size` objects
 pub record MayPut (disk : Disk) (b : Books) (size n : ℕ) (f : Frame) : Type 0 where
   pub stands : IsDurable disk b
   pub running : b.frozen_size ≡ Some size
@@ -238,7 +238,7 @@ pub record MayPut (disk : Disk) (b : Books) (size n : ℕ) (f : Frame) : Type 0 
   pub keepable : IsKeepable b.plan.geometry most n f
   pub room : HasFreeSlot size (puts_in (seen_by disk.seen b) b.plan (frozen_generation b) b.frozen) n
 
--- a frame was put, over which `stored` is held; where the device failed, what was put is broken
+-- a frame was written, and the store holds `stored` of it; if the device failed, the frame is broken
 pub record PutsFrame {T E : Type 0} (old new : Disk) (b c : Books) (f : Frame) (stored : Put → Stored)
     (result : Result T E) : Type 0 where
   pub stands : IsDurable new c
@@ -247,7 +247,7 @@ pub record PutsFrame {T E : Type 0} (old new : Disk) (b c : Books) (f : Frame) (
   pub goes_on : GoesOnDisk old new b c
   pub cause : Counts old new result
 
--- a header was published, under which `next` is held; where the device failed, nothing that is stored changed
+-- a header was published, and the store holds `next`; if the device failed, nothing that is stored changed
 pub record Publishes {T E : Type 0} (old new : Disk) (b c : Books) (next : Stored) (result : Result T E) : Type 0 where
   pub stands : IsDurable new c
   pub stored : OnOk result (stored_on new c ≡ next)
@@ -258,7 +258,7 @@ pub record Publishes {T E : Type 0} (old new : Disk) (b c : Books) (next : Store
   pub any_moment : LeavesEither old new (stored_on old b).saved next.saved
   pub cause : Counts old new result
 
--- the frozen frames are saved at an age; where the device failed, nothing that is stored changed
+-- the frozen frames are saved at an age; if the device failed, nothing that is stored changed
 pub record Commits {T E : Type 0} (old new : Disk) (b c : Books) (age : ℕ) (result : Result T E) : Type 0 where
   pub stands : IsDurable new c
   pub stored : (f : FrozenPuts) → (stored_on old b).frozen ≡ Some f →
@@ -272,13 +272,13 @@ pub record Commits {T E : Type 0} (old new : Disk) (b c : Books) (age : ℕ) (re
       (option_map (λ f. next_saved puts age f (stored_on old b).saved) (stored_on old b).frozen)
   pub cause : Counts old new result
 
--- count more of the saved objects are home, and nothing else changes
+-- `count` more of the saved objects are home, and nothing else changes
 pub record MovedBy (old new : Disk) (b c : Books) (count : ℕ) : Type 0 where
   pub books : c ≡ record b { moved = b.moved + count }
   pub stored : stored_on new c ≡ record (stored_on old b) { to_move = b.header.entries - (b.moved + count) }
   pub goes_on : GoesOnDisk old new b c
 
--- `count` of the saved objects went home, and a header says so once all are; where the device failed, some did
+-- `count` of the saved objects went home, and a header says so once all are; if the device failed, some did
 pub record Migrates {T E : Type 0} (old new : Disk) (b c : Books) (count : ℕ) (result : Result T E) : Type 0 where
   pub stands : IsDurable new c
   pub moved : OnOk result (stored_on new c ≡ on_snapshots (moved count) (stored_on old b))
@@ -290,11 +290,11 @@ pub record Migrates {T E : Type 0} (old new : Disk) (b c : Books) (count : ℕ) 
   pub any_moment : LeavesEither old new (stored_on old b).saved (moved_saved count (snapshots_in (stored_on old b)))
   pub cause : Counts old new result
 
--- the lesser of two numbers
+-- `some` is the lesser of `count` and `left`
 abbrev pub IsLesser : ℕ → ℕ → ℕ → Type 0
 IsLesser some count left = (some ≤ count) × (some ≤ left) × ((some ≡ count) ⊎ (some ≡ left))
 
--- the header that says that all is home
+-- the header which says that all saved objects are home
 abbrev pub home_header : CheckpointHeader → CheckpointHeader
 home_header h = record { sequence = h.sequence + 1; generation = h.generation; entries = 0; age = h.age }
 
@@ -309,18 +309,18 @@ pub record ReadsStore {D : Type 0} (disk : D → Disk) (old new : DurableState D
 
 -- ---- one object is saved anew
 
--- a page may be at an age
+-- page n may be saved anew at this age
 pub record MayJournal (age n : ℕ) (s : SavedFrames) : Type 0 where
   pub page : (frame_at s.frames n).header.role ≡ role.Page
   pub later : s.age < age
   pub most : age ≤ 2 ^ 62
 
--- the header that is committed next where one object is saved anew
+-- the next header to be committed if one object is saved anew
 abbrev pub replaced_header : ℕ → Books → CheckpointHeader
 replaced_header age b =
     record { sequence = b.header.sequence + 1; generation = b.header.generation + 2; entries = 1; age = age }
 
--- the frame that it gets lies in the first slot of the half that the saved generation used
+-- the object's new frame: it lies in the first slot of the half that the saved generation used
 abbrev pub first_bytes : Image → Books → ℕ → List ℕ
 first_bytes image b n = slot_bytes image b.plan b.header.generation 0 n
 

@@ -15,13 +15,13 @@ HasNoPlan image size bad.NotASuperblock = IsBadBy image size bad.NotASuperblock
 HasNoPlan image size bad.BadGeometry = IsBadBy image size bad.BadGeometry
 HasNoPlan image size _ = ⊥
 
--- the same, or that the device failed
+-- why no superblock was read: the image has none, or the device failed
 abbrev pub IsUnplanned : Image → ℕ → OpenFault → Type 0
 IsUnplanned image size refusal.Failed = ⊤
 IsUnplanned image size refusal.NoMemory = ⊥
 IsUnplanned image size (refusal.Bad reason) = HasNoPlan image size reason
 
--- the saved frame of an object is none
+-- why the saved frame of object n isn't read: its bytes encode none, the device failed, or memory ran out
 abbrev pub IsBadAt : Image → Plan → CheckpointHeader → List Entry → ℕ → OpenFault → Type 0
 IsBadAt image p h es n refusal.Failed = ⊤
 IsBadAt image p h es n refusal.NoMemory = ⊤

@@ -1,4 +1,4 @@
--- The frames that were put into a half of the log.
+-- The frames that were written into a half of the log.
 use Rattle.migrator.specs.Names.{ℕ, List, [], length, map, slice_index_or, range_with_len, Frame, frame_at, Image}
 use Rattle.migrator.specs.Names.{IsFrameOf, frame_from, bytes_at, slot_sector, count_of, Plan, most}
 use Rattle.std.specs.Prelude.{◌≡◌, ◌≢◌, ◌⊎◌, ◌+◌, ◌<◌, ◌≤◌, ◌∷◌}
@@ -6,7 +6,7 @@ use Rattle.migrator.specs.declared.table.Place.{Place}
 use Rattle.migrator.specs.declared.table.Place.TheVariants.{Nowhere, Torn, Whole}
 use Rattle.migrator.specs.Table.{place_at, IsTable, taken_count}
 
--- what was put of an object: nothing, or what the device failed to write, or its frame
+-- what the half has of an object: nothing, a frame that the device failed to write, or its frame
 pub data Put : Type 0 where
   Absent : Put
   Broken : Put
@@ -15,7 +15,7 @@ pub data Put : Type 0 where
 abbrev pub put_at : List Put → ℕ → Put
 put_at puts n = slice_index_or puts n Absent
 
--- how many frames an object takes of those that were put, and how many slots
+-- how many frames the half has of an object; how many slots it takes
 abbrev pub kept_frame : Put → ℕ
 kept_frame Absent = 0
 kept_frame Broken = 0
@@ -30,7 +30,7 @@ unfoldable pub sum_of : (Put → ℕ) → List Put → ℕ
 sum_of count [] = 0
 sum_of count (put ∷ puts) = count put + sum_of count puts
 
--- how many frames were put
+-- how many frames were written
 abbrev pub kept_count : List Put → ℕ
 kept_count puts = sum_of kept_frame puts
 
@@ -38,17 +38,17 @@ kept_count puts = sum_of kept_frame puts
 abbrev pub HasFreeSlot : ℕ → List Put → ℕ → Type 0
 HasFreeSlot room puts n = (put_at puts n ≢ Absent) ⊎ (sum_of held_slot puts < room)
 
--- the frame that was put, or else another
+-- the frame that was written, or f if there is none
 abbrev pub put_or : Put → Frame → Frame
 put_or Absent f = f
 put_or Broken f = f
 put_or (Kept put) f = put
 
--- frames with those in their place that were put
+-- the frames, with those that were written in place of the old ones
 unfoldable pub overlaid : List Put → List Frame → List Frame
 overlaid puts fs = map (λ n. put_or (put_at puts n) (frame_at fs n)) (range_with_len 0 (length fs))
 
--- the bytes of the frame of an object in a slot, and the frame that they would be
+-- the bytes of the frame of an object in a slot; the frame that they decode to
 abbrev pub slot_bytes : Image → Plan → ℕ → ℕ → ℕ → List ℕ
 slot_bytes image p generation slot n = bytes_at image (slot_sector p generation slot) p n
 
@@ -60,11 +60,11 @@ put_of image p generation n Nowhere = Absent
 put_of image p generation n (Torn slot) = Broken
 put_of image p generation n (Whole slot) = Kept (slot_frame image p generation slot n)
 
--- what was put of each object into the half of a generation
+-- what the half of a generation has of each object
 unfoldable pub puts_in : Image → Plan → ℕ → List Place → List Put
 puts_in image p generation ps = map (λ n. put_of image p generation n (place_at ps n)) (range_with_len 0 (count_of p))
 
--- the slots of whole places spell frames
+-- each slot of a whole place encodes a frame
 pub record ArePut (image : Image) (p : Plan) (generation : ℕ) (ps : List Place) : Type 0 where
   pub count : length ps ≡ count_of p
   pub few : taken_count ps ≤ p.geometry.log

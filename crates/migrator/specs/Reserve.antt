@@ -16,14 +16,14 @@ pub record IsReserve (p : Plan) (r : Reserve) : Type 0 where
   pub working : r.tables.working ≡ replicate (count_of p) Nowhere
   pub buffer : r.buffer ≡ None
 
--- all of an image was read into it: the header, the directory, and the frames, which were taken
+-- an image was read into the reserve: its header and directory, and the frames, which were passed on as `taken`
 pub record IsReadInto {I : Type 0} (Took : I → List Frame → Type 0) (image : Image) (p : Plan) (h : CheckpointHeader)
     (r : Reserve) (taken : I) : Type 0 where
   pub read : IsRead image p h r.directories.saved.items
   pub took : Took taken (frames_read image p h.generation (take h.entries r.directories.saved.items))
   pub reserved : IsReserve p r
 
--- the books of an image before a frame is moved or put
+-- the books of an image before a frame is moved or written
 abbrev pub first_books : Plan → CheckpointHeader → List Entry → List Place → List Place → Books
 first_books p h es fs ws = record {
   plan = p;

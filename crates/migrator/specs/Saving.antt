@@ -12,25 +12,25 @@ use Rattle.migrator.specs.Durable.{first_bytes, first_frame, puts, seen_by, stor
 use Rattle.migrator.specs.Table.{place_at, whole_count}
 use Rattle.migrator.specs.Spared.{Spares, SparesFrames}
 
--- a directory was written, or torn, and then the slot of a header
+-- a directory was written, or torn, and then the slot of a header; nothing else is touched
 pub record SavesOnly (p : Plan) (next : CheckpointHeader) (old new : Image) : Type 0 where
   pub between : Image
   pub directory : Elsewhere (directory_sector p next.generation) (directory_length next.entries) old between
   pub header : Elsewhere (header_sector next) 2 between new
 
--- the frames that were put lie in other sectors
+-- the frames that were written into this half lie outside the extent e
 abbrev pub SparesPuts : Plan → ℕ → List Place → Extent → Type 0
 SparesPuts p generation ps e = (n s : ℕ) → n < count_of p → place_at ps n ≡ Whole s →
     IsApart (place_extent p generation s n) e
 
--- so do all frames that the books name, at home and in the log
+-- all frames that the books name, at home and in the log, lie outside the extent e
 pub record SparesKept (b : Books) (e : Extent) : Type 0 where
   pub frames : SparesFrames b.plan b.header.generation b.directory e
   pub homes : (i : ℕ) → i < b.moved → IsApart (home_extent b.plan (entry_at b.directory i).object) e
   pub frozen : SparesPuts b.plan (frozen_generation b) b.frozen e
   pub working : SparesPuts b.plan (working_generation b) b.working e
 
--- the books that go on from a header and its directory: nothing is frozen
+-- the books with a new header and directory: nothing is frozen
 abbrev pub adopted : CheckpointHeader → List Entry → Books → Books
 adopted next es b = record {
   plan = b.plan;
@@ -43,21 +43,21 @@ adopted next es b = record {
   unwritten = b.unwritten;
 }
 
--- a header may be published with a directory whose frames are all written, and the books go on from it
+-- a header may be published with a directory whose frames are all written, and the books adopt it
 pub record MayAdopt (disk : Disk) (b : Books) (next : CheckpointHeader) (es : List Entry) : Type 0 where
   pub stands : IsDurable disk b
   pub written : b.unwritten ≡ None
   pub sound : IsSoundOn disk b
   pub follows : b.header.sequence + 1 ≡ next.sequence
   pub kept : IsIntact disk.sectors disk.seen (adopted next es b)
-  -- the directory is written apart from what is saved, from all that the books name, and from all that they name then
+  -- the directory lies outside what is saved, all that the books name, and all that the new books name
   pub apart : Spares b.plan b.header b.directory (directory_extent b.plan next.generation next.entries)
   pub spares : SparesKept b (directory_extent b.plan next.generation next.entries)
   pub spares_next : SparesKept (adopted next es b) (directory_extent b.plan next.generation next.entries)
 
 -- ---- what is required before each of the three adoptions
 
--- the checkpoint on its way writes `size` objects, all were put, and may be saved at an age
+-- the frozen checkpoint writes `size` objects, all are written, and it may be saved at an age
 pub record MayCommitAt (disk : Disk) (b : Books) (size age : ℕ) : Type 0 where
   pub stands : IsDurable disk b
   pub running : b.frozen_size ≡ Some size
@@ -75,14 +75,14 @@ pub record MayFinish (disk : Disk) (b : Books) : Type 0 where
   pub all : b.moved ≡ b.header.entries
   pub sound : IsSoundOn disk b
 
--- no checkpoint is on its way, and all that is saved is home
+-- no checkpoint is frozen, and all saved objects are home
 pub record IsIdle (disk : Disk) (b : Books) : Type 0 where
   pub stands : IsDurable disk b
   pub free : b.frozen_size ≡ None
   pub home : b.header.entries ≡ 0
   pub sound : IsSoundOn disk b
 
--- and the frame of a page lies in the first slot of the half that the saved generation used
+-- as `IsIdle`, and the frame of a page lies in the first slot of the half that the saved generation used
 pub record MayReplace (disk : Disk) (b : Books) (n age : ℕ) : Type 0 where
   pub idle : IsIdle disk b
   pub open idle use *

@@ -7,7 +7,7 @@ use Rattle.std.specs.Prelude.{◌≡◌, ◌⊎◌, ◌<◌, ◌≤◌}
 abbrev pub frame_extent : Plan → ℕ → List Entry → ℕ → Extent
 frame_extent p generation es n = record { sector = frame_sector p generation es n; length = place_length p n }
 
--- the frames lie in other sectors
+-- the frames of all objects lie outside the extent e
 abbrev pub SparesFrames : Plan → ℕ → List Entry → Extent → Type 0
 SparesFrames p generation es e = (n : ℕ) → n < count_of p → IsApart (frame_extent p generation es n) e
 
@@ -17,7 +17,7 @@ pub record Spares (p : Plan) (h : CheckpointHeader) (es : List Entry) (e : Exten
   pub directory : (h.entries ≡ 0) ⊎ IsApart (directory_extent p h.generation h.entries) e
   pub frames : SparesFrames p h.generation es e
 
--- nothing was touched but the n sectors from at on, in which a crash may leave any bytes
+-- only the n sectors from `at` on were touched; a crash may leave any bytes in them
 pub record Touches (at n : ℕ) (old new : Disk) : Type 0 where
   pub size : new.sectors ≡ old.sectors
   pub elsewhere : Elsewhere at n old.seen new.seen

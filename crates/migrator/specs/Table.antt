@@ -1,4 +1,4 @@
--- Which slots of a half of the log objects have.
+-- Which slot of a half of the log each object has.
 use Rattle.migrator.specs.Names.{ℕ, Bool, true, false, Option, Some, None, List, [], slice_index_or, Entry}
 use Rattle.std.specs.Prelude.{◌≡◌, ◌+◌, ◌<◌, ◌∷◌}
 use Rattle.migrator.specs.declared.table.Place.{Place}

@@ -4,7 +4,7 @@ use Rattle.model.specs.declared.object.Object.{Object}
 use Rattle.model.specs.Object.{is_free}
 use Rattle.model.specs.World.{owner_at}
 
--- a bank, its owner, the owner's owner and so on up to the prime bank, number 0; at most as many as the first argument
+-- a bank, its owner, the owner's owner and so on up to the prime bank, number 0; the first argument limits how many
 abbrev pub chain_within : ℕ → List Object → ℕ → List ℕ
 chain_within zero os b = []
 chain_within (suc k) os b = b ∷ (if b == 0 then [] else chain_within k os (owner_at os b))
@@ -13,7 +13,7 @@ chain_within (suc k) os b = b ∷ (if b == 0 then [] else chain_within k os (own
 unfoldable pub chain : List Object → ℕ → List ℕ
 chain os b = chain_within 16 os b
 
--- whether the bank b is in the chain of an object's owner; asked of objects other than b
+-- whether bank b is in the chain of an object's owner; used only for objects other than b
 abbrev pub is_under : List Object → ℕ → Object → Bool
 is_under os b object = not (is_free object.content) && list_any (nat_eq b) (chain os object.owner)
 

@@ -20,7 +20,7 @@ use Rattle.model.specs.OrderOutcome.{OrderOutcome, refused, replying_three, made
 use Rattle.model.specs.Revoke.{rescind}
 use Rattle.model.specs.World.{annex_at, content_at, object_at, owner_at}
 
--- the free numbers of nodes and those of pages, the least first
+-- which of the numbers ns are free; then all free numbers of nodes, and of pages: the least first
 abbrev pub are_free : List Object → List ℕ → List ℕ
 are_free os ns = filter (λ n. is_free (content_at os n)) ns
 
@@ -30,7 +30,7 @@ free_nodes g os = are_free os (range_with_len 0 g.nodes)
 unfoldable pub free_pages : Geometry → List Object → List ℕ
 free_pages g os = are_free os (range_with_len g.nodes g.pages)
 
--- whether this number of further objects of a bank stays within the limit of each bank in its chain
+-- whether bank b may own `count` more objects: the limit of each bank in its chain allows them
 unfoldable pub has_quota : List Object → ℕ → ℕ → Bool
 has_quota os b count = list_all (λ c. nat_le (usage os c + count) (limit_in (content_at os c))) (chain os b)
 
@@ -48,23 +48,23 @@ new_root annex = content.Root
 abbrev pub new_annex : Content Capability
 new_annex = content.Annex (all_slots Void)
 
--- the objects with a new one of a bank at a number
+-- the objects with a new one at number n: owner b, content c
 unfoldable pub with_new : List Object → ℕ → ℕ → Content Capability → List Object
 with_new os n b c = slice_set os n (record { owner = b; content = c })
 
--- a new object of a bank, at the first of the numbers that are free
+-- a new object of bank b at the first of the free numbers; `named` makes the capability to it
 abbrev pub allocated : List Object → ℕ → List ℕ → Content Capability → (ℕ → Capability) → OrderOutcome
 allocated os b [] c named = refused os code.NoFrame
 allocated os b (n ∷ ns) c named = made (with_new os n b c) (n ∷ []) (named n)
 
--- a new process of a bank: its root at the first of them, its annex at the second
+-- a new process of bank b: its root at the first free number, its annex at the second
 abbrev pub process_allocated : List Object → ℕ → List ℕ → OrderOutcome
 process_allocated os b [] = refused os code.NoFrame
 process_allocated os b (p ∷ []) = refused os code.NoFrame
 process_allocated os b (p ∷ a ∷ ns) = made (with_new (with_new os p b (new_root a)) a b new_annex) (p ∷ a ∷ [])
     (Process p)
 
--- a new bank of a bank, at the first of them, where the chain isn't as long as it may be
+-- a new bank of bank b at the first free number, unless the chain of b already has 16 banks
 abbrev pub bank_allocated : List Object → ℕ → List ℕ → ℕ → OrderOutcome
 bank_allocated os b [] limit = refused os code.NoFrame
 bank_allocated os b (n ∷ ns) limit =
@@ -78,15 +78,15 @@ freed_by os (Node o a) = if a.0 == 0 then o ∷ [] else []
 freed_by os (Process p) = p ∷ annex_at os p ∷ []
 freed_by os _ = []
 
--- a bank and all that is under it, by number
+-- the numbers of bank b and of all objects under it
 unfoldable pub under : List Object → ℕ → List ℕ
 under os b = filter (λ n. (n == b) || is_under os b (object_at os n)) (range_with_len 0 (length os))
 
--- what a bank itself owns, by number
+-- the numbers of the objects that bank b itself owns
 unfoldable pub owned_by : List Object → ℕ → List ℕ
 owned_by os b = filter (λ n. not (is_free (content_at os n)) && (owner_at os n == b)) (range_with_len 0 (length os))
 
--- the objects with the owner of a bank in its place
+-- an object, moved to the owner `parent` if bank b owns it; then all objects, moved to the owner of b
 abbrev pub transferred : ℕ → ℕ → Object → Object
 transferred b parent o = if not (is_free o.content) && (o.owner == b) then
     record { owner = parent; content = o.content } else o
@@ -94,7 +94,7 @@ transferred b parent o = if not (is_free o.content) && (o.owner == b) then
 unfoldable pub inherited : List Object → ℕ → List Object
 inherited os b = map (transferred b (owner_at os b)) os
 
--- how many more objects a bank's own limit allows, and the least of some numbers
+-- how many more objects a bank's own limit allows; the least of some numbers; how many all limits in a chain allow
 abbrev pub left_of : List Object → ℕ → ℕ
 left_of os b = limit_in (content_at os b) - usage os b
 
@@ -105,7 +105,7 @@ least n (m ∷ ms) = least (min n m) ms
 unfoldable pub remaining : List Object → ℕ → ℕ
 remaining os b = least (left_of os b) (map (left_of os) (chain os b))
 
--- the objects that a capability frees, where the bank owns them
+-- the order to free the objects that a capability frees: refused unless bank b owns them
 abbrev pub freed : List Object → ℕ → List ℕ → OrderOutcome
 freed os b [] = refused os code.BadCapability
 freed os b (n ∷ ns) = if owner_at os n == b then made (rescind (n ∷ ns) os) (n ∷ ns) Void else refused os

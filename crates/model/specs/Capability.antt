@@ -15,7 +15,7 @@ weak = record { 0 = 3 }
 abbrev pub IsAccess : Access → Type 0
 IsAccess a = (a.0 ≡ 0) ⊎ (a.0 ≡ 1) ⊎ (a.0 ≡ 3)
 
--- the restrictions of both
+-- an access with more restrictions
 abbrev pub union : Access → ℕ → Access
 union a bits = record { 0 = bit_or a.0 bits }
 
@@ -32,14 +32,14 @@ named (Resume p) = Some p
 named (Bank b) = Some b
 named Discrim = None
 
--- its access, or 0 where it has none
+-- a capability's access, or 0 if it has none
 abbrev pub access_bits : Capability → ℕ
 access_bits (Page o a) = a.0
 access_bits (Node o a) = a.0
 access_bits (Space o h a) = a.0
 access_bits _ = 0
 
--- what is left of a capability that is fetched through a weak one (EROS: weak, KeyKOS: sense)
+-- the capability that a fetch through a weak one gives (EROS: weak, KeyKOS: sense)
 abbrev pub diminished : Capability → Capability
 diminished (Number n) = Number n
 diminished (Page o a) = Page o weak
@@ -47,7 +47,7 @@ diminished (Node o a) = Node o weak
 diminished (Space o h a) = Space o h weak
 diminished _ = Void
 
--- it names nothing, or is read-only and weak
+-- a capability that names no object, or is read-only and weak
 abbrev pub IsWeak : Capability → Type 0
 IsWeak Void = Unit {0}
 IsWeak (Number n) = Unit {0}
@@ -60,7 +60,7 @@ IsWeak (Resume p) = ⊥
 IsWeak (Bank b) = ⊥
 IsWeak Discrim = Unit {0}
 
--- its tag, as the order that classifies replies it
+-- the number of a capability's kind, as `discrim` replies it
 abbrev pub tag_of : Capability → ℕ
 tag_of Void = 0
 tag_of (Number n) = 1
@@ -73,7 +73,7 @@ tag_of (Resume p) = 7
 tag_of (Bank b) = 8
 tag_of Discrim = 9
 
--- its fields are within their bounds
+-- a capability whose fields are within their bounds
 abbrev pub IsWellFormed : Capability → Type 0
 IsWellFormed (Number n) = n < 2 ^ 64
 IsWellFormed (Page o a) = IsAccess a

@@ -1,4 +1,4 @@
--- Objects as they are kept: with counts.
+-- Frames: objects with their headers, which have counts.
 use Rattle.std.specs.Prelude.{ℕ, ◌+◌, nat_lt, if◌then◌else◌, List, [], ◌∷◌, map, slice_index_or}
 use Rattle.model.specs.declared.capability.Cap.{Cap}
 use Rattle.model.specs.declared.capability.Capability.{Capability}
@@ -45,7 +45,7 @@ held_at cs n = slice_index_or cs n content.Free
 abbrev pub void_held : Cap
 void_held = record { what = Void; count = 0 }
 
--- the count that a capability's is compared with: that of calls for the right to resume, else that of allocations
+-- the object's count that a capability's is compared with: calls for a resume capability, else allocations
 abbrev pub current_count : List ObjectHeader → Capability → ℕ
 current_count hs (Page o a) = (header_at hs o).allocations
 current_count hs (Node o a) = (header_at hs o).allocations
@@ -56,7 +56,7 @@ current_count hs (Resume p) = (header_at hs p).calls
 current_count hs (Bank b) = (header_at hs b).allocations
 current_count hs _ = 0
 
--- what a held capability conveys: nothing where its object's count has risen since (EROS: a stale capability is void)
+-- the capability that a held one conveys: void if its object's count has risen since (EROS: a stale capability)
 abbrev pub conveyed : List ObjectHeader → Cap → Capability
 conveyed hs c = if nat_lt c.count (current_count hs c.what) then Void else c.what
 
@@ -73,11 +73,11 @@ objects_of fs = map (object_of (headers fs)) fs
 abbrev pub given_up : ObjectHeader → ObjectHeader
 given_up h = record { role = role.Free; allocations = h.allocations + 1; calls = h.calls + 1; owner = 0 }
 
--- it gets another owner
+-- the object gets another owner
 abbrev pub owned_by : ℕ → ObjectHeader → ObjectHeader
 owned_by bank h = record h { owner = bank }
 
--- the right to resume it is used
+-- the right to resume the process is used
 abbrev pub called : ObjectHeader → ObjectHeader
 called h = record h { calls = h.calls + 1 }
 
@@ -85,7 +85,7 @@ called h = record h { calls = h.calls + 1 }
 abbrev pub claimed : Role → ℕ → ObjectHeader → ObjectHeader
 claimed r owner h = record h { role = r; owner = owner }
 
--- the content that a reference is to
+-- the content that a reference refers to
 abbrev pub content_behind : ContentRef → Content Cap
 content_behind content_ref.Free = content.Free
 content_behind (content_ref.Page words) = content.Page words.now

@@ -23,12 +23,12 @@ deliver os p m =
     with_slots_from (with_root os p (record r { state = Running; words = m.words; key = m.key })) r.annex 28
     m.capabilities
 
--- what comes of an invocation: the objects, and the numbers written
+-- the effect of an invocation: the objects after it, and the numbers of those written
 pub record Effect : Type 0 where
   pub objects : List Object
   pub written : List ℕ
 
--- the capabilities that are sent, as they are before anything changes
+-- the capabilities that an invocation sends, read before anything changes
 abbrev pub sent_by : List Object → Invocation → List Capability
 sent_by os i = map (register_at os i.process) i.sent
 
@@ -36,11 +36,11 @@ abbrev pub is_return : Operation → Bool
 is_return Return = true
 is_return _ = false
 
--- what a gate receives: with a call the last register gets the right to answer
+-- the capabilities that a gate receives: with a call, the last one is the right to resume the caller
 abbrev pub sent_to_gate : List Object → Invocation → List Capability
 sent_to_gate os i = elim i.operation [ Call ↦ slice_set (sent_by os i) 3 (Resume i.process) | _ ↦ sent_by os i ]
 
--- the invoker after the operation: through a gate a caller waits; a return always makes it available
+-- the objects after the invoker's state changes: through a gate a caller waits; a return makes it available
 abbrev pub after_gate : List Object → Invocation → List Object
 after_gate os i = elim i.operation
     [ Call ↦ with_state os i.process Waiting | Return ↦ with_state os i.process Available | Send ↦ os ]
@@ -70,7 +70,7 @@ replied os i outcome = elim i.operation [
   | _ ↦ os
 ]
 
--- the outcome of the order of an invocation of a kernel object
+-- the outcome of the order that an invocation sends to a kernel object
 abbrev pub ordered : Geometry → List Object → Invocation → OrderOutcome
 ordered g os i = order g (after_order os i) (register_at os i.process i.register) (slice_index i.words 0)
     (record {
@@ -93,7 +93,7 @@ on_kernel_object g os i =
 abbrev pub can_start : List Object → Invocation → ℕ → Bool
 can_start os i q = is_available (root_at os q).state || (is_return i.operation && (i.process == q))
 
--- An invocation, or nothing where it stalls. What is sent is read first, then the invoker's state
+-- An invocation's effect, or `None` if it stalls. The capabilities sent are read first, then the invoker's state
 -- changes, then comes the order or the delivery; a resume capability is consumed last.
 unfoldable pub invoke : Geometry → List Object → Invocation → Option Effect
 invoke g os i = elim (register_at os i.process i.register) [

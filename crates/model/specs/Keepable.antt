@@ -1,4 +1,4 @@
--- What a frame may be so that it can be kept: written to a device and read back.
+-- Which frames can be kept: written to a device and read back.
 use Rattle.model.specs.Names.{ℕ, List, [], length, slice_index_or, All}
 use Rattle.std.specs.Prelude.{◌≡◌, ◌+◌, ◌^◌, ◌<◌, ◌≤◌, ◌∷◌}
 use Rattle.model.specs.declared.capability.Cap.{Cap}
@@ -17,7 +17,7 @@ use Rattle.model.specs.Object.{role_of}
 use Rattle.model.specs.Sound.{IsSound, IsSpace, IsOfKind, object_count}
 use Rattle.model.specs.World.{World}
 
--- a number of a node, of a page, and a count, each of 64 bits
+-- the number of a node, the number of a page, and a count; each fits in 64 bits
 abbrev pub IsNodeNumber : Geometry → ℕ → Type 0
 IsNodeNumber g n = (n < g.nodes) × (n < 2 ^ 64)
 
@@ -27,7 +27,7 @@ IsPageNumber g n = (g.nodes ≤ n) × (n < g.nodes + g.pages) × (n < 2 ^ 64)
 abbrev pub IsCount : ℕ → ℕ → Type 0
 IsCount age n = (n ≤ age) × (n < 2 ^ 64)
 
--- what each kind of capability needs to be held with a count
+-- what each kind of capability requires, to be held with this count
 abbrev pub Follows : Geometry → ℕ → ℕ → Capability → Type 0
 Follows g age count Void = count ≡ 0
 Follows g age count (Number n) = (n < 2 ^ 64) × (count ≡ 0)
@@ -40,7 +40,7 @@ Follows g age count (Resume p) = IsNodeNumber g p × IsCount age count
 Follows g age count (Bank b) = IsNodeNumber g b × IsCount age count
 Follows g age count Discrim = count ≡ 0
 
--- what a capability names is a number of its kind
+-- the number that a capability names is one for its kind of object
 abbrev pub IsTarget : Geometry → Capability → Type 0
 IsTarget g Void = Unit {0}
 IsTarget g (Number n) = Unit {0}
@@ -57,7 +57,7 @@ IsTarget g Discrim = Unit {0}
 abbrev pub IsKeptCap : Geometry → ℕ → Cap → Type 0
 IsKeptCap g age c = Follows g age c.count c.what
 
--- 32 of them
+-- 32 slots, each with a capability that may be held
 pub record AreKeptSlots (g : Geometry) (age : ℕ) (slots : List Cap) : Type 0 where
   pub count : length slots ≡ 32
   pub each : All (IsKeptCap g age) slots
@@ -67,7 +67,7 @@ pub record AreKeptWords (count : ℕ) (words : List ℕ) : Type 0 where
   pub count_is : length words ≡ count
   pub each : All (λ w. w < 2 ^ 64) words
 
--- what each kind of content needs, whatever its number
+-- what each kind of content requires, whatever its number
 abbrev pub MayBeKept : Geometry → ℕ → Content Cap → Type 0
 MayBeKept g age content.Free = Unit {0}
 MayBeKept g age (content.Page words) = AreKeptWords 512 words
@@ -79,7 +79,7 @@ MayBeKept g age (content.Annex registers) = AreKeptSlots g age registers ×
     (slice_index_or registers 0 void_held ≡ void_held)
 MayBeKept g age (content.Bank limit) = limit < 2 ^ 64
 
--- a frame that can be kept, at an age
+-- a frame that can be kept at this age
 pub record IsKept (g : Geometry) (age : ℕ) (f : Frame) : Type 0 where
   pub role : f.header.role ≡ role_of f.content
   pub allocations : IsCount age f.header.allocations
@@ -88,12 +88,12 @@ pub record IsKept (g : Geometry) (age : ℕ) (f : Frame) : Type 0 where
   pub unowned : f.header.role ≡ Free → f.header.owner ≡ 0
   pub content : MayBeKept g age f.content
 
--- and at a number
+-- a frame that can be kept at this age, as object n
 pub record IsKeepable (g : Geometry) (age n : ℕ) (f : Frame) : Type 0 where
   pub kind : IsOfKind g n f.content
   pub kept : IsKept g age f
 
--- frames of all objects that can be kept
+-- frames of all objects, each of which can be kept
 pub record AreKeepable (g : Geometry) (age : ℕ) (fs : List Frame) : Type 0 where
   pub count : length fs ≡ object_count g
   pub each : (n : ℕ) → n < object_count g → IsKeepable g age n (frame_at fs n)

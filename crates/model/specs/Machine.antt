@@ -6,13 +6,13 @@ use Rattle.model.specs.declared.object.Object.{Object}
 use Rattle.model.specs.Revoke.{is_given_up}
 use Rattle.model.specs.World.{World}
 
--- what a committed checkpoint saves; entries is 0 once all of it is home
+-- what a committed checkpoint saves; `entries` is 0 once all saved objects are home
 pub record Saved : Type 0 where
   pub world : World
   pub generation : ℕ
   pub entries : ℕ
 
--- a checkpoint on its way: how many objects it writes, and how many of them are left
+-- a checkpoint that isn't committed: how many objects it writes, and how many of these are still to write
 pub record Frozen : Type 0 where
   pub world : World
   pub size : ℕ
@@ -29,17 +29,17 @@ pub record Running : Type 0 where
   pub saved : Saved
   pub to_move : ℕ
 
--- a machine that is down stands at one of some saved parts
+-- a machine is up, or it is down and may reopen at any of these saved states
 pub data Machine : Type 0 where
   Up : Running → Machine
   Down : List Saved → Machine
 
--- what it may stand at when it is opened again
+-- the saved states at which a machine may reopen
 abbrev pub candidates : Machine → List Saved
 candidates (Up s) = s.saved ∷ []
 candidates (Down saved) = saved
 
--- sets of numbers: none, with those that are written, and how many
+-- sets of touched numbers: the empty set, a set with written numbers added, and the size of a set
 unfoldable pub untouched : Geometry → List Bool
 untouched g = replicate (g.nodes + g.pages) false
 
@@ -50,12 +50,12 @@ touching touched (n ∷ ns) = touching (slice_set touched n true) ns
 abbrev pub touched_count : List Bool → ℕ
 touched_count touched = count_by (λ b. b) touched
 
--- those of a set of numbers, and those whose objects are rescinded between two times
+-- a set of renewed numbers, with those added whose objects are rescinded between os and us
 unfoldable pub renewing : List Bool → List Object → List Object → List Bool
 renewing renewed os us = map (λ n. slice_index_or renewed n false || is_given_up os us n)
     (range_with_len 0 (length renewed))
 
--- opened at a saved part
+-- a machine just opened at a saved state
 abbrev pub opened : Geometry → Saved → Running
 opened g saved = record {
   now = saved.world;

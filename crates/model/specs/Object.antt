@@ -18,7 +18,7 @@ all_slots c = replicate 32 c
 unfoldable pub zero_words : List ℕ
 zero_words = replicate 512 0
 
--- the kinds of contents
+-- whether a content is of this kind
 abbrev pub is_free : {C : Type 0} → Content C → Bool
 is_free content.Free = true
 is_free _ = false
@@ -43,7 +43,7 @@ abbrev pub is_bank : {C : Type 0} → Content C → Bool
 is_bank (content.Bank limit) = true
 is_bank _ = false
 
--- what an object is, by its content
+-- the role of an object with this content
 abbrev pub role_of : {C : Type 0} → Content C → Role
 role_of content.Free = role.Free
 role_of (content.Page words) = role.Page
@@ -61,7 +61,7 @@ role_number role.Root = 3
 role_number role.Annex = 4
 role_number role.Bank = 5
 
--- the parts of a content, or nothing where it has none
+-- a content's words, slots or limit; empty, or 0, if it has none
 abbrev pub words_in : {C : Type 0} → Content C → List ℕ
 words_in (content.Page words) = words
 words_in _ = []
@@ -80,7 +80,7 @@ abbrev pub root_in : Content Capability → Root Capability
 root_in (content.Root root) = root
 root_in _ = record { state = Available; words = []; key = 0; annex = 0; space = Void }
 
--- a content with another word or slot at a place, where it has that place
+-- a content with another word or slot at index i, if it has that index
 abbrev pub with_word_in : {C : Type 0} → Content C → ℕ → ℕ → Content C
 with_word_in (content.Page words) i word = content.Page (slice_set words i word)
 with_word_in other i word = other

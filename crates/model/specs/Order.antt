@@ -26,7 +26,7 @@ use Rattle.model.specs.World.{word_at, slot_at, root_at, annex_at, register_at, 
 use Rattle.model.specs.World.{with_state}
 use Rattle.model.specs.Revoke.{consume}
 
--- the orders by the first word sent
+-- for each kind of object: the order that the first word sent stands for
 abbrev pub page_order : ℕ → Option PageOrder
 page_order w = if w == 1 then Some page.Read else if w == 2 then Some page.Write else if w == 3 then Some page.Reduce
     else None
@@ -51,7 +51,7 @@ bank_order w =
     else if w == 4 then Some bank.NewBank else if w == 5 then Some bank.Free else if w == 6 then Some bank.Destroy
     else if w == 7 then Some bank.ReturnToParent else if w == 8 then Some bank.Remaining else None
 
--- no order of a bank
+-- the word w, sent to this capability, is no order of a bank
 abbrev pub IsNoBankOrder : Capability → ℕ → Type 0
 IsNoBankOrder (Bank b) w = bank_order w ≡ None
 IsNoBankOrder _ w = Unit {0}
@@ -70,7 +70,7 @@ on_page os o a page.Write args =
 on_page os o a page.Reduce args = if reduces args.first then given os (Page o (union a args.first)) else refused os
     code.BadIndex
 
--- what is fetched through a weak capability is diminished
+-- a capability fetched from a node: diminished if the node capability is weak
 abbrev pub fetched : Access → Capability → Capability
 fetched a c = if a.0 == 3 then diminished c else c
 

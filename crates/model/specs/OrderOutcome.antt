@@ -1,4 +1,4 @@
--- What comes of an order on a kernel object.
+-- The outcome of an order on a kernel object.
 use Rattle.std.specs.Prelude.{ℕ, List, [], ◌∷◌}
 use Rattle.model.specs.declared.capability.Capability.{Capability}
 use Rattle.model.specs.declared.capability.Capability.TheVariants.{Void}
@@ -6,7 +6,7 @@ use Rattle.model.specs.declared.object.Object.{Object}
 use Rattle.model.specs.declared.order.ResultCode.{ResultCode}
 use Rattle.model.specs.declared.order.ResultCode.TheVariants as code
 
--- what comes of an order: the result words after the code, the result capability, the objects, and the numbers written
+-- the outcome of an order: code, words after it, and capability of the reply; the objects; the numbers written
 pub record OrderOutcome : Type 0 where
   pub code : ResultCode
   pub words : List ℕ
@@ -28,28 +28,28 @@ code_number code.VoidCapability = 8
 code_number code.NotFromThisBank = 9
 code_number code.PrimeBank = 10
 
--- an order that isn't carried out changes and replies nothing
+-- the outcome of an order that isn't carried out: nothing changes, and the reply is the code alone
 abbrev pub refused : List Object → ResultCode → OrderOutcome
 refused os why = record { code = why; words = 0 ∷ 0 ∷ 0 ∷ []; capability = Void; objects = os; written = [] }
 
--- one that replies two words
+-- the outcome of an order that replies two words
 abbrev pub replying : List Object → ℕ → ℕ → OrderOutcome
 replying os first second =
     record { code = code.Done; words = first ∷ second ∷ 0 ∷ []; capability = Void; objects = os; written = [] }
 
--- one that gives a capability
+-- the outcome of an order that gives a capability
 abbrev pub given : List Object → Capability → OrderOutcome
 given os c = record { code = code.Done; words = 0 ∷ 0 ∷ 0 ∷ []; capability = c; objects = os; written = [] }
 
--- one that writes an object
+-- the outcome of an order that writes object n
 abbrev pub wrote : List Object → ℕ → OrderOutcome
 wrote os n = record { code = code.Done; words = 0 ∷ 0 ∷ 0 ∷ []; capability = Void; objects = os; written = n ∷ [] }
 
--- one that replies three
+-- the outcome of an order that replies three words
 abbrev pub replying_three : List Object → ℕ → ℕ → ℕ → OrderOutcome
 replying_three os first second third =
     record { code = code.Done; words = first ∷ second ∷ third ∷ []; capability = Void; objects = os; written = [] }
 
--- one that writes these objects and gives a capability
+-- the outcome of an order that writes these objects and gives a capability
 abbrev pub made : List Object → List ℕ → Capability → OrderOutcome
 made os written c = record { code = code.Done; words = 0 ∷ 0 ∷ 0 ∷ []; capability = c; objects = os; written = written }

@@ -7,11 +7,11 @@ use Rattle.model.specs.Capability.{named}
 use Rattle.model.specs.Object.{free, is_free, map_content}
 use Rattle.model.specs.World.{content_at}
 
--- a capability, or void where it is one of those that go
+-- a capability, made void if `goes` says so
 abbrev pub void_where : (Capability → Bool) → Capability → Capability
 void_where goes c = if goes c then Void else c
 
--- an object with each capability in it that goes put void
+-- an object, with each capability in it made void if `goes` says so
 abbrev pub without : (Capability → Bool) → Object → Object
 without goes o = record { owner = o.owner; content = map_content (void_where goes) o.content }
 
@@ -23,19 +23,19 @@ is_member set n = list_any (nat_eq n) set
 abbrev pub names_member : List ℕ → Capability → Bool
 names_member set c = elim (named c) [ None ↦ false | Some n ↦ is_member set n ]
 
--- whether it resumes the process p
+-- whether a capability is the right to resume process p
 abbrev pub resumes : ℕ → Capability → Bool
 resumes p (Resume q) = q == p
 resumes p _ = false
 
--- The members are free, and no capability names one any more (EROS: rescind; KeyKOS: sever)
+-- the objects with all members free and no capability naming one (EROS: rescind; KeyKOS: sever)
 unfoldable pub rescind : List ℕ → List Object → List Object
 rescind set os = map (λ p. if is_member set p.0 then free else without (names_member set) p.1) (enumerate_from 0 os)
 
--- no capability resumes the process p any more (EROS: a resume capability works at most once)
+-- the objects with no capability that resumes process p (EROS: a resume capability works at most once)
 unfoldable pub consume : ℕ → List Object → List Object
 consume p os = map (without (resumes p)) os
 
--- whether an object was rescinded between two times: it was there, and its number is free
+-- whether object n was rescinded between os and us: in use in os, free in us
 abbrev pub is_given_up : List Object → List Object → ℕ → Bool
 is_given_up os us n = not (is_free (content_at os n)) && is_free (content_at us n)

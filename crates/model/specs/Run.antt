@@ -8,26 +8,26 @@ use Rattle.model.specs.Machine.{Machine}
 use Rattle.model.specs.Step.{Step}
 use Rattle.model.specs.Text.{Says, printed, bad_line}
 
--- what a line is answered: nothing, that it is bad, or what the machine answers
+-- the reply to a line: nothing, that the line is bad, or the machine's answer
 pub data Reply : Type 0 where
   Nothing : Reply
   BadLine : Reply
   Reported : Answer → Reply
 
--- a line that was taken, between the machines before and after it
+-- a line, its reply, and the machines before and after it
 pub record Turn : Type 0 where
   pub line : List ℕ
   pub before : Machine
   pub reply : Reply
   pub after : Machine
 
--- a skipped or bad line is no step of the machine
+-- the reply to a line, and the machine after it; a skipped or bad line is no step of the machine
 abbrev pub Replies : Geometry → Line → Machine → Reply → Machine → Type 0
 Replies g line.Skip before reply after = (reply ≡ Nothing) × (after ≡ before)
 Replies g line.Bad before reply after = (reply ≡ BadLine) × (after ≡ before)
 Replies g (line.Command c) before reply after = (a : Answer) × (reply ≡ Reported a) × Step g before c a after
 
--- the turn answers what its line says
+-- the turn's reply, and the machine after it, are what its line asks for
 abbrev pub IsTurn : Geometry → Turn → Type 0
 IsTurn g t = (l : Line) × Says t.line l × Replies g l t.before t.reply t.after
 
@@ -41,16 +41,16 @@ reply_text Nothing = []
 reply_text BadLine = bad_line
 reply_text (Reported a) = printed a
 
--- all that a run writes
+-- the text that a run writes
 abbrev pub output_of : List Turn → List ℕ
 output_of turns = flat_map (λ t. reply_text t.reply) turns
 
--- a byte goes onto the first line of what follows it
+-- lines, with one more byte at the front of the first
 abbrev pub onto_first : ℕ → List (List ℕ) → List (List ℕ)
 onto_first b [] = (b ∷ []) ∷ []
 onto_first b (first ∷ others) = (b ∷ first) ∷ others
 
--- the lines of a script: each ends at a newline or at the end, and an empty rest at the end is none
+-- the lines of a script: each ends at a newline or at the end of the text; nothing after the last newline is no line
 abbrev pub lines_of : List ℕ → List (List ℕ)
 lines_of [] = []
 lines_of (b ∷ bs) = if b == 10 then [] ∷ lines_of bs else onto_first b (lines_of bs)

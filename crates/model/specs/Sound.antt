@@ -42,7 +42,7 @@ IsSpace (Page o a) = Unit {0}
 IsSpace (Space o h a) = Unit {0}
 IsSpace _ = ⊥
 
--- what a capability names is of its kind; a resume capability is held only where its process waits
+-- the object that a capability names is of its kind; the process that a resume capability names is waiting
 abbrev pub NamesItsKind : List Object → Capability → Type 0
 NamesItsKind os Void = Unit {0}
 NamesItsKind os (Number n) = Unit {0}
@@ -59,7 +59,7 @@ NamesItsKind os Discrim = Unit {0}
 abbrev pub MayBeHeld : List Object → Capability → Type 0
 MayBeHeld os c = IsWellFormed c × NamesItsKind os c
 
--- Each number holds an object of its kind, and capabilities name objects of theirs. Each annex belongs to one process.
+-- Each number has an object of its kind, and capabilities name objects of theirs. Each annex belongs to one process.
 -- Banks form a tree below number 0, own all objects and keep their limits.
 pub record IsSound (g : Geometry) (w : World) : Type 0 where
   pub size : length w.objects ≡ object_count g

@@ -23,15 +23,15 @@ use Rattle.model.specs.Invoke.{invoke}
 use Rattle.model.specs.Machine.{Saved, Frozen, Running, Machine, Up, Down, candidates, untouched, touching}
 use Rattle.model.specs.Machine.{touched_count, renewing, opened}
 
--- whether writing these too is more than half of the log holds
+-- whether the touched numbers, with those written, are more than half of the log holds
 abbrev pub overfills : Geometry → List Bool → List ℕ → Bool
 overfills g touched written = nat_lt g.log (touched_count (touching touched written))
 
--- a check, and where it passes the next
+-- a check: if it passes, the result of the next check, else the refusal `why`
 abbrev pub unless : Bool → Refusal → Option Refusal → Option Refusal
 unless passes why next = if passes then next else Some why
 
--- the page that a reference of a process reaches
+-- the page that a process reaches at an address, with the access to it
 abbrev pub reached : List Object → ℕ → ℕ → Result (ℕ × Access) MemoryFault
 reached os p address = walk os (root_at os p).space (address / 512)
 
@@ -40,12 +40,12 @@ abbrev pub writable : Result (ℕ × Access) MemoryFault → Result ℕ MemoryFa
 writable (Ok found) = if found.1.0 == 0 then Ok found.0 else Err ReadOnly
 writable (Err why) = Err why
 
--- only a running process acts
+-- the refusal of a process that doesn't exist or doesn't run, else `next`
 abbrev pub of_running : List Object → ℕ → Option Refusal → Option Refusal
 of_running os p next = unless (is_process os p) refusal.NoProcess
     (unless (is_running_process os p) refusal.NotRunning next)
 
--- what refuses a checkpoint, and the journaling of a page, before anything else does
+-- the refusals that a checkpoint and the journaling of a page have in common, in order; else `next`
 abbrev pub when_home : Running → Option Refusal → Option Refusal
 when_home s next = unless (nat_lt s.now.age (2 ^ 62)) refusal.Worn
     (elim s.frozen [
@@ -54,11 +54,11 @@ when_home s next = unless (nat_lt s.now.age (2 ^ 62)) refusal.Worn
           refusal.MigrationPending next
     ])
 
--- whether a page is saved at a number, and wasn't rescinded since
+-- whether the saved object at n is a page that wasn't rescinded since the last checkpoint or restart
 abbrev pub is_saved_page : Running → ℕ → Bool
 is_saved_page s n = is_page (content_at s.saved.world.objects n) && not (slice_index_or s.renewed n false)
 
--- why what has a number can't be journaled
+-- why object n can't be journaled
 abbrev pub unjournaled : Running → ℕ → Option Refusal
 unjournaled s n =
     unless (is_page (content_at s.now.objects n)) (refusal.NotJournaled NotPage)
@@ -92,26 +92,26 @@ refusal_of g s (command.Journal n) = when_home s
     (unless (nat_lt n (object_count g)) refusal.BadNumber (unjournaled s n))
 refusal_of g s _ = None
 
--- the text of an object: with a process its registers, with a bank its usage
+-- the answer that shows object n: a process with its registers, a bank with its usage
 abbrev pub shown : List Object → ℕ → Answer
 shown os n =
     let registers = if is_root (content_at os n) then Some (slots_in (content_at os (annex_at os n))) else None in
     let used = if is_bank (content_at os n) then usage os n else 0 in
     answer.Shown (record { number = n; object = object_at os n; registers = registers; used = used })
 
--- the saved part that a commit gives
+-- the saved state after a commit
 abbrev pub committed : Running → Frozen → Saved
 committed s frozen = record { world = frozen.world; generation = s.saved.generation + 1; entries = frozen.size }
 
--- the saved part once all of it is home
+-- a saved state, once all its objects are home
 abbrev pub at_home : Saved → Saved
 at_home saved = record { world = saved.world; generation = saved.generation; entries = 0 }
 
--- the saved part after n more objects went home
+-- the saved state after n more objects went home
 abbrev pub moved : Running → ℕ → Saved
 moved s n = if s.to_move - n == 0 then at_home s.saved else s.saved
 
--- the saved part with the words that a page has now; its owner there stays
+-- the saved state with the present words of page n; the page's saved owner stays
 abbrev pub journaled : Running → ℕ → Saved
 journaled s n =
     let world : World = record {
@@ -120,7 +120,7 @@ journaled s n =
     } in
     record { world = world; generation = s.saved.generation + 2; entries = 1 }
 
--- what carrying a command out answers, and the machine after it
+-- the answer to a command, and the machine after it
 pub record Outcome : Type 0 where
   pub answer : Answer
   pub after : Running
@@ -128,16 +128,16 @@ pub record Outcome : Type 0 where
 abbrev pub outcome : Answer → Running → Outcome
 outcome a s = record { answer = a; after = s }
 
--- a machine with other objects now, these numbers written, and these renewed
+-- a machine with these present objects and age, these numbers written, and these renewed
 abbrev pub writing : Running → List Object → ℕ → List ℕ → List Bool → Running
 writing s os age written renewed =
     record s { now = record { objects = os; age = age }; touched = touching s.touched written; renewed = renewed }
 
--- a machine with another checkpoint on its way
+-- a machine with another frozen state
 abbrev pub freezing : Running → Option Frozen → Running
 freezing s frozen = record s { frozen = frozen }
 
--- a checkpoint begins: the age rises, all present objects are frozen, and nothing is written since
+-- a checkpoint begins: the age rises, all present objects are frozen, and no number is touched
 abbrev pub frozen_now : Geometry → Running → Outcome
 frozen_now g s =
     let size = touched_count s.touched in
@@ -146,7 +146,7 @@ frozen_now g s =
     outcome (answer.Frozen size)
     (record s { now = now; touched = untouched g; renewed = untouched g; frozen = Some frozen })
 
--- objects of the frozen state go to the log; refused before, if there is none
+-- n more frozen objects go to the log; without a frozen state, `refusal_of` refuses the command
 abbrev pub stabilized : Running → ℕ → Outcome
 stabilized s n = elim s.frozen [
   | None ↦ outcome answer.Done s
@@ -154,7 +154,7 @@ stabilized s n = elim s.frozen [
       (freezing s (Some (record { world = f.world; size = f.size; left = f.left - n })))
 ]
 
--- the frozen state becomes the saved one; refused before, if there is none
+-- the frozen state becomes the saved one; without a frozen state, `refusal_of` refuses the command
 abbrev pub commits : Running → Outcome
 commits s = elim s.frozen [
   | None ↦ outcome answer.Done s
@@ -162,7 +162,7 @@ commits s = elim s.frozen [
       (record s { frozen = None; saved = committed s f; to_move = f.size })
 ]
 
--- a command that isn't refused, carried out; an invocation then has an effect
+-- the outcome of a command that isn't refused; an invocation then has an effect
 unfoldable pub carried_out : Geometry → Running → Command → Outcome
 carried_out g s (command.Invoke i) = elim (invoke g s.now.objects i) [
   | None ↦ outcome answer.Done s
@@ -191,19 +191,19 @@ carried_out g s (command.Journal n) =
 carried_out g s command.Restart = outcome (answer.At s.saved.generation s.saved.world.age) (opened g s.saved)
 carried_out g s command.Cut = outcome (answer.At s.saved.generation s.saved.world.age) (opened g s.saved)
 
--- the answer that is the command's own: the first refusal that applies, else what carrying it out answers
+-- the command's own answer: the first refusal that applies, else the outcome of the command
 abbrev pub Answers : Geometry → Running → Command → Answer → Machine → Type 0
 Answers g s c a after = elim (refusal_of g s c) [
   | Some why ↦ (a ≡ answer.Refused why) × (after ≡ Up s)
   | None ↦ (a ≡ (carried_out g s c).answer) × (after ≡ Up (carried_out g s c).after)
 ]
 
--- opened again at one of the candidates
+-- the machine reopens at one of the candidates
 abbrev pub Reopens : Geometry → List Saved → Answer → Machine → Type 0
 Reopens g saved a after =
     (at : Saved) × Contains saved at × (a ≡ answer.At at.generation at.world.age) × (after ≡ Up (opened g at))
 
--- the commands that open the device again, and those that take memory
+-- whether a command opens the device again; whether it takes memory
 abbrev pub opens : Command → Bool
 opens command.Restart = true
 opens command.Cut = true
@@ -213,21 +213,21 @@ abbrev pub takes_memory : Command → Bool
 takes_memory (command.Show n) = true
 takes_memory c = opens c
 
--- whether lack of memory may stand in place of a refusal
+-- whether `no memory` may be the answer in place of this refusal, or of none
 abbrev pub gives_way : Option Refusal → Bool
 gives_way (Some refusal.BadNumber) = false
 gives_way _ = true
 
--- memory may run out in a `show` of an object that there is, and wherever the device is opened
+-- memory may run out in a `show` of an existing object, and in each command that opens the device
 abbrev pub MayWantMemory : Geometry → Machine → Command → Type 0
 MayWantMemory g (Up s) c = IsTrue (takes_memory c && gives_way (refusal_of g s c))
 MayWantMemory g (Down saved) c = IsTrue (opens c)
 
--- lack of memory changes nothing, but leaves a machine that was to be opened down
+-- the machine after memory ran out: unchanged, but down if the command was to open it
 abbrev pub without_memory : Machine → Command → Machine
 without_memory m c = if opens c then Down (candidates m) else m
 
--- what else may be saved if the device fails in a command: the part that the command saves
+-- what else may be saved if the device fails in a command: the state that the command saves
 abbrev pub second : Machine → Command → List Saved
 second (Up s) command.Commit = elim s.frozen
     [ None ↦ [] | Some frozen ↦ if frozen.left == 0 then committed s frozen ∷ [] else [] ]
@@ -236,19 +236,19 @@ second (Up s) (command.Migrate n) = if s.saved.entries == 0 then [] else if s.to
 second (Up s) (command.Journal n) = elim (when_home s (unjournaled s n)) [ None ↦ journaled s n ∷ [] | Some why ↦ [] ]
 second _ _ = []
 
--- any command may fail where the machine is up; one that is down takes only what opens it
+-- the device may fail in any command to a machine that is up; one that is down uses it only to reopen
 abbrev pub MayFail : Machine → Command → Type 0
 MayFail (Up s) c = Unit {0}
 MayFail (Down saved) c = IsTrue (opens c)
 
--- from a machine that is up: the command's own answer. From one that is down: it is opened, or says so
+-- a machine that is up gives the command's own answer; one that is down reopens, or answers `down`
 abbrev pub Proceeds : Geometry → Machine → Command → Answer → Machine → Type 0
 Proceeds g (Up s) c a after = Answers g s c a after
 Proceeds g (Down saved) command.Restart a after = Reopens g saved a after
 Proceeds g (Down saved) command.Cut a after = Reopens g saved a after
 Proceeds g (Down saved) _ a after = (a ≡ answer.Refused refusal.Down) × (after ≡ Down saved)
 
--- a step of the machine: the command's own answer, want of memory, or a failure of the device
+-- a step of the machine: the command's own answer, lack of memory, or a failure of the device
 abbrev pub Step : Geometry → Machine → Command → Answer → Machine → Type 0
 Step g m c a after =
     Proceeds g m c a after

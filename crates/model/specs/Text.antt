@@ -56,7 +56,7 @@ command_words command.Cut = codes "cut" ∷ []
 unfoldable pub spelling : Command → List ℕ
 spelling c = spaced (command_words c)
 
--- what has a spelling: numbers of 64 bits, and registers of a process
+-- a command that a line can spell: its numbers have 64 bits, its registers are those of a process
 abbrev pub Fits : Command → Type 0
 Fits (command.Invoke i) =
     (i.process < 2 ^ 64) × (i.register < 32)
@@ -71,12 +71,12 @@ Fits (command.Migrate n) = n < 2 ^ 64
 Fits (command.Journal n) = n < 2 ^ 64
 Fits _ = Unit {0}
 
--- an empty line, or a comment
+-- a line that is empty or a comment
 abbrev pub IsSkipped : List ℕ → Type 0
 IsSkipped [] = Unit {0}
 IsSkipped (b ∷ bs) = b ≡ 35
 
--- what a line says: nothing, a command, or anything else; more than 256 bytes are always bad
+-- what a line says: nothing, a command, or neither, which is bad; a line of more than 256 bytes is always bad
 abbrev pub Says : List ℕ → Line → Type 0
 Says text line.Skip = (length text ≤ 256) × IsSkipped text
 Says text (line.Command c) = Fits c × (text ≡ spelling c)
@@ -126,11 +126,11 @@ abbrev pub registers_of : Option (List Capability) → List Capability
 registers_of None = []
 registers_of (Some registers) = registers
 
--- what an object is, its number and its owner
+-- how an object's first line begins: its kind, its number and its owner
 abbrev pub headed : List ℕ → ℕ → ℕ → List (List ℕ)
 headed name n owner = name ∷ decimal n ∷ codes "owner" ∷ decimal owner ∷ []
 
--- the lines of an object but the last
+-- the lines of an object, without the last, `end`
 unfoldable pub object_text : ℕ → Object → Option (List Capability) → ℕ → List ℕ
 object_text n o registers used = elim o.content [
   | content.Free ↦ line_of (spaced (codes "free" ∷ decimal n ∷ []))
@@ -173,7 +173,7 @@ refusal_text refusal.Fault = codes "fault"
 refusal_text refusal.BadNumber = codes "bad number"
 refusal_text (refusal.NotJournaled why) = codes "not journaled " ++ decimal (unjournaled_number why)
 
--- what is written for an answer
+-- the text of an answer
 unfoldable pub printed : Answer → List ℕ
 printed answer.Done = line_of (codes "done")
 printed (answer.Value v) = line_of (spaced (codes "value" ∷ decimal v ∷ []))
@@ -186,6 +186,6 @@ printed (answer.At g age) = line_of (spaced (codes "at" ∷ decimal g ∷ decima
 printed (answer.Shown d) = object_text d.number d.object d.registers d.used ++ line_of (codes "end")
 printed (answer.Refused why) = line_of (refusal_text why)
 
--- what is written for a bad line
+-- the reply to a bad line
 unfoldable pub bad_line : List ℕ
 bad_line = line_of (codes "bad line")

@@ -9,17 +9,17 @@ use Rattle.model.specs.declared.object.Object.{Object}
 use Rattle.model.specs.Capability.{union}
 use Rattle.model.specs.World.{slot_at}
 
--- the slots on the way to a page of a tree of that height: the digits of its index to base 32, the greatest first
+-- the slots on the way to a page in a tree of this height: the digits of the page's index to base 32, highest first
 abbrev pub path : ℕ → ℕ → List ℕ
 path zero index = []
 path (suc height) index = index / 32 ^ height % 32 ∷ path height index
 
--- what is reached, with the restrictions of a capability on the way to it
+-- the page that is reached, with the restrictions of one more capability on the way
 abbrev pub restricted : Access → Result (ℕ × Access) MemoryFault → Result (ℕ × Access) MemoryFault
 restricted a (Ok reached) = Ok (reached.0, union a reached.1.0)
 restricted a (Err fault) = Err fault
 
--- below a space of that height: a page at height 1, a space one less high above it; rest is what is reached from there
+-- one level down from a space of this height: a page at height 1, else a space one less high; `rest` is the walk below
 abbrev pub below : ℕ → Access → Capability → Result (ℕ × Access) MemoryFault → Result (ℕ × Access) MemoryFault
 below height a Void rest = Err Hole
 below height a (Page o b) rest = if height == 1 then restricted a rest else Err Malformed

@@ -13,7 +13,7 @@ pub record World : Type 0 where
   pub objects : List Object
   pub age : ℕ
 
--- What stands at a number. What isn't there is free, blank, 0 or void.
+-- the object at a number, its content, owner, words, slots, root; if there is none: free, 0, void or blank
 abbrev pub object_at : List Object → ℕ → Object
 object_at os n = slice_index_or os n free
 
@@ -39,14 +39,14 @@ annex_at os p = (root_at os p).annex
 abbrev pub register_at : List Object → ℕ → ℕ → Capability
 register_at os p r = slot_at os (annex_at os p) r
 
--- whether a number is that of a process, and of a running one
+-- whether p is the number of a process; of a running process
 abbrev pub is_process : List Object → ℕ → Bool
 is_process os p = is_root (content_at os p)
 
 abbrev pub is_running_process : List Object → ℕ → Bool
 is_running_process os p = is_process os p && is_running (root_at os p).state
 
--- the objects with another content, word, slot, root or state at a number, and its owner as it was
+-- five updates of the object at a number: its content, one word, one slot, its root, or its state. The owner stays.
 unfoldable pub with_content : List Object → ℕ → Content Capability → List Object
 with_content os n c = slice_set os n (record { owner = owner_at os n; content = c })
 
@@ -62,7 +62,7 @@ with_root os p r = with_content os p (content.Root r)
 unfoldable pub with_state : List Object → ℕ → State → List Object
 with_state os p s = with_root os p (record (root_at os p) { state = s })
 
--- with capabilities in the slots from i on
+-- the objects with these capabilities in the slots of n, from slot i on
 abbrev pub with_slots_from : List Object → ℕ → ℕ → List Capability → List Object
 with_slots_from os n i [] = os
 with_slots_from os n i (c ∷ cs) = with_slots_from (with_slot os n i c) n (i + 1) cs

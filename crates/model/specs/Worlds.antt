@@ -19,7 +19,7 @@ small = record { nodes = 16; pages = 8; log = 16 }
 abbrev pub of_prime_bank : Content Capability → Object
 of_prime_bank c = record { owner = 0; content = c }
 
--- a process in that state, with that annex, nothing delivered and no address space
+-- the root of a process with this state and annex, no message received and no address space
 abbrev pub fresh_root : State → ℕ → Object
 fresh_root s annex = of_prime_bank
     (content.Root (record { state = s; words = 0 ∷ 0 ∷ 0 ∷ 0 ∷ []; key = 0; annex = annex; space = Void }))
@@ -41,8 +41,8 @@ f0 = record {
   age = 0;
 }
 
--- World I0: process 1 with annex 2 runs, and holds itself, the prime bank, process 3 and the right
--- to start that with key 7; process 3 with annex 4 is available
+-- World I0: process 1 with annex 2 runs, and holds itself, the prime bank, process 3, and the right
+-- to start it with key 7; process 3 with annex 4 is available
 unfoldable pub i0 : World
 i0 = record {
   objects =

@@ -56,8 +56,8 @@ impl Access {
         Access::READ_ONLY.union(Access::WEAK)
     }
 
-    /// Whether a capability has such an access: one that restricts nothing, that is read-only, or
-    /// that is read-only and weak.
+    /// Whether a capability may have this access: it restricts nothing, is read-only, or is read-only
+    /// and weak.
     pub fn is_valid(self) -> bool
         ensures { IsTrue result ↔ IsAccess self }
     {

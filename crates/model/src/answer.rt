@@ -12,17 +12,17 @@ use std::marker::Model;
 pub enum MemoryFault {
     /// There is no address space.
     NoSpace = 1,
-    /// The address lies beyond it.
+    /// The address lies beyond the address space.
     Beyond = 2,
     /// A slot on the way is void.
     Hole = 3,
     /// A slot on the way holds something else than the next level.
     Malformed = 4,
-    /// It is a store, and the way isn't writable.
+    /// The reference is a store, and the way to the page isn't writable.
     ReadOnly = 5,
 }
 
-/// Why a page wasn't journaled. Where both apply, the first here is given.
+/// Why a page wasn't journaled. If both apply, the first here is given.
 #[derive(Clone, Copy)]
 pub enum Unjournaled {
     /// The object isn't a page.
@@ -31,8 +31,8 @@ pub enum Unjournaled {
     Renewed = 2,
 }
 
-/// Why a command wasn't carried out. Where several apply, the first here is given, but for
-/// `NoMemory` and `Fault`, which may stand in place of others.
+/// Why a command wasn't carried out. If several apply, the first here is given, except that
+/// `NoMemory` and `Fault` may be given in place of others.
 #[derive(Clone, Copy)]
 pub enum Refusal {
     /// The machine is down: only `restart` and `cut` are taken.
@@ -61,12 +61,12 @@ pub enum Refusal {
     Fault,
     /// No object has the number.
     BadNumber,
-    /// What has the number can't be journaled.
+    /// The object with the number can't be journaled.
     NotJournaled(Unjournaled),
 }
 
-/// What is shown of an object. With that of a process come the registers in its annex. The usage is
-/// that of a bank, and 0 for other objects.
+/// What is shown of an object: for a process also the registers in its annex, and for a bank its
+/// usage, which is 0 for other objects.
 #[derive(Drop)]
 pub struct Description {
     pub number: u64,
@@ -75,7 +75,7 @@ pub struct Description {
     pub used: u64,
 }
 
-/// A description in a place of its own, so that an answer, which holds one seldom, stays small.
+/// A description in memory of its own, so that an answer stays small: few answers have one.
 #[derive(Drop)]
 pub struct Shown {
     description: Box<Description>,
@@ -90,7 +90,7 @@ impl Model for Shown {
 }
 
 impl Shown {
-    /// Takes a place for a description. Fails only where memory runs out.
+    /// Moves a description into memory of its own. Fails only if memory runs out.
     pub fn new(alloc: Global, description: Description) -> Result<Self, AllocError>
         ensures { IfOk result (λ shown. shown ≡ description) }
     {
@@ -118,7 +118,7 @@ pub enum Answer {
     Frozen(u64),
     /// How many frozen objects `stabilize` has yet to reach, or how many saved ones aren't home.
     Left(u64),
-    /// The frozen state is the saved one, and this its generation.
+    /// The frozen state became the saved one, with this generation.
     Committed(u64),
     /// The page is saved; the number is the new saved generation.
     Journaled(u64),

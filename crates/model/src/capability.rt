@@ -78,8 +78,8 @@ impl Capability {
         }
     }
 
-    /// What is left of a capability that is fetched through a weak one (EROS: weak access, KeyKOS:
-    /// sense).
+    /// The capability that a fetch through a weak one gives in place of this one (EROS: weak access,
+    /// KeyKOS: sense).
     ///
     /// A number stays. A page, a node and a space are read-only and weak. All else becomes void,
     /// since it can't be made harmless.

@@ -25,7 +25,7 @@ impl Model for Register {
 }
 
 impl Register {
-    /// The register of a number, where a process has it.
+    /// The register with this number, if a process has one.
     pub fn new(number: u8) -> Option<Register>
         ensures register { IfSome result (λ r. r ≡ number) }
         ensures some { IsSome result ↔ (number < 32) }
@@ -49,12 +49,12 @@ impl Register {
 /// What an invocation does to the process that makes it.
 #[derive(Clone, Copy, PartialEq, Eq)]
 pub enum Operation {
-    /// Through a gate it waits for an answer; with a kernel object, which answers at once, it goes
-    /// on.
+    /// Through a gate the process waits for an answer. A kernel object answers at once, so the process
+    /// goes on.
     Call,
-    /// It is available again.
+    /// The process is available again.
     Return,
-    /// It goes on.
+    /// The process goes on.
     Send,
 }
 
@@ -93,11 +93,11 @@ pub struct Message {
     pub words: [u64; 4],
     /// Which start capability was used, or 0.
     pub key: u16,
-    /// They come into registers 28 to 31.
+    /// The capabilities that are sent; they come into registers 28 to 31.
     pub capabilities: [Capability; 4],
 }
 
-/// A command of a script to the machine, a line each.
+/// A command to the machine: one line of a script.
 #[derive(Clone, Copy)]
 pub enum Command {
     Invoke(Invocation),
@@ -106,7 +106,7 @@ pub enum Command {
         process: u64,
         address: u64,
     },
-    /// Writes it.
+    /// Writes the word at an address of the process's address space.
     Store {
         process: u64,
         address: u64,

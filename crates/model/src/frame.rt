@@ -2,7 +2,7 @@
 use crate::capability::Cap;
 use crate::object::{Content, Role};
 
-/// What is kept of an object beside its content, whether or not the content is in memory.
+/// What is known of an object besides its content, whether or not the content is in memory.
 #[derive(Clone, Copy)]
 pub struct ObjectHeader {
     /// What the object is.

@@ -4,9 +4,9 @@ use crate::command::Command;
 /// What a line of a script says.
 #[derive(Clone, Copy)]
 pub enum Line {
-    /// Nothing: it is empty or a comment.
+    /// Nothing: the line is empty or a comment.
     Skip,
-    /// It isn't a line of the grammar.
+    /// The line isn't one of the grammar.
     Bad,
     Command(Command),
 }

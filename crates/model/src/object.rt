@@ -22,11 +22,11 @@ pub enum Role {
 /// What a process does.
 #[derive(Clone, Copy, PartialEq, Eq)]
 pub enum State {
-    /// It can be started.
+    /// The process can be started.
     Available = 0,
-    /// It invokes capabilities.
+    /// The process invokes capabilities.
     Running = 1,
-    /// It has called, and is resumed once.
+    /// The process has called, and can be resumed once.
     Waiting = 2,
 }
 
@@ -63,7 +63,7 @@ pub struct Object {
 }
 
 impl Role {
-    /// Its number in an image: the order above, from 0.
+    /// The number of the role in an image: its place above, from 0.
     pub fn number(self) -> u64
         ensures { result ≡ role_number self }
     {
@@ -72,7 +72,7 @@ impl Role {
 }
 
 impl State {
-    /// Its number in an image and in orders: the order above, from 0.
+    /// The number of the state in an image and in orders: its place above, from 0.
     pub fn number(self) -> u64
         ensures { result ≡ state_number self }
     {
@@ -97,7 +97,7 @@ impl<C> Content<C> {
 }
 
 impl Content<Cap> {
-    /// A reference to it.
+    /// A reference to the content.
     pub fn as_ref(&self) -> ContentRef<'_>
         ensures { content_behind result ≡ self.now }
     {

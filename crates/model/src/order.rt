@@ -4,7 +4,7 @@ ghost use Rattle.model.specs.OrderOutcome.{code_number};
 
 use crate::capability::Capability;
 
-/// What came of an order: the first of the result words.
+/// The result of an order: the first of the result words.
 #[derive(Clone, Copy)]
 pub enum ResultCode {
     Done = 0,

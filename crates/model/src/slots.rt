@@ -74,7 +74,7 @@ impl<C: Copy> Slots<C> {
         }
     }
 
-    /// Puts this into a slot.
+    /// Puts a value into a slot.
     pub fn set(&mut self, index: usize, held: C)
         requires { index < 32 }
         ensures set { self.new ≡ slice_set self.old index held }

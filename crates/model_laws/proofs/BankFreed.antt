@@ -1,4 +1,4 @@
--- What a bank frees or destroys, and what that leaves of the usage of each bank.
+-- The objects that a bank frees or destroys, and the usages after that.
 use Rattle.model_laws.proofs.Names.{nat_tests, inl, inr, ℕ, zero, suc, Bool, true, false, not, List, [], length, get_or, All, refl, sym, ap, subst, arith}
 use Rattle.model_laws.proofs.Names.{IsTrue, false≢true, cases_Bool, cases_eq, and_parts, false_from_ne_true, eqb-true, not-true, or_cases, get_or_past}
 use Rattle.model_laws.proofs.Names.{Capability, Page, Node, Process, Geometry, Content, Object, is_free, is_root, is_annex, is_bank, object_at, content_at}

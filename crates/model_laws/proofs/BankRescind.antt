@@ -1,4 +1,4 @@
--- What banks give up: sets of objects that can go together, and the usage that goes with them.
+-- Sets of objects that banks can rescind together, and the usages after that.
 use Rattle.model_laws.proofs.Names.{nat_tests, inl, inr, ℕ, zero, suc, nat_eq, Bool, true, false, not, cond, Option, None, Some, List, [], length, refl, sym}
 use Rattle.model_laws.proofs.Names.{ap, subst, arith, IsTrue, count_by, enumerate_from, false≢true, cases_Bool, cases_eq, false_from_ne_true, eq-eqb, ne_eqb}
 use Rattle.model_laws.proofs.Names.{not_from_false, or_left, or_right, length-map, length-enumerate_from, Capability, Void, Geometry, Content, Object, free}

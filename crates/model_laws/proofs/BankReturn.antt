@@ -1,4 +1,4 @@
--- A bank that is returned to its parent, and that what banks give up leaves objects sound.
+-- A bank that is returned to its parent; objects stay sound when banks give objects up.
 use Rattle.model_laws.proofs.Names.{nat_tests, inl, inr, ℕ, zero, suc, nat_eq, Bool, true, false, not, List, [], length, refl, sym, ap, subst, arith, IsTrue}
 use Rattle.model_laws.proofs.Names.{false≢true, cases_eq, and_right, or_right, eq-eqb, ne_eqb, eqb-true, eqb-false, length-map, Contains-from_any, Capability}
 use Rattle.model_laws.proofs.Names.{Void, Geometry, Content, Object, Arguments, free, is_free, is_root, is_annex, is_bank, role_of, root_in, made, object_at}

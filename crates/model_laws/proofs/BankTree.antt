@@ -1,4 +1,4 @@
--- The tree of banks: chains and what is in them.
+-- The tree of banks: chains and their members.
 use Rattle.model_laws.proofs.Names.{nat_tests, inl, inr, ℕ, zero, suc, true, false, List, [], length, refl, sym, ap, subst, arith, IsTrue, Contains, cases_eq}
 use Rattle.model_laws.proofs.Names.{eq-eqb, ne_eqb, get_or-set_same, get_or-set_other, length-set, Capability, Geometry, Content, Object, free, is_bank}
 use Rattle.model_laws.proofs.Names.{is_free, object_at, content_at, owner_at, chain, chain_within, with_new, is_member}

@@ -1,4 +1,4 @@
--- Usage after a new object, and the order of a bank where the frame is the same.
+-- Usages after a new object; what an order of a bank does if chains and roles are the same.
 use Rattle.model_laws.proofs.Names.{nat_tests, inl, inr, ℕ, false, not, add-zero, zero-add, List, [], length, map, refl, sym, arith, IsTrue, filter, list_all}
 use Rattle.model_laws.proofs.Names.{range_with_len, cases_eq, eq-eqb, ne_eqb, and_right, Capability, Geometry, Content, Object, free, is_bank, is_free}
 use Rattle.model_laws.proofs.Names.{object_at, content_at, chain, is_under, usage, are_free, free_nodes, free_pages, has_quota, with_new, freed_by, under}

@@ -1,4 +1,4 @@
--- What an order of a bank writes, and the annex of a process that outlives it.
+-- The numbers that an order of a bank writes, and the annex of a process that survives it.
 use Rattle.model_laws.proofs.Names.{nat_tests, ℕ, Bool, true, false, List, [], refl, ap, subst, arith, IsTrue, range_with_len, All-cons, All-filter, All-nil}
 use Rattle.model_laws.proofs.Names.{filter_passes, get_or-range_with_len, length-range_with_len, Capability, Geometry, Content, Object, Arguments, BankOrder}
 use Rattle.model_laws.proofs.Names.{allocated, are_free, bank_allocated, freed, freed_by, free_nodes, free_pages, has_quota, inherited, new_annex, new_root}

@@ -1,4 +1,4 @@
--- What holds in each case: of what is chosen, and of the objects after an invocation.
+-- A property that holds in each case: of a choice, and of the objects after an invocation.
 use Rattle.model_laws.proofs.Names.{arith, nat_tests, Bool, true, false, Option, None, Some, List, ℕ, IsTrue, Capability, Resume, Start, Invocation, Geometry}
 use Rattle.model_laws.proofs.Names.{Object, State, Effect, after_gate, after_order, can_start, deliver, invoke, on_kernel_object, replied, reply_of}
 use Rattle.model_laws.proofs.Names.{through_gate, OrderOutcome, consume, is_running_process, register_at, with_state}

@@ -1,4 +1,4 @@
--- Orders on what stays inside a set that encloses its members.
+-- Orders on objects of a set that encloses its members.
 use Rattle.model_laws.proofs.Names.{nat_tests, inl, ℕ, Bool, false, not, List, arith, IsTrue, nat_lt, Access, Capability, Void, Number, Page, Node, Space}
 use Rattle.model_laws.proofs.Names.{Process, Bank, Discrim, Geometry, Object, State, Available, Running, Arguments, NodeOrder, PageOrder, ProcessOrder, on_bank}
 use Rattle.model_laws.proofs.Names.{StaysInside, bank_order, fetched, is_space, node_order, on_node, on_page, on_process, order, page_order, process_order}

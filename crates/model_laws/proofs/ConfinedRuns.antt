@@ -1,4 +1,4 @@
--- Runs by processes of a closed set: each step stays in the set, with what was free.
+-- Runs by processes of a closed set: each step stays within the set and the free numbers.
 use Rattle.model_laws.proofs.Names.{nat_tests, inl, inr, ℕ, suc, Bool, true, false, Option, None, Some, Result, Ok, Err, List, [], map, refl, sym, ap, subst}
 use Rattle.model_laws.proofs.Names.{arith, IsTrue, nat_lt, bit_or, slice_index_or, and_parts, ltb-true, All-head, All-tail, le_or_l, le_or_r, Access, Answer}
 use Rattle.model_laws.proofs.Names.{MemoryFault, ReadOnly, Refusal, Capability, Void, Page, Node, Space, Command, Invocation, Geometry, Line, Content, Object}

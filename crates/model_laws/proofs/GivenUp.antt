@@ -1,4 +1,4 @@
--- What is rescinded: exactly what is rescinded.
+-- An order gives up exactly the objects that it rescinds.
 use Rattle.model_laws.proofs.Names.{nat_tests, ℕ, Bool, true, false, List, [], inl, inr, refl, ap, arith, IsTrue, slice_index_or, range_with_len, cases_Bool}
 use Rattle.model_laws.proofs.Names.{ext_get_or, get_or-set_other, get_or-set_same, get_or-map-range_with_len, length-map-range_with_len, Capability, Void}
 use Rattle.model_laws.proofs.Names.{Geometry, Content, Object, Arguments, BankOrder, ResultCode, freed, freed_by, on_bank, under, with_new, renewing, free}

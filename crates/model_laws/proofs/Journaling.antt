@@ -1,4 +1,4 @@
--- A saved world stays sound where a page of it has other words.
+-- A saved world stays sound when a page of it gets other words.
 use Rattle.model_laws.proofs.Names.{nat_tests, ℕ, Bool, true, false, Option, None, List, length, refl, sym, ap, subst, arith, slice_index, slice_index_or}
 use Rattle.model_laws.proofs.Names.{Refusal, Capability, Geometry, Content, Object, Available, is_page, is_waiting, root_in, words_in, HasShape, IsSound}
 use Rattle.model_laws.proofs.Names.{unjournaled, unless, World, content_at, owner_at, with_content, JournalKeepsSound}

@@ -1,4 +1,4 @@
--- A content with each capability in it changed is as it was in all else.
+-- A content with each capability in it changed stays the same otherwise.
 use Rattle.model_laws.proofs.Names.{arith, nat_tests, ℕ, zero, suc, Bool, List, [], map, get_or, refl, sym, Capability, Void, Content, Object, is_bank, is_free}
 use Rattle.model_laws.proofs.Names.{is_root, limit_in, map_content, role_of, root_in, slots_in, void_where, without}
 use Rattle.std.proofs.Common.{◌≡◌, ◌∷◌}

@@ -1,4 +1,4 @@
--- What is rescinded or consumed is named nowhere any more.
+-- After a rescind or a consume, no capability names what was rescinded or consumed.
 use Rattle.model_laws.proofs.Names.{nat_tests, ℕ, zero, suc, Bool, false, List, [], map, refl, sym, ap, arith, add-zero, zero-add, enumerate_from, Capability}
 use Rattle.model_laws.proofs.Names.{Void, Object, free, slots_in, root_in, object_at, void_where, without, is_member, names_member, rescind, RescindsAll}
 use Rattle.model_laws.proofs.Names.{ConsumesAll}

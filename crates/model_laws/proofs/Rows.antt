@@ -1,4 +1,4 @@
--- A worked row is proved by computing it: where it is wrong, the error shows the line.
+-- A worked row is proved by computing it; if it is wrong, the error shows the line.
 use Rattle.model_laws.proofs.Names.{ℕ, Bool, true, false, List, [], nat_eq, length, codes, All, bytes_eq, refl, ap₂, arith, digits, list_all, and_parts}
 use Rattle.model_laws.proofs.Names.{eqb-true, ltb-true, All-nil, All-cons, All-weaker, AllPass-from_list_all, bytes_eq-Decides, all_slots, zero_words}
 use Rattle.model_laws.proofs.Names.{with_content, with_word, with_slot, with_root, with_state, chain, usage, on_bank, has_quota, free_nodes, free_pages}

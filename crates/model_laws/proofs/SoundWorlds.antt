@@ -1,4 +1,4 @@
--- The worlds that scripts begin with are sound: each object is in its place.
+-- The worlds that scripts begin with are sound.
 use Rattle.model_laws.proofs.Names.{nat_tests, ℕ, false, zero, suc, true, List, [], length, replicate, refl, sym, subst, inl, inr, arith, false≢true, IsTrue}
 use Rattle.model_laws.proofs.Names.{slice_index, slice_index_or, slice_set, Contains, Capability, Void, Page, Node, Process, Start, Bank, Geometry, Content}
 use Rattle.model_laws.proofs.Names.{Object, State, Available, Running, full, free, all_slots, zero_words, is_free, is_root, is_annex, is_bank, words_in}

@@ -1,4 +1,4 @@
--- What processes that hold authority over a set of numbers alone can change: that set, and what was free.
+-- What processes can change if they have authority over a set of numbers only: that set, and free numbers.
 use Rattle.model_laws.specs.Names.{ℕ, Bool, true, false, None, Some, List, IsTrue, All, Capability, Command, Invocation}
 use Rattle.model_laws.specs.Names.{Geometry, Line, Object, named, IsClosed, Effect, invoke, Up, is_free, without, IsRun}
 use Rattle.model_laws.specs.Names.{Turn, IsSound, Fits, Says, World, content_at, object_at, is_running_process}
@@ -11,29 +11,29 @@ use Rattle.model.specs.declared.line.Line.TheVariants as line
 abbrev pub NamesInside : (ℕ → Bool) → Capability → Type 0
 NamesInside inside c = elim (named c) [ None ↦ ⊥ | Some n ↦ IsTrue (inside n) ]
 
--- an object is as it was, its owner too, but that capabilities that name a member of a set may be void
+-- an object keeps its owner and content, except that capabilities in it to members of the set may be void
 abbrev pub IsKept : (ℕ → Bool) → Object → Object → Type 0
 IsKept inside old new = (goes : Capability → Bool) × ((c : Capability) → goes c ≡ true → NamesInside inside c) ×
     (new ≡ without goes old)
 
--- a closed set that has the free numbers too
+-- a closed set that has all free numbers
 pub record Encloses (inside : ℕ → Bool) (os : List Object) : Type 0 where
   pub closed : IsClosed os inside
   pub free : (n : ℕ) → is_free (content_at os n) ≡ true → IsTrue (inside n)
 
--- everything outside is kept, and the set encloses what came of the rest
+-- each object outside the set is kept, and the set encloses the new objects us
 pub record StaysWithin (inside : ℕ → Bool) (os us : List Object) : Type 0 where
   pub encloses : Encloses inside us
   pub kept : (n : ℕ) → inside n ≡ false → IsKept inside (object_at os n) (object_at us n)
 
--- an invocation by a process of such a set stays in it
+-- an invocation by a process of an enclosing set stays within it
 abbrev pub InvocationIsConfined : Type 0
 InvocationIsConfined = (g : Geometry) (w : World) (i : Invocation) (e : Effect) (inside : ℕ → Bool) →
     IsSound g w → Fits (command.Invoke i) → IsTrue (is_running_process w.objects i.process) →
     Encloses inside w.objects →
     IsTrue (inside i.process) → invoke g w.objects i ≡ Some e → StaysWithin inside w.objects e.objects
 
--- a closed set with the numbers that are free
+-- a set with the free numbers added
 abbrev pub with_free : List Object → (ℕ → Bool) → ℕ → Bool
 with_free os inside n = inside n || is_free (content_at os n)
 
@@ -44,7 +44,7 @@ IsBy inside (command.Load p address) = IsTrue (inside p)
 IsBy inside (command.Store p address value) = IsTrue (inside p)
 IsBy inside _ = ⊥
 
--- a line that says such a command, or none
+-- a line that says such a command or no command; turns with only such lines
 abbrev pub IsLineBy : (ℕ → Bool) → Line → Type 0
 IsLineBy inside line.Skip = Unit {0}
 IsLineBy inside line.Bad = Unit {0}

@@ -21,7 +21,7 @@ InvocationKeepsSound = (g : Geometry) (w : World) (i : Invocation) (e : Effect) 
     IsSound g w → Fits (command.Invoke i) → IsTrue (is_running_process w.objects i.process) → w.age < 2 ^ 62 →
     invoke g w.objects i ≡ Some e → IsSound g (record { objects = e.objects; age = w.age + 1 })
 
--- a saved world stays sound where a page of it is journaled
+-- the saved world stays sound when one of its pages is journaled
 abbrev pub JournalKeepsSound : Type 0
 JournalKeepsSound = (g : Geometry) (s : Running) (n : ℕ) →
     IsSound g s.now → IsSound g s.saved.world → s.saved.world.age < 2 ^ 62 → unjournaled s n ≡ None →
@@ -35,8 +35,8 @@ DiminishesOnce = (c : Capability) → diminished (diminished c) ≡ diminished c
 abbrev pub FetchesWeak : Type 0
 FetchesWeak = (a : Access) (c : Capability) → a.0 ≡ 3 → IsWeak (fetched a c)
 
--- after a rescind the members are free, no slot or address space names one, and nothing else changed but for
--- capabilities that are void
+-- after a rescind the members are free, no slot or address space names one, and nothing else has changed
+-- except that capabilities to members are void
 abbrev pub RescindsAll : Type 0
 RescindsAll = (set : List ℕ) (os : List Object) →
     ((n : ℕ) → is_member set n ≡ true → is_free (content_at (rescind set os) n) ≡ true)
@@ -51,14 +51,14 @@ ConsumesAll = (p : ℕ) (os : List Object) →
     × ((n i : ℕ) → resumes p (slot_at (consume p os) n i) ≡ false)
     × ((q : ℕ) → resumes p (root_at (consume p os) q).space ≡ false)
 
--- the numbers that an order of a bank rescinds where it is done
+-- the numbers that an order of a bank rescinds if its code is `Done`
 abbrev pub rescinded_by : List Object → ℕ → BankOrder → Arguments → List ℕ
 rescinded_by os b bank.Free args = freed_by os args.capability
 rescinded_by os b bank.Destroy args = under os b
 rescinded_by os b bank.ReturnToParent args = b ∷ []
 rescinded_by os b _ args = []
 
--- an order of a bank that is done gives up what it rescinds and nothing else, and one that isn't gives nothing up
+-- an order of a bank gives up exactly the objects that it rescinds if its code is `Done`, else none
 abbrev pub GivesUpRescinded : Type 0
 GivesUpRescinded = (g : Geometry) (w : World) (b : ℕ) (requested : BankOrder) (args : Arguments) (n : ℕ) →
     IsSound g w → IsTrue (is_bank (content_at w.objects b)) → MayBeHeld w.objects args.capability →
@@ -68,27 +68,27 @@ GivesUpRescinded = (g : Geometry) (w : World) (b : ℕ) (requested : BankOrder) 
     × (((on_bank g w.objects b requested args).code ≡ code.Done → ⊥) →
     is_given_up w.objects (on_bank g w.objects b requested args).objects n ≡ false)
 
--- an invocation of a running process with no bank's order, through a gate or not, gives nothing up
+-- an invocation by a running process, through a gate or not, gives no object up unless it is an order of a bank
 abbrev pub GivesUpNothing : Type 0
 GivesUpNothing = (g : Geometry) (w : World) (i : Invocation) (e : Effect) (n : ℕ) →
     IsSound g w → Fits (command.Invoke i) → IsTrue (is_running_process w.objects i.process) →
     IsNoBankOrder (register_at w.objects i.process i.register) (slice_index i.words 0) → invoke g w.objects i ≡ Some e →
     is_given_up w.objects e.objects n ≡ false
 
--- the numbers touched are those touched before and those written
+-- the touched numbers after a write: those touched before it, and those written
 abbrev pub TouchesWritten : Type 0
 TouchesWritten = (touched : List Bool) (written : List ℕ) (n : ℕ) → n < length touched →
     (slice_get (touching touched written) n ≡ Some true) ↔ ((slice_get touched n ≡ Some true) ⊎ Contains written n)
 
--- an invocation that no earlier refusal meets is refused as log full exactly if the numbers
--- touched with those it writes are more than half of the log holds
+-- an invocation to which no earlier refusal applies is refused as log full exactly if the touched numbers,
+-- with those that it writes, are more than half of the log holds
 abbrev pub LogFullIsExact : Type 0
 LogFullIsExact = (g : Geometry) (s : Running) (i : Invocation) (e : Effect) →
     IsTrue (is_running_process s.now.objects i.process) → s.now.age < 2 ^ 62 → invoke g s.now.objects i ≡ Some e →
     (refusal_of g s (command.Invoke i) ≡ Some refusal.LogFull) ↔ (g.log < touched_count (touching s.touched e.written))
 
--- a store to a page that it may write is refused as log full exactly if the touched numbers and that page are more
--- than the log holds; one that ends in a memory fault isn't refused
+-- a store to a writable page is refused as log full exactly if the touched numbers and that page are more than
+-- half of the log holds; a store that ends in a memory fault isn't refused
 abbrev pub StoreLogFullIsExact : Type 0
 StoreLogFullIsExact = (g : Geometry) (s : Running) (p address value : ℕ) → IsTrue (is_running_process s.now.objects p) →
     ((page : ℕ) → writable (reached s.now.objects p address) ≡ Ok page →
@@ -97,7 +97,7 @@ StoreLogFullIsExact = (g : Geometry) (s : Running) (p address value : ℕ) → I
     × ((why : MemoryFault) → writable (reached s.now.objects p address) ≡ Err why →
     refusal_of g s (command.Store p address value) ≡ None)
 
--- the commands that the specification lets want memory
+-- whether the specification allows a command to fail for lack of memory
 abbrev pub may_lack_memory : Command → Bool
 may_lack_memory (command.Invoke i) = true
 may_lack_memory (command.Load p address) = true
@@ -105,7 +105,7 @@ may_lack_memory (command.Store p address value) = true
 may_lack_memory (command.Show n) = true
 may_lack_memory c = opens c
 
--- whether it lets want of memory stand in place of a refusal
+-- whether the specification allows `no memory` in place of this refusal, or of none
 abbrev pub may_give_way : Option Refusal → Bool
 may_give_way (Some refusal.NoProcess) = false
 may_give_way (Some refusal.BadNumber) = false
@@ -115,7 +115,7 @@ abbrev pub MayLackMemory : Geometry → Machine → Command → Type 0
 MayLackMemory g (Up s) c = IsTrue (may_lack_memory c && may_give_way (refusal_of g s c))
 MayLackMemory g (Down saved) c = IsTrue (opens c)
 
--- a step that the specification allows: the command's own answer, want of memory, or a failure of the device
+-- a step that the specification allows: the command's own answer, lack of memory, or a failure of the device
 abbrev pub StepAllowed : Geometry → Machine → Command → Answer → Machine → Type 0
 StepAllowed g m c a after =
     Proceeds g m c a after
@@ -127,7 +127,7 @@ abbrev pub StepsAllowed : Type 0
 StepsAllowed = (g : Geometry) (m : Machine) (c : Command) (a : Answer) (after : Machine) →
     Step g m c a after → StepAllowed g m c a after
 
--- only what shows an object or opens the device may be answered `no memory`
+-- only commands that show an object or open the device may be answered `no memory`
 abbrev pub WantsMemoryToShow : Type 0
 WantsMemoryToShow = (g : Geometry) (m : Machine) (c : Command) (after : Machine) →
     Step g m c (answer.Refused refusal.NoMemory) after → takes_memory c ≡ true

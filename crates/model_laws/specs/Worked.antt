@@ -44,7 +44,7 @@ IsRow r = (commands : List Command)
 abbrev pub aged : ℕ → World
 aged age = record { objects = i0.objects; age = age }
 
--- World S0: process 1 with annex 2 runs, and holds itself, the right to start it with key 7, the
+-- World S0: process 1 with annex 2 runs, and holds itself, the right to start itself with key 7, the
 -- right to classify capabilities, nodes 5 and 6, and page 16
 unfoldable pub s0 : World
 s0 = record {
@@ -60,8 +60,8 @@ s0 = record {
   age = 0;
 }
 
--- World B0: bank 5 with limit 10, bank 6 of it with limit 2, page 16 of that, and process 1 with annex
--- 2 runs, and holds the page
+-- World B0: bank 5 with limit 10 owns bank 6 with limit 2, which owns page 16; process 1 with annex 2 runs,
+-- and holds the page
 unfoldable pub b0 : World
 b0 = record {
   objects =

@@ -1,4 +1,4 @@
--- A world with a confined process, worked: its set of numbers is closed, and what the bound forbids.
+-- A worked world with a confined process: the set with its numbers is closed, and what that forbids.
 use Rattle.model_laws.specs.Names.{ℕ, Bool, List, [], replicate, slice_set, Void, Page, Node, Process, Start, Bank}
 use Rattle.model_laws.specs.Names.{Running, full, weak, IsClosed, free, all_slots, zero_words, World, with_slot}
 use Rattle.model_laws.specs.Names.{of_prime_bank, fresh_root, prime_bank}
@@ -29,7 +29,7 @@ c0 = record {
 abbrev pub confined : ℕ → Bool
 confined n = n == 3 || n == 4 || n == 6
 
--- they have no authority but over each other, and to read weakly
+-- these three have no authority except over each other, and to read weakly
 abbrev pub ConfinedIsClosed : Type 0
 ConfinedIsClosed = IsClosed c0.objects confined
 
@@ -39,12 +39,12 @@ OutwardIsNotClosed =
     (IsClosed (with_slot c0.objects 4 1 (Node 5 full)) confined → ⊥)
     × (IsClosed (with_slot c0.objects 4 1 (Node 5 (record { 0 = 1 }))) confined → ⊥)
 
--- how process 3 is shown once an order was refused as without access
+-- the answer to `show 3` after an order was refused for lack of access
 abbrev pub refused : String
 refused =
     "process 3 owner 0 annex 4 running key 0 words 2 0 0 0 space void\nregister 1 node 5 weak\nregister 2 bank 6\nend"
 
--- what process 3 tries to write by what it holds weakly is refused: code 2 is no access
+-- process 3 can't write through its weak capabilities: code 2 is no access
 abbrev pub only_reads : Row
 only_reads = row (at_world c0) (
     ("call 3 1 1 0 0 0 0 0 0 0", "done") ∷
@@ -53,7 +53,7 @@ only_reads = row (at_world c0) (
     ("show 16", "page 16 owner 0\nword 0 1\nend") ∷ ("show 5", "node 5 owner 0\nslot 0 page 16\nend") ∷
     [])
 
--- what its bank makes it writes, and gives up with the bank
+-- process 3 writes a page that its bank made, and gives it up with the bank
 abbrev pub makes_pages : Row
 makes_pages = row (at_world c0) (
     ("call 3 2 1 0 0 0 0 0 0 0", "done") ∷
@@ -61,14 +61,14 @@ makes_pages = row (at_world c0) (
     ("call 3 2 6 0 0 0 0 0 0 0", "done") ∷ ("show 17", "free 17\nend") ∷ ("show 6", "free 6\nend") ∷
     [])
 
--- If a weak fetch gave a capability that is only read-only, process 3 could fetch node 5 so. From there it would write
--- page 16, which no process of a closed set may change: what is fetched has to be weak too.
+-- If a weak fetch gave a capability that is only read-only, process 3 could fetch node 5 by it. From there it would
+-- write page 16, which no process of a closed set may change: what is fetched has to be weak too.
 abbrev pub escapes : Row
 escapes = row (at_world (record { objects = with_slot c0.objects 4 28 (Node 5 (record { 0 = 1 })); age = 0 })) (
     ("call 3 28 1 0 0 0 0 0 0 0", "done") ∷
     ("call 3 28 2 0 9 0 0 0 0 0", "done") ∷ ("show 16", "page 16 owner 0\nword 0 9\nend") ∷
     [])
 
--- these rows
+-- the rows above
 unfoldable pub rows : List Row
 rows = only_reads ∷ makes_pages ∷ escapes ∷ []

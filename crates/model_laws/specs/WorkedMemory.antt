@@ -80,6 +80,6 @@ restricts_ways = row (at_world s0) (
     ("load 1 33280", "memory fault 3") ∷
     [])
 
--- these rows
+-- the rows above
 unfoldable pub references : List Row
 references = finds_holes ∷ finds_pages ∷ reaches_deep ∷ descends_by_one ∷ restricts_ways ∷ []

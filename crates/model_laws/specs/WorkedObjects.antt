@@ -5,7 +5,7 @@ use Rattle.model_laws.specs.Shown.{f0_registers, s0_registers, s0_with_weak, pro
 use Rattle.model_laws.specs.Worked.{Row, at_world, b0, row, s0}
 use Prim.Native.String.{◌++◌}
 
--- a page is written and read, and not beyond its end
+-- a page is written and read; a read beyond its end is refused
 abbrev pub writes_page : Row
 writes_page = row (at_world f0) (
     ("call 1 6 2 3 99 0 0 0 0 0", "done") ∷ ("show 1", process_1 "running key 0 words 0 0 0 0" f0_registers) ∷
@@ -16,7 +16,7 @@ writes_page = row (at_world f0) (
     ("call 1 6 1 511 0 0 0 0 0 0", "done") ∷ ("show 1", process_1 "running key 0 words 0 7 0 0" f0_registers) ∷
     [])
 
--- the orders on nodes, numbers and spaces; the least code is given
+-- the orders on nodes, numbers and spaces; if several codes apply, the reply has the least
 abbrev pub asks_nodes : Row
 asks_nodes = row (at_world f0) (
     ("call 1 5 5 2 77 0 0 0 0 0", "done") ∷
@@ -57,7 +57,7 @@ reduces_further = row (at_world f0) (
     ("show 1", process_1 "running key 0 words 0 0 0 0" (f0_registers ++ "register 28 space 5 1 weak\n")) ∷
     [])
 
--- a page is fetched through a weak node: it is weak, and takes no write; void has no orders
+-- a page fetched through a weak node is weak, and refuses writes; void has no orders
 abbrev pub diminishes_page : Row
 diminishes_page = row (at_world f0) (
     ("call 1 5 2 0 0 0 6 0 0 0", "done") ∷ ("show 5", "node 5 owner 0\nslot 0 page 16\nend") ∷
@@ -126,7 +126,7 @@ shows_banks = row (at_world b0) (
     ("show 0", "bank 0 owner 0 limit 1000 used 5\nend") ∷
     [])
 
--- these rows
+-- the rows above
 unfoldable pub objects : List Row
 objects =
     writes_page ∷ asks_nodes ∷ reduces_further ∷ diminishes_page

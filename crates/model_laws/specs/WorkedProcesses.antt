@@ -37,7 +37,7 @@ stalls = row (at_world i0) (
     ("send 3 28 6 0 0 0 0 0 0 0", "stalled") ∷
     [])
 
--- a process is put to running, makes itself available, is started and answers
+-- a process is set running, makes itself available, is started and answers
 abbrev pub sets_state : Row
 sets_state = row (at_world i0) (
     ("call 1 4 7 1 0 0 0 0 0 0", "done") ∷
@@ -47,7 +47,7 @@ sets_state = row (at_world i0) (
     ("send 3 31 1 2 3 4 0 0 0 0", "done") ∷ ("show 1", process_1 "running key 0 words 1 2 3 4" i0_registers) ∷
     [])
 
--- a waiting process that is put to running or available is no longer resumed
+-- a waiting process that is set running or available is no longer resumed
 abbrev pub sets_state_once : Row
 sets_state_once = row (at_world i0) (
     ("call 1 3 5 0 0 0 1 0 0 0", "done") ∷
@@ -70,7 +70,7 @@ starts_itself = row (at_world i0) (
     ("show 1", process_1 "running key 8 words 6 0 0 0" (i0_registers ++ "register 28 bank 0\n")) ∷
     [])
 
--- an answer has key 0, of a process or of the kernel
+-- an answer has key 0, whether a process or the kernel answers
 abbrev pub resets_key : Row
 resets_key = row (at_world i0) (
     ("call 1 1 5 8 0 0 0 0 0 0", "done") ∷
@@ -83,7 +83,7 @@ resets_key = row (at_world i0) (
     ("send 3 31 1 2 3 4 0 0 0 0", "done") ∷ ("show 1", process_1 "running key 0 words 1 2 3 4" i0_registers) ∷
     [])
 
--- a reply of the kernel puts the last registers void
+-- a reply of the kernel makes registers 28 to 31 void
 abbrev pub clears_registers : Row
 clears_registers = row (at_world i0) (
     ("call 1 3 5 0 0 0 4 2 0 0", "done") ∷ (
@@ -119,7 +119,7 @@ asks_processes = row (at_world i0) (
     ("show 1", process_1 "available key 0 words 1 0 0 0" (i0_registers ++ "register 9 process 3\n")) ∷
     [])
 
--- these rows
+-- the rows above
 unfoldable pub processes : List Row
 processes =
     starts_process ∷ answers_once ∷ stalls ∷ sets_state

@@ -3,7 +3,7 @@ use Rattle.model_laws.specs.Names.{List, [], f0, i0}
 use Rattle.std.specs.Prelude.{◌^◌, ◌-◌, ◌∷◌}
 use Rattle.model_laws.specs.Worked.{Row, aged, at_world, row, s0, with_all_nodes_written}
 
--- references without a space or by what is no running process
+-- loads and stores without an address space, or by a number without a running process
 abbrev pub refuses_references : Row
 refuses_references = row (at_world i0) (
     ("load 1 0", "memory fault 1") ∷ ("load 3 0", "not running") ∷ ("load 5 0", "no process") ∷
@@ -53,7 +53,7 @@ fills_log = row (with_all_nodes_written f0) (
     ("call 1 6 2 0 1 0 0 0 0 0", "done") ∷
     [])
 
--- the walk comes before the log
+-- a memory fault precedes `log full`
 abbrev pub fills_log_by_store : Row
 fills_log_by_store = row (with_all_nodes_written s0) (
     ("store 1 0 1", "memory fault 1") ∷
@@ -62,7 +62,7 @@ fills_log_by_store = row (with_all_nodes_written s0) (
     ("store 1 0 1", "log full") ∷ ("load 1 0", "value 0") ∷
     [])
 
--- these rows
+-- the rows above
 unfoldable pub refusals : List Row
 refusals =
     refuses_references ∷ refuses_numbers ∷ refuses_in_order

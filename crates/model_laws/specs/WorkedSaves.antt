@@ -85,7 +85,7 @@ journals_saved = saves_page (
     ("migrate 3", "left 0") ∷ ("journal 16", "journaled 4") ∷
     [])
 
--- a page keeps the owner that is saved, and what else was written isn't saved with it
+-- a journaled page keeps its saved owner, and other writes aren't saved with it
 abbrev pub journals_words : Row
 journals_words = row (at_world i0) (
     ("call 1 2 4 10 0 0 0 0 0 0", "done") ∷
@@ -99,6 +99,6 @@ journals_words = row (at_world i0) (
     ("show 16", "page 16 owner 5\nword 0 42\nend") ∷
     [])
 
--- these rows
+-- the rows above
 unfoldable pub saving : List Row
 saving = saves ∷ saves_stores ∷ forgets ∷ counts_written ∷ journals ∷ journals_saved ∷ journals_words ∷ []

@@ -25,7 +25,7 @@ abbrev pub after : Machine → List Command → Machine
 after s [] = s
 after s (c ∷ cs) = after (answered s c).after cs
 
--- generation, age and entries of each saved part
+-- generation, age and entries of each saved state
 abbrev pub replying_saved : List Saved → List (ℕ × ℕ × ℕ)
 replying_saved saved = map (λ at. (at.generation, at.world.age, at.entries)) saved
 
@@ -33,7 +33,7 @@ replying_saved saved = map (λ at. (at.generation, at.world.age, at.entries)) sa
 abbrev pub AnswersBySteps : Type 0
 AnswersBySteps = (s : Machine) (c : Command) → Step small (Up s) c (answered s c).answer (Up (answered s c).after)
 
--- a page is frozen, then written again and all that is frozen is in the log, then committed
+-- three machines: a page is frozen; it is written again and all frozen objects are in the log; these are committed
 abbrev pub frozen : Machine
 frozen = after (at_world f0) (writes Call 42 ∷ command.Checkpoint ∷ [])
 
@@ -43,8 +43,8 @@ stable = after frozen (writes Send 43 ∷ command.Stabilize 5 ∷ [])
 abbrev pub committed : Machine
 committed = after stable (command.Commit ∷ [])
 
--- where the device fails in a commit or a journal, the saved part is the old or the new one; where it fails in the
--- migration of the last object, its entries are counted or not; elsewhere nothing is in doubt
+-- if the device fails in a commit or a journal, the saved state is the old or the new one; if it fails in the migration
+-- of the last object, the saved state has its entries or none; in other commands there is no doubt
 abbrev pub FailsBetween : Type 0
 FailsBetween =
     (replying_saved (candidates (Up stable) ++ second (Up stable) command.Commit) ≡ (0, 0, 0) ∷ (1, 2, 3) ∷ [])
@@ -58,15 +58,15 @@ FailsBetween =
     × (replying_saved (second (Up (after committed (command.Migrate 9 ∷ []))) (command.Journal 16)) ≡ (3, 3, 1) ∷ [])
     × (replying_saved (second (Up (at_world f0)) (command.Journal 5)) ≡ [])
 
--- a machine that is down says so, and is opened at one of its saved parts
+-- a machine that is down answers `down`, and reopens at one of its saved states
 abbrev pub OpensAgain : Type 0
 OpensAgain = (a b : Saved) →
     Proceeds small (Down (a ∷ b ∷ [])) (command.Show 5) (answer.Refused refusal.Down) (Down (a ∷ b ∷ []))
     × Proceeds small (Down (a ∷ b ∷ [])) command.Cut (answer.At b.generation b.world.age) (Up (opened small b))
     × Proceeds small (Down (a ∷ b ∷ [])) command.Restart (answer.At a.generation a.world.age) (Up (opened small a))
 
--- want of memory may stand in place of the text of an object, and leaves a machine down that was to be
--- opened; it never stands in place of `bad number`, `no process` or `down`, nor of an answer to `evict` or `journal`
+-- `no memory` may be answered in place of an object's text, and where a machine was to be opened, which is then down;
+-- never in place of `bad number`, `no process` or `down`, nor of an answer to `evict` or `journal`
 abbrev pub WantsMemory : Type 0
 WantsMemory =
     let none : Answer = answer.Refused refusal.NoMemory in
@@ -96,7 +96,7 @@ ChainsBanks = (chain b0.objects 6 ≡ 6 ∷ 5 ∷ 0 ∷ []) × (chain b0.objects
 abbrev pub slots_of_bank_5 : List Capability → List Object
 slots_of_bank_5 slots = record { owner = 5; content = content.Node slots } ∷ []
 
--- what is not consumed or rescinded stays, and each object has its owner
+-- capabilities that aren't consumed or rescinded stay, and each object keeps its owner
 abbrev pub RevokesOnly : Type 0
 RevokesOnly =
     (consume 1 (slots_of_bank_5 (Resume 1 ∷ Resume 3 ∷ Start 1 7 ∷ Process 1 ∷ []))

@@ -9,7 +9,7 @@ use Rattle.model.specs.declared.line.Line.TheVariants as line
 use Rattle.model_laws.specs.Worked.{at_world}
 use Rattle.model_laws.specs.WorkedSteps.{invokes}
 
--- lines that are commands, at the ends of what numbers may be
+-- lines that are commands, with numbers up to the greatest
 abbrev pub SaysCommands : Type 0
 SaysCommands =
     Says (codes "show 5") (line.Command (command.Show 5))
@@ -38,7 +38,7 @@ SaysBad =
     × Says (codes "call 1 32 0 0 0 0 0 0 0 0") line.Bad
     × Says (codes "show 18446744073709551616") line.Bad
 
--- the lines of a text: an empty rest at the end is none
+-- the lines of a text; nothing after the last newline is no line
 abbrev pub CutsLines : Type 0
 CutsLines =
     (lines_of [] ≡ [])
@@ -50,7 +50,7 @@ CutsLines =
 abbrev pub i0_turn : List ℕ → Reply → Turn
 i0_turn line reply = record { line = line; before = Up (at_world i0); reply = reply; after = Up (at_world i0) }
 
--- a run over two bad lines and one without its newline
+-- a run over two bad lines and a last line without a newline
 abbrev pub RunsScript : Type 0
 RunsScript =
     let turns : List Turn = i0_turn (replicate 257 97) BadLine ∷ i0_turn (codes "show 01") BadLine

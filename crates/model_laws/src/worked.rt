@@ -41,8 +41,8 @@ pub fn refusals_are_answered()
     ensures { All IsRow refusals }
 {}
 
-/// The answers in the rows are steps of the machine. If the device fails, one of two saved parts is
-/// possible. A machine that is down opens at a saved part. Memory may run out in place of some answers.
+/// The answers in the rows are steps of the machine. If the device fails, one of two saved states is
+/// possible. A machine that is down opens at a saved state. Memory may run out in place of some answers.
 #[tactic(auto, using(crate::proofs::WorkedRows::steps))]
 pub fn steps_are_taken()
     ensures answers { AnswersBySteps }

@@ -3,6 +3,6 @@ use Rattle.std.specs.Prelude.{List}
 use Rattle.names.specs.declared.name.Name.{Name}
 use Rattle.names.specs.declared.table.Names.{Names}
 
--- in the order of the names
+-- the names of a table, in its order
 abbrev pub entries : Names → List Name
 entries n = n.entries.items

@@ -14,14 +14,14 @@ is_in_line b = not (b == 10)
 abbrev pub lines_end : List ℕ → ℕ
 lines_end text = length text - suffix_len is_in_line text
 
--- the whole lines of a text, with names; and the rest of it
+-- the whole lines of a text, with names; the text after these lines
 abbrev pub named_lines : NamedLines → List ℕ → List ℕ
 named_lines l text = named_text l.kinds.now (entries l.names) (take (lines_end text) text)
 
 abbrev pub rest_of_lines : List ℕ → List ℕ
 rest_of_lines text = drop (lines_end text) text
 
--- What was written. With names, what was taken isn't what the writer beneath took, so it isn't known.
+-- What a writer with names has taken. If it adds names, that isn't what the writer beneath took, so it isn't known.
 abbrev pub written_above : Option NamedLines → ℕ → Written → Written
 written_above None own beneath = beneath
 written_above (Some l) own beneath = record { contents = None; failures = beneath.failures + own }
@@ -36,7 +36,7 @@ written_by written o = written_above o.lines o.failures.number (written o.inner)
 abbrev pub waiting_by : {W : Type 0} → (W → List ℕ) → NamedOutput W → List ℕ
 waiting_by waiting o = waiting_above o.lines (waiting o.inner)
 
--- the writer beneath, and what names lines
+-- the writer beneath; the lines that get names, if any do
 abbrev pub inner_output : {W : Type 0} → NamedOutput W → W
 inner_output o = o.inner
 

@@ -6,12 +6,12 @@ use Rattle.names.specs.declared.table.NamesFault.{NamesFault}
 use Rattle.names.specs.declared.table.NamesFault.TheVariants as fault
 use Rattle.toml.specs.Data.{Data, Members, integer}
 
--- memory ran out, or the members are no names
+-- why a table is refused: memory ran out, or its members are no names
 abbrev pub IsRefused : Members → NamesFault → Type 0
 IsRefused ms fault.NoMemory = Unit {0}
 IsRefused ms _ = (ns : List Name) → AreNamesOf ms ns → ⊥
 
--- a key and its value added a name to some
+-- a key and its value add a name to the list
 abbrev pub Adds : List ℕ → Data → List Name → List Name → Type 0
 Adds key d old new = (n : Name) × (new ≡ old ++ n ∷ []) × IsNamed key d n × (has n.number old ≡ false)
 

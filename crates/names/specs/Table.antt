@@ -15,7 +15,7 @@ abbrev pub is_name : List ℕ → Bool
 is_name [] = false
 is_name (b ∷ bs) = is_ascii_alphabetic b && list_all is_name_byte bs
 
--- a key is a name, and its value the number
+-- this key is the name, and its value is the number
 pub record IsNamed (key : List ℕ) (d : Data) (n : Name) : Type 0 where
   pub text : string_bytes n.text ≡ key
   pub is_one : is_name key ≡ true
@@ -28,11 +28,11 @@ AreNamed no_members [] = Unit {0}
 AreNamed (member key d ms) (n ∷ ns) = IsNamed key d n × AreNamed ms ns
 AreNamed ms ns = ⊥
 
--- a number has one of these names
+-- whether a number has one of these names
 abbrev pub has : ℕ → List Name → Bool
 has number names = list_any (λ n. n.number == number) names
 
--- no number comes twice
+-- no number occurs twice
 abbrev pub AreOnce : List Name → Type 0
 AreOnce [] = Unit {0}
 AreOnce (n ∷ ns) = (has n.number ns ≡ false) × AreOnce ns
@@ -41,7 +41,7 @@ AreOnce (n ∷ ns) = (has n.number ns ≡ false) × AreOnce ns
 abbrev pub AreNamesOf : Members → List Name → Type 0
 AreNamesOf ms ns = AreNamed ms ns × AreOnce ns
 
--- digits write a number
+-- whether these digits write the number n
 abbrev pub writes : ℕ → List ℕ → Bool
 writes n digits = bytes_eq (decimal n) digits
 

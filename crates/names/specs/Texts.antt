@@ -10,7 +10,7 @@ use Rattle.names.specs.declared.name.Name.{Name}
 abbrev pub digits_start : List ℕ → ℕ
 digits_start text = length text - suffix_len is_ascii_digit text
 
--- one of these words stands before the digits at the end
+-- whether one of these words comes before the digits at the end of a text
 abbrev pub names_object : List (Bor (List ℕ)) → List ℕ → Bool
 names_object kinds text = list_any (λ kind. ends_with (λ a b. a == b) (take (digits_start text) text) kind.now) kinds
 
@@ -18,19 +18,19 @@ abbrev pub begins_with_digit : List ℕ → Bool
 begins_with_digit [] = false
 begins_with_digit (b ∷ bs) = is_ascii_digit b
 
--- a name, as it stands after its number
+-- a name, as it is written after its number
 abbrev pub suffix_of : Option (List ℕ) → List ℕ
 suffix_of None = []
 suffix_of (Some name) = codes " (" ++ name ++ codes ")"
 
--- what stands after a text that another follows: the name of the object whose number ends there
+-- what is added between two parts of a text: the name of the object whose number ends there
 abbrev pub behind : List (Bor (List ℕ)) → List Name → List ℕ → List ℕ → List ℕ
 behind kinds names before after =
     if begins_with_digit after then []
     else if names_object kinds before then suffix_of (name_at names (drop (digits_start before) before))
     else []
 
--- a byte of a text with its index, and what stands after it
+-- a byte of a text, given with its index, and what is added after it
 abbrev pub byte_and_name : List (Bor (List ℕ)) → List Name → List ℕ → ℕ × ℕ → List ℕ
 byte_and_name kinds names text b = b.1 ∷ behind kinds names (take (b.0 + 1) text) (drop (b.0 + 1) text)
 

@@ -1,4 +1,4 @@
--- What each edit leaves of a set that is closed for reading, and of what two lists of objects have in common.
+-- After each edit, a set is still closed for reading, and two lists of objects still agree on it.
 use Rattle.noninterference.proofs.Names.{nat_tests, inl, ℕ, zero, suc, Bool, true, false, List, [], length, refl, sym, ap, subst, arith, IsTrue}
 use Rattle.noninterference.proofs.Names.{slice_index_or, Capability, Void, Content, Object, Root, State, free, is_bank, is_free, is_root, root_in, slots_in}
 use Rattle.noninterference.proofs.Names.{with_slot_in, with_word_in, consume, is_member, rescind, resumes, names_member, void_where, without}

@@ -20,7 +20,7 @@ depends_on_supply bank.NewBank = true
 depends_on_supply bank.Remaining = true
 depends_on_supply _ = false
 
--- whether a first word asks a capability for such an order, or the capability starts a process outside a set
+-- whether an invocation with this first word is such an order of a bank, or starts a process outside the set
 abbrev pub looks_outside : (ℕ → Bool) → Capability → ℕ → Bool
 looks_outside inside (Bank b) w = elim (bank_order w) [ None ↦ false | Some requested ↦ depends_on_supply requested ]
 looks_outside inside (Start p key) w = not (inside p)
@@ -38,7 +38,7 @@ pub record AreSameInside (g : Geometry) (trusted inside : ℕ → Bool) (w v : W
   pub closed : IsReadClosedBut trusted w.objects inside × IsReadClosedBut trusted v.objects inside
   pub same : HaveSame inside w.objects v.objects
 
--- an invocation by a running member that doesn't look outside does the same in both, and keeps the set closed
+-- an invocation by a running member that doesn't look outside does the same in both worlds, and keeps the set closed
 abbrev pub InvocationIsNoninterferent : Type 0
 InvocationIsNoninterferent = (g : Geometry) (trusted inside : ℕ → Bool) (w v : World) (i : Invocation) →
     AreSameInside g trusted inside w v → Fits (command.Invoke i) → IsTrue (is_running_process w.objects i.process) →
@@ -47,7 +47,7 @@ InvocationIsNoninterferent = (g : Geometry) (trusted inside : ℕ → Bool) (w v
     AreAlike inside (invoke g w.objects i) (invoke g v.objects i)
     × ((e : Effect) → invoke g w.objects i ≡ Some e → IsReadClosedBut trusted e.objects inside)
 
--- a turn that doesn't look outside, and one that isn't refused for the age or a full log
+-- a turn that doesn't look outside; a turn that isn't refused for the age or a full log
 abbrev pub LooksInside : (ℕ → Bool) → Turn → Type 0
 LooksInside inside t = (s : Running) (i : Invocation) → t.before ≡ Up s →
     Says t.line (line.Command (command.Invoke i)) →

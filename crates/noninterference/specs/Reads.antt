@@ -8,11 +8,11 @@ use Rattle.std.specs.Prelude.{◌≡◌, ◌⊎◌}
 abbrev pub NamesMember : (ℕ → Bool) → Capability → Type 0
 NamesMember inside c = elim (named c) [ None ↦ Unit {0} | Some n ↦ IsTrue (inside n) ]
 
--- the same, or it starts a trusted process
+-- a capability names a member of a set, or nothing, or starts a trusted process
 abbrev pub NamesBut : (ℕ → Bool) → (ℕ → Bool) → Capability → Type 0
 NamesBut trusted inside c = NamesMember inside c ⊎ StartsOne trusted c
 
--- a set whose members hold no capability to anything else, not even a weak one, but to start trusted processes
+-- a set whose members hold no capability, even a weak one, to anything outside it, except to start trusted processes
 pub record IsReadClosedBut (trusted : ℕ → Bool) (os : List Object) (inside : ℕ → Bool) : Type 0 where
   pub annexes : (p : ℕ) → IsTrue (inside p) → IsTrue (is_process os p) → IsTrue (inside (annex_at os p))
   pub owned : (b n : ℕ) → IsTrue (inside b) → IsTrue (is_bank (content_at os b)) →
@@ -20,6 +20,6 @@ pub record IsReadClosedBut (trusted : ℕ → Bool) (os : List Object) (inside :
   pub slots : (n i : ℕ) → IsTrue (inside n) → NamesBut trusted inside (slot_at os n i)
   pub spaces : (p : ℕ) → IsTrue (inside p) → NamesBut trusted inside (root_at os p).space
 
--- the same objects stand at the numbers of a set
+-- the numbers of a set have the same objects in os and in us
 abbrev pub HaveSame : (ℕ → Bool) → List Object → List Object → Type 0
 HaveSame inside os us = (n : ℕ) → IsTrue (inside n) → object_at us n ≡ object_at os n

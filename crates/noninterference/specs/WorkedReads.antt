@@ -8,7 +8,7 @@ use Rattle.model.specs.declared.object.State.TheVariants as state
 use Rattle.noninterference.specs.Reads.{HaveSame, IsReadClosedBut}
 
 -- Process 1 with annex 2 runs, and holds bank 5, which may own 4 objects, node 6 weakly, and the right to start process
--- 3, whose annex is 4. Given: bank 0, process 3, and what stands at 7 and at 16.
+-- 3, whose annex is 4. The arguments are bank 0, process 3, and objects 7 and 16.
 abbrev pub with_others : Object → Object → Object → Object → World
 with_others prime server seventh sixteenth = record {
   objects =
@@ -34,14 +34,14 @@ unfoldable pub e1 : World
 e1 = with_others (of_prime_bank (content.Bank 9)) (fresh_root state.Running 4) (of_prime_bank (content.Node (all_slots Void)))
     (of_prime_bank (content.Page zero_words))
 
--- process 1 with its annex, its bank and node 6; and the process that it may start
+-- the reader: process 1 with its annex, its bank and node 6; the server: the process that the reader may start
 abbrev pub reader : ℕ → Bool
 reader n = n == 1 || n == 2 || n == 5 || n == 6
 
 abbrev pub server : ℕ → Bool
 server n = n == 3
 
--- the worlds have the same objects in that set, and it is closed for reading in both
+-- both worlds have the same objects in the reader's set, which is closed for reading in both
 abbrev pub AreSameForReader : Type 0
 AreSameForReader =
     HaveSame reader e0.objects e1.objects × IsReadClosedBut server e0.objects reader
@@ -60,7 +60,7 @@ remains =
     ) ∷ [])
     ∷ []
 
--- a new page is the first that is free,
+-- a new page has the first free number, which differs
 abbrev pub new_pages : List Row
 new_pages =
     row (at_world e0) (("call 1 1 1 0 0 0 0 0 0 0", "done") ∷ (
@@ -73,7 +73,7 @@ new_pages =
     ) ∷ [])
     ∷ []
 
--- a new node too,
+-- a new node has the first free number, which differs
 abbrev pub new_nodes : List Row
 new_nodes =
     row (at_world e0) (("call 1 1 2 0 0 0 0 0 0 0", "done") ∷ (
@@ -86,7 +86,7 @@ new_nodes =
     ) ∷ [])
     ∷ []
 
--- and a new bank; a process needs two numbers, and bank 0 of world E1 allows one more object
+-- so has a new bank; a process needs two numbers, and bank 0 of World E1 allows just one more object
 abbrev pub new_banks : List Row
 new_banks =
     row (at_world e0) (("call 1 1 4 3 0 0 0 0 0 0", "done") ∷ (
@@ -118,6 +118,6 @@ starts =
     ∷ row (at_world e1) (("send 1 3 0 0 0 0 0 0 0 0", "stalled") ∷ [])
     ∷ []
 
--- these rows
+-- the rows above
 unfoldable pub rows : List Row
 rows = remains ++ new_pages ++ new_nodes ++ new_banks ++ new_processes ++ starts

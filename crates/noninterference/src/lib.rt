@@ -1,4 +1,4 @@
-//! What nothing outside a set of numbers determines: what its processes are answered, and its objects.
+//! Nothing outside a set of numbers determines the answers to its processes, or its objects.
 #![tactic(auto)]
 
 pub mod laws;

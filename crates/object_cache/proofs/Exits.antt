@@ -1,4 +1,4 @@
--- What one exit of a function gives of the calls before it.
+-- What holds at an exit of a function, from the calls before it.
 use Rattle.object_cache.proofs.Names.{Result, Ok, Err, OnOk, IsErrAnd, is_err, err_from_is_err_and, err_counts, Counts, Disk, ap, sym, subst, ℕ, most}
 use Rattle.object_cache.proofs.Names.{StoreState, GoesOnIn, IsFetchedIn, AreKeepable, IsKeepable, parts_of, stored_of, header_at, held_at, frames_in, on_device}
 use Rattle.object_cache.proofs.Names.{on_device_with, List, Bool, readied, AreKeepableIn, IsKeepableIn, OnlyFetches, false, true≢false, ContinuesIn, Held}

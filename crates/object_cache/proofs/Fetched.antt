@@ -1,4 +1,4 @@
--- Objects are brought into memory: those used last stay there.
+-- Objects are brought into memory; those used last stay there.
 use Rattle.object_cache.proofs.Names.{inl, inr, ℕ, zero, suc, true, false, true≢false, List, [], length, take, refl, sym, ap, subst, arith, slice_index_or}
 use Rattle.object_cache.proofs.Names.{cases_eq, eq-eqb, is_member, Disk, DurableState, stored_of, Memory, without, StoreState, IsCache, IsFetchedIn, ne_eqb}
 use Rattle.object_cache.proofs.Names.{cache_of, cached_at, with_cached, on_device_with, take-take, used_in_turn, IsBounded, take_all, length_without, in_front}

@@ -1,4 +1,4 @@
--- What is saved goes home, or what is frozen is saved: no object changes.
+-- Saved objects go home, or frozen ones are saved: no object changes.
 use Rattle.object_cache.proofs.Names.{ℕ, Bool, true, false, cond, List, [], length, map, Option, Some, None, option_map, Result, Ok, Err, refl, sym, ap, subst}
 use Rattle.object_cache.proofs.Names.{arith, count_by, range_with_len, cases_lt, length-map, same_lists, get_or_past, length-map-range_with_len}
 use Rattle.object_cache.proofs.Names.{get_or-map-range_with_len, sum_by-cons, none-some, same_Some, frame_at, Disk, Put, Absent, Broken, Kept, put_at, put_or}

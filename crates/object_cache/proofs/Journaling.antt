@@ -1,4 +1,4 @@
--- A page is journaled: no object changes, and what is saved of the page has the words that it has now.
+-- A page is journaled: no object changes, and the saved page gets the present words.
 use Rattle.object_cache.proofs.Names.{inl, inr, ℕ, Bool, true, false, List, length, set, length-set, Option, Some, None, option_map, Result, Ok, Err, refl, sym}
 use Rattle.object_cache.proofs.Names.{ap, subst, arith, cases_eq, get_or-set_same, get_or-set_other, none-some, Cap, Frame, ObjectHeader, Content, blank_frame}
 use Rattle.object_cache.proofs.Names.{frame_at, frames_in, header_at, held_at, AreKeepable, is_page, words_in, object_count, Disk, leaves_on, leaves_weaker}

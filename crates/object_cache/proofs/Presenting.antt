@@ -1,4 +1,4 @@
--- An edit of present objects, by what is seen of a store.
+-- An edit of present objects, as a store shows it.
 use Rattle.object_cache.proofs.Names.{List, length, refl, Cap, ObjectHeader, Content, Bool, Becomes, Image, Disk, StoreState, IsAnnouncedIn, arith, IsFetchedIn}
 use Rattle.object_cache.proofs.Names.{parts_of, ContinuesIn, continues_same, set, length-set, ℕ}
 use Rattle.std.proofs.Common.{◌≡◌}

@@ -1,4 +1,4 @@
--- The present body of an object in an entry is put, or was to be.
+-- The present body of an object with a cache entry is written to the log, or the write failed.
 use Rattle.object_cache.proofs.Names.{inl, inr, ℕ, zero, suc, Bool, true, false, cond, List, [], length, set, Some, option_map, refl, sym, ap, subst, arith}
 use Rattle.object_cache.proofs.Names.{length-set, get_or-set_same, get_or-set_other, sum_by-cons, none-some, Cap, ObjectHeader, Content, header_at, held_at}
 use Rattle.object_cache.proofs.Names.{IsKeepable, touched_count, Disk, Put, Absent, Broken, Kept, put_at, held_slot, sum_of, HasFreeSlot, most, DurableState}

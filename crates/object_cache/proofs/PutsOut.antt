@@ -1,4 +1,4 @@
--- The frozen frame of an object is put, or was to be.
+-- The frozen frame of an object is written to the log, or the write failed.
 use Rattle.object_cache.proofs.Names.{inl, inr, ℕ, Bool, true, false, List, length, map, set, Option, Some, None, option_map, refl, sym, ap, subst, arith}
 use Rattle.object_cache.proofs.Names.{length-set, count_by, range_with_len, cases_eq, get_or-set_same, get_or-set_other, none-some, same_Some, Cap, Frame}
 use Rattle.object_cache.proofs.Names.{Content, header_at, Put, Absent, Broken, Kept, put_at, most, FrozenPuts, Stored, below_at, with_frozen, with_put}

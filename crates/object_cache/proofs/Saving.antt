@@ -1,4 +1,4 @@
--- A page is saved after reads, and what a call that journals it leaves.
+-- A page is saved after reads; the outcome of a call that journals it.
 use Rattle.object_cache.proofs.Names.{ℕ, Bool, true, List, Option, Some, None, option_map, Result, Ok, Err, refl, sym, ap, subst, arith, inl, inr, Disk, Entry}
 use Rattle.object_cache.proofs.Names.{Frame, ObjectHeader, frame_at, words_in, SavedFrames, Holds, LeavesEither, LeavesOneOf, journaled_saved, leaves_weaker}
 use Rattle.object_cache.proofs.Names.{DurableState, GoesOn, ReadsStore, stored_of, is_sound, left_of, on_snapshots, journaled, next_journaled, is_page_role}

@@ -1,4 +1,4 @@
--- Frozen frames are put in turn, and as many fewer are said to be left.
+-- Frozen frames are written in turn, and `left` falls with each.
 use Rattle.object_cache.proofs.Names.{ℕ, Bool, true≢false, List, [], Option, Some, option_map, is_some, sym, ap, arith, count_by, none-some, same_Some}
 use Rattle.object_cache.proofs.Names.{HasNoneMarked, Frame, Disk, DurableState, FrozenPuts, stored_of, goes_trans, FrozenFrames, stabilized, Memory, frozen_in}
 use Rattle.object_cache.proofs.Names.{StoreState, IsCache, AreFrozen, PutsBy, snapshots_of, cache_of, on_device_frozen, pending_count}

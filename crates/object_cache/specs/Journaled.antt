@@ -8,12 +8,12 @@ use Rattle.std.specs.Prelude.{◌≡◌, ◌⊎◌, ◌+◌, ◌<◌, ◌≤◌,
 use Rattle.model.specs.declared.answer.Refusal.TheVariants as refusal
 use Rattle.model.specs.declared.object.Role.TheVariants as role
 
--- the body in its entry or, if it has none, the newest on the device
+-- an object's present body: the one in its cache entry or, without an entry, the newest on the device
 abbrev pub entry_body : Option Entry → Content Cap → Content Cap
 entry_body None newest = newest
 entry_body (Some e) newest = e.present
 
--- whether a page is saved under a number, and its present header has the saved allocation count
+-- whether the saved object n is a page with the allocation count of the present header h
 abbrev pub is_saved_page : Stored → ObjectHeader → ℕ → Bool
 is_saved_page s h n = is_same_page h.allocations (frame_at s.saved.frames n)
 
@@ -31,7 +31,7 @@ pub record MaySave {D : Type 0} (disk : D → Disk) (s : DurableState D) (header
   pub later : (stored_of disk s).saved.age < age
   pub most : age ≤ 2 ^ 62
 
--- it was saved with these words, or nothing was
+-- page n was saved with these words; after an error, nothing was
 pub record SavesPage {D E : Type 0} (disk : D → Disk) (s t : DurableState D) (n age : ℕ) (words : List ℕ)
     (result : Result ℕ E) : Type 0 where
   pub stored : OnOk result (stored_of disk t ≡ on_snapshots (journaled age n words) (stored_of disk s))

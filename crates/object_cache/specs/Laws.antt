@@ -51,7 +51,7 @@ module _ {D : Type 0} (disk : D → Disk) where
     still = λ is. second.still is ∙ first.still is;
   }
 
-  -- the saved frames while present objects change
+  -- present objects change, and the frozen and saved frames stay
   pub continues_by : (s t : StoreState D) → GoesOnIn disk s t → Continues disk (view_of disk s) (view_of disk t)
   continues_by s t goes = record {
     snapshots = λ stayed. goes.snapshots;

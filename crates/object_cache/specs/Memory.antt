@@ -1,4 +1,4 @@
--- Where the bodies of objects are: in an entry, in the staging buffer, or on the device.
+-- Where the bodies of objects are: in a cache entry, in the staging buffer, or on the device.
 use Rattle.object_cache.specs.Names.{ℕ, Bool, true, false, Option, Some, None, List, is_some, length, map}
 use Rattle.object_cache.specs.Names.{slice_index_or, range_with_len, Cap, Frame, ObjectHeader, Content, Role, header_at}
 use Rattle.object_cache.specs.Names.{Put, Absent, Broken, Kept, put_at, Stored, below_at, Entry, entry_at, content_of}
@@ -9,21 +9,21 @@ use Rattle.model.specs.declared.object.Role.TheVariants as role
 pub use Rattle.object_cache.specs.declared.frozen.FrozenState.{FrozenState}
 pub use Rattle.object_cache.specs.declared.frozen.FrozenState.TheVariants.{Nothing, Shared, Apart}
 
--- a body in no entry: what an object was frozen as, read so that its frame can be written again under a newer header
+-- a frozen body in no cache entry, read so that its frame can be written again with a newer header
 pub record Held : Type 0 where
   pub number : ℕ
   pub content : Content Cap
 
--- by a number and a body whose words and slots are in a scratch buffer, or by a reference to one
+-- such a body with its object's number: from words and slots in a scratch buffer, or from a reference
 abbrev pub held_in : Scratch → ℕ × Body → Held
 held_in scratch held = record { number = held.0; content = content_of held.1 scratch.slots scratch.words }
 
 abbrev pub held_behind : ℕ × ContentRef → Held
 held_behind held = record { number = held.0; content = content_behind held.1 }
 
--- What a store has in memory beside the durable store: the present and the frozen headers; the touched numbers; the
--- dirty ones, whose present frame isn't in the log; the pending ones, whose frozen frame isn't in the log; the entries;
--- and a frozen body that was read so that its frame can be written again.
+-- What a store has in memory besides the durable store: the present and the frozen headers; the touched numbers; the
+-- dirty ones, whose present frame isn't in the log; the pending ones, whose frozen frame isn't in the log; the cache
+-- entries; and a frozen body that was read so that its frame can be written again.
 pub record Memory : Type 0 where
   pub headers : List ObjectHeader
   pub frozen_headers : List ObjectHeader
@@ -48,36 +48,36 @@ memory_of headers frozen_headers touched dirty pending entries staging = record 
 abbrev pub mark_at : List Bool → ℕ → Bool
 mark_at marks n = slice_index_or marks n false
 
--- nothing where the object is free
+-- a content, or `Free` if the object's role is free
 abbrev pub masked : Role → Content Cap → Content Cap
 masked role.Free c = content.Free
 masked _ c = c
 
--- the body in the staging buffer, if it is this number's, or else another
+-- the body in the staging buffer if it is that of number n, else c
 abbrev pub in_staging : Option Held → ℕ → Content Cap → Content Cap
 in_staging None n c = c
 in_staging (Some h) n c = if h.number == n then h.content else c
 
--- the staging buffer once it has released a number's body
+-- the staging buffer, emptied if it has the body of number n
 abbrev pub released : ℕ → Option Held → Option Held
 released n None = None
 released n (Some h) = if h.number == n then None else Some h
 
--- the body that was put, or else another
+-- the body that was written, or c if none was
 abbrev pub put_body : Put → Content Cap → Content Cap
 put_body Absent c = c
 put_body Broken c = c
 put_body (Kept f) c = f.content
 
--- the body below the entries: that in the staging buffer, or else the frozen one that was put, or the saved one
+-- the body below the cache entries: in the staging buffer, else the frozen one that was written, else the saved one
 abbrev pub below_body : Stored → Memory → ℕ → Content Cap
 below_body s m n = in_staging m.staging n (below_at s n).content
 
--- the newest body without those in entries
+-- the newest body outside the cache entries
 abbrev pub newest_body : Stored → Memory → ℕ → Content Cap
 newest_body s m n = put_body (put_at s.working n) (below_body s m n)
 
--- what an object holds now, by its entry, its role, and the newest body without it
+-- an object's present body: the one in its cache entry, else the newest elsewhere; `Free` if its role is free
 abbrev pub present_body : Option Entry → Role → Content Cap → Content Cap
 present_body None r newest = masked r newest
 present_body (Some e) r newest = e.present
@@ -88,8 +88,8 @@ content_at s m n = present_body (entry_at m.entries n) (header_at m.headers n).r
 abbrev pub present_at : Stored → Memory → ℕ → Frame
 present_at s m n = record { header = header_at m.headers n; content = content_at s m n }
 
--- the frozen body of an object with an entry: its frozen copy; or the body below, if it was written since; or the
--- present body
+-- the frozen body of an object with a cache entry: its frozen copy; or the body below, if it was written since the
+-- freeze; or the present body
 abbrev pub apart_body : Option (Content Cap) → Bool → Content Cap → Content Cap → Content Cap
 apart_body (Some c) touched present below = c
 apart_body None true present below = below
@@ -99,7 +99,7 @@ abbrev pub frozen_body : Option Entry → Bool → Content Cap → Content Cap
 frozen_body None touched below = below
 frozen_body (Some e) touched below = apart_body e.kept touched e.present below
 
--- the frozen body that an entry has, if it has one: its frozen copy, or else the present body
+-- the frozen body that a cache entry has: its frozen copy, or else its present body
 abbrev pub own_body : Option (Content Cap) → Content Cap → Content Cap
 own_body (Some c) present = c
 own_body None present = present
@@ -107,11 +107,11 @@ own_body None present = present
 abbrev pub own_body_of : Entry → Content Cap
 own_body_of e = own_body e.kept e.present
 
--- and the frame of it, under the header that was frozen
+-- the frame of that body, with the frozen header
 abbrev pub own_frame : ObjectHeader → Entry → Frame
 own_frame h e = record { header = h; content = masked h.role (own_body_of e) }
 
--- the frozen frame of an object, whether or not it is in its slot
+-- the frozen frame of an object: made of the frozen header and body if it is pending, else the one below
 abbrev pub frozen_frame : Bool → ObjectHeader → Content Cap → Frame → Frame
 frozen_frame false h body below = below
 frozen_frame true h body below = record { header = h; content = masked h.role body }
@@ -120,15 +120,15 @@ abbrev pub frozen_at : Stored → Memory → ℕ → Frame
 frozen_at s m n = frozen_frame (mark_at m.pending n) (header_at m.frozen_headers n)
     (frozen_body (entry_at m.entries n) (mark_at m.touched n) (below_body s m n)) (below_at s n)
 
--- what all objects hold, and all frozen frames
+-- the present contents of all objects; their frozen frames
 unfoldable pub contents_in : Stored → Memory → List (Content Cap)
 contents_in s m = map (content_at s m) (range_with_len 0 (length m.headers))
 
 unfoldable pub frozen_in : Stored → Memory → List Frame
 frozen_in s m = map (frozen_at s m) (range_with_len 0 (length m.headers))
 
--- what an entry has of an unwritten frozen frame, by whether it is pending, whether there is a frozen copy, and whether
--- the object was written since
+-- what a cache entry has of an unwritten frozen frame, by whether the frame is pending, whether there is a frozen copy,
+-- and whether the object was written since the freeze
 abbrev pub frozen_state_body : Bool → Bool → FrozenState
 frozen_state_body true touched = Apart
 frozen_state_body false true = Nothing

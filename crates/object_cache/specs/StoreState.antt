@@ -12,9 +12,9 @@ use Rattle.model.specs.declared.object.Role.TheVariants as role
 use Rattle.object_cache.specs.Memory.{Held, Memory, FrozenState, Nothing, frozen_state_by, mark_at, present_at}
 use Rattle.object_cache.specs.Memory.{frozen_at, contents_in, frozen_in, frozen_states_in}
 
--- ---- its state
+-- ---- the state of a store
 
--- which numbers have an entry
+-- which numbers have a cache entry
 unfoldable pub cached_in : List (Option Entry) → List Bool
 cached_in es = map is_some es
 
@@ -71,7 +71,7 @@ module _ {D : Type 0} (disk : D → Disk) where
     to_move = (stored_of disk s.durable).to_move;
   }
 
-  -- it can be used if a crash leaves what is saved
+  -- a store can be used if a crash leaves what is saved
   abbrev pub IsUsableIn : StoreState D → Type 0
   IsUsableIn s = is_sound disk s.durable
 
@@ -92,7 +92,7 @@ module _ {D : Type 0} (disk : D → Disk) where
 abbrev pub cached_at : List Bool → ℕ → Bool
 cached_at cached n = slice_index_or cached n false
 
--- the number of entries is at most the capacity, and each number with an entry stands once in the order of use
+-- the number of cache entries is at most the capacity, and each number with one occurs once in the order of use
 pub record IsBounded {D : Type 0} (s : StoreState D) : Type 0 where
   pub listed : (n : ℕ) → is_member s.order n ≡ cached_at s.cached n
   pub once : AllDiffer s.order
@@ -105,7 +105,7 @@ frozen_state_at frozen_state n = slice_index_or frozen_state n Nothing
 abbrev pub pending_count : {D : Type 0} → StoreState D → ℕ
 pending_count s = count_by (λ b. b) s.pending
 
--- a number that had no entry has one, which was used last
+-- a store with a new cache entry for number n, which was used last
 abbrev pub with_cached : {D : Type 0} → ℕ → StoreState D → StoreState D
 with_cached n s = record s {
   cached = slice_set s.cached n true;
@@ -113,25 +113,25 @@ with_cached n s = record s {
   order = n ∷ s.order;
 }
 
--- `s` with the device and the staging buffer of `t`, and its marks of what is written
+-- `s` with the device and the staging buffer of `t`, and its marks of what is in the log
 abbrev pub on_device : {D : Type 0} → StoreState D → StoreState D → StoreState D
 on_device s t = record
     s { durable = t.durable; dirty = t.dirty; pending = t.pending; frozen_state = t.frozen_state; staging = t.staging }
 
--- the same, where more frozen frames may be in the log
+-- as `on_device`, and with the frozen state of `t`, which may have more frames in the log
 abbrev pub on_device_frozen : {D : Type 0} → StoreState D → StoreState D → StoreState D
 on_device_frozen s t = record (on_device s t) { frozen = t.frozen }
 
--- the same, with other entries in another order
+-- as `on_device`, and with the cache entries of `t` in their order
 abbrev pub on_device_with : {D : Type 0} → StoreState D → StoreState D → StoreState D
 on_device_with s t = record (on_device s t) { cached = t.cached; order = t.order }
 
--- numbers were announced: all else stays
+-- `s` with the marks of `t`, after numbers were announced
 abbrev pub readied : {D : Type 0} → StoreState D → StoreState D → StoreState D
 readied s t = record s { touched = t.touched; dirty = t.dirty; frozen_state = t.frozen_state }
 
--- frames were written, or bodies read, and what `like` takes of the new state changed alone. It fails exactly if the
--- device fails
+-- frames were written, or bodies read, and only what `like` takes from the new state changed. The call fails exactly
+-- if the device fails
 pub record Moves {D T E : Type 0} (disk : D → Disk) (like : StoreState D → StoreState D → StoreState D) (s t : StoreState D)
     (result : Result T E) : Type 0 where
   pub rest : t ≡ like s t
@@ -144,7 +144,7 @@ pub record PutsBy {D : Type 0} (disk : D → Disk) (s t : StoreState D) (k : ℕ
   pub rest : t ≡ on_device_frozen s t
   pub goes_on : GoesOn disk s.durable t.durable
 
--- what it holds can be kept, of one object and of all
+-- the present frame of object n can be kept; those of all objects can
 abbrev pub IsKeepableIn : {D : Type 0} → (D → Disk) → StoreState D → ℕ → Type 0
 IsKeepableIn disk s n = IsKeepable (stored_of disk s.durable).saved.geometry most n
     (record { header = header_at s.headers n; content = held_at s.contents n })
@@ -156,24 +156,24 @@ AreKeepableIn disk s = AreKeepable (parts_of disk s).geometry most (frames_of (p
 abbrev pub IsWithinLog : {D : Type 0} → (D → Disk) → StoreState D → Type 0
 IsWithinLog disk s = touched_count s.touched ≤ (stored_of disk s.durable).saved.geometry.log
 
--- a frozen frame may be put
+-- a frozen frame may be written to the log
 pub record MayPutFrozen {D : Type 0} (disk : D → Disk) (d : DurableState D) (n : ℕ) (f : Frame) : Type 0 where
   pub running : (puts : FrozenPuts) × ((stored_of disk d).frozen ≡ Some puts)
   pub object : n < object_count d.books.plan.geometry
   pub keepable : IsKeepable d.books.plan.geometry most n f
   pub room : (puts : FrozenPuts) → (stored_of disk d).frozen ≡ Some puts → HasFreeSlot puts.size puts.put n
 
--- without the entry of a number
+-- a store without the cache entry of number n
 abbrev pub without_cached : {D : Type 0} → ℕ → StoreState D → StoreState D
 without_cached n s = record s { cached = slice_set s.cached n false; order = without n s.order }
 
--- a number is fetched if it has an entry
+-- an object counts as fetched if it has a cache entry
 pub record IsFetchedIn {D : Type 0} (s : StoreState D) (n : ℕ) : Type 0 where
   pub header : n < length s.headers
   pub content : n < length s.contents
   pub cached : cached_at s.cached n ≡ true
 
--- a number may be written if it is dirty
+-- an object counts as announced, so that it may be written, if it is dirty
 pub record IsAnnouncedIn {D : Type 0} (s : StoreState D) (n : ℕ) : Type 0 where
   pub header : n < length s.headers
   pub content : n < length s.contents
@@ -201,40 +201,40 @@ pub record IsJustOpened (s : Stored) (hs : List ObjectHeader) : Type 0 where
   pub working : s.working ≡ replicate (length s.saved.frames) Absent
   pub idle : s.frozen ≡ None
 
--- entries hold the bodies of frames, by number, or none
+-- each cache entry has the body of its object's frame, and no frozen copy
 pub record HoldBodies (e : EntriesState) (fs : List Frame) : Type 0 where
   pub each : length e.at ≡ length fs
   pub bodies : (n : ℕ) (x : Entry) → entry_at e.at n ≡ Some x → x ≡ new_entry (frame_at fs n).content
 
--- each number has an entry
+-- each number has a cache entry
 abbrev pub AreAll : EntriesState → Type 0
 AreAll e = (n : ℕ) → n < length e.at → IsSome (entry_at e.at n)
 
--- the least capacity for `count` objects
+-- the least capacity with which `count` objects can all be cached
 abbrev pub all_of : ℕ → ℕ
 all_of count = if nat_le 8 count then count else 8
 
--- the present body of a number changes
+-- the cache entries, with another present body for number n
 abbrev pub with_body : ℕ → Content Cap → EntriesState → EntriesState
 with_body n c e = with_entry_of (changing (λ (x : Content Cap). c)) n e
 
--- what was taken of the saved objects: their headers, and entries with their bodies if all are kept
+-- what was taken of the saved objects: their headers, and cache entries with their bodies if all stay in memory
 pub record TakenState : Type 0 where
   pub headers : List ObjectHeader
   pub entries : Option EntriesState
   pub count : ℕ
 
--- an entry without a frozen copy
+-- this is a cache entry without a frozen copy
 abbrev pub IsUnkept : Option Entry → Type 0
 IsUnkept o = (c : Content Cap) × (o ≡ Some (new_entry c))
 
--- there are `count` entries, and those of the numbers from `taken` on have no frozen copy
+-- there are `count` cache entries, and those of the numbers from `taken` on have no frozen copy
 pub record HaveRoom (e : EntriesState) (taken count : ℕ) : Type 0 where
   pub each : length e.at ≡ count
   pub most : e.most ≡ all_of count
   pub later : (n : ℕ) → taken ≤ n → n < count → IsUnkept (entry_at e.at n)
 
--- of `count` numbers only those below `k` have an entry, without a frozen copy
+-- of `count` numbers only those below `k` have a cache entry, without a frozen copy
 pub record AreInserted (e : EntriesState) (k count : ℕ) : Type 0 where
   pub each : length e.at ≡ count
   pub used : length e.order ≡ k
@@ -265,7 +265,7 @@ is_kept Absent = false
 is_kept Broken = false
 is_kept (Kept f) = true
 
--- the frozen frames: each of those to write is pending or was put, a torn slot is that of a pending one, and at most
+-- the frozen frames: each that is to be written is pending or written, one with a torn slot is pending, and at most
 -- `left` are pending
 pub record AreFrozen (f : FrozenPuts) (pending : List Bool) (left : ℕ) : Type 0 where
   pub each : length f.put ≡ length pending
@@ -284,7 +284,7 @@ pub record IsCache (all : Bool) (s : Stored) (m : Memory) (left count : ℕ) : T
   pub entries : length m.entries ≡ object_count s.saved.geometry
   pub frames : length s.saved.frames ≡ object_count s.saved.geometry
   pub puts : length s.working ≡ object_count s.saved.geometry
-  -- each object has an entry, if all are kept
+  -- each object has a cache entry, if all are kept
   pub whole : all ≡ true → (n : ℕ) → n < length m.headers → IsSome (entry_at m.entries n)
   pub counted : count ≡ touched_count m.touched
   pub within : count ≤ s.saved.geometry.log
@@ -301,7 +301,7 @@ pub record IsCache (all : Bool) (s : Stored) (m : Memory) (left count : ℕ) : T
   pub keepable : (f : FrozenPuts) → s.frozen ≡ Some f → AreKeepable s.saved.geometry most (frozen_in s m)
   pub held : (h : Held) → m.staging ≡ Some h → mark_at m.pending h.number ≡ true
   pub apart : (n : ℕ) (e : Entry) → entry_at m.entries n ≡ Some e → (e.kept ≡ None) ⊎ (mark_at m.pending n ≡ true)
-  -- nobody reads the body below of an object that is frozen as free
+  -- the body below an object that is frozen as free is never needed
   pub freed : (n : ℕ) → entry_at m.entries n ≡ None → mark_at m.pending n ≡ true →
       (header_at m.frozen_headers n).role ≡ role.Free →
       (is_kept (put_at s.working n) ≡ true) ⊎ ((header_at m.headers n).role ≡ role.Free)

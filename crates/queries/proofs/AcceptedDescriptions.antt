@@ -1,4 +1,4 @@
--- The description of a world is built.
+-- The description of a world is accepted, so its image can be built.
 use Rattle.queries.proofs.Names.{ℕ, sym, subst, objects_of, sound_banked, sound_named, sound_plain, plain_frames, DescribedIsAccepted}
 use Rattle.std.proofs.Common.{◌^◌, ◌≤◌}
 use Rattle.description.specs.declared.fault.BuildFault.TheVariants as build

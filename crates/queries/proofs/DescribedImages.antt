@@ -1,4 +1,4 @@
--- What a store has that was made of a device, and what a build from the text of a description makes.
+-- A store that was made from a device; the image that is built from the text of a description.
 use Rattle.queries.proofs.Names.{ℕ, List, sym, ap, subst, ReadsSaved, same_Some, Members, Frame, Geometry, IsSoundFrames, world_at, World, Saved, Disk, Image}
 use Rattle.queries.proofs.Names.{agrees_is, Encodes, SavedState, OnlyReads, Holds, SavedFrames, saved_by, frames_of, first_saved, Live, Recovers, RefusesToOpen}
 use Rattle.queries.proofs.Names.{IsDescription, IsSame, description_once, described_is_same, same_described, View, Parts, DurableState, IsOver}

@@ -1,4 +1,4 @@
--- What a description for other sizes is built as.
+-- What is built from a description for other sizes.
 use Rattle.queries.proofs.Names.{IsDescriptionOf, SavedState, described_has_text, Written, Wrote, ℕ, List, Result, Ok, Err, map, sym, ap, subst, arith}
 use Rattle.queries.proofs.Names.{nat_tests, same_Some, Members, Frame, Geometry, Object, IsSoundFrames, world_at, Saved, IsSound, World, Disk, Holds}
 use Rattle.queries.proofs.Names.{SavedFrames, NumberRange, MayBeLaid, numbers_of, first_saved, may_be_laid, Description, IsDescription, IsSame}

@@ -1,4 +1,4 @@
--- The lines about what a store has, and those about what its device saves.
+-- The lines about a store are those about what its device saves.
 use Rattle.queries.proofs.Names.{HaveTheirRoles, role_number, role_of, headers_with, ℕ, List, [], map, cond, refl, sym, ap, fold, SavedState, kept_of, saved_of}
 use Rattle.queries.proofs.Names.{Cap, Frame, ObjectHeader, Content, Role, conveyed, headers, object_of, objects_of, world_at, map_content, Plan, Checkpoint}
 use Rattle.queries.proofs.Names.{info_lines, lines_with, objects_with, suc}

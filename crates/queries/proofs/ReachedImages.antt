@@ -1,4 +1,4 @@
--- What the command says of the objects that processes can ever change.
+-- What the command writes about the objects that processes can ever change.
 use Rattle.queries.proofs.Names.{Format, Written, ℕ, List, Result, Err, sym, subst, Object, objects_of, Disk, SavedState, AreSoundObjects, Fault, ReachesImage}
 use Rattle.queries.proofs.Names.{ReadsSaved, TellsReach, ReachQuestion, AreProcesses, AreStarts, TellsOf, is_process, Contains, slice_index_or, IsTrue, []}
 use Rattle.queries.proofs.Names.{refl, length, false, get_or_default, find, IfSome, not, Option, None, Some, inr, IsFirstMissing}

@@ -1,4 +1,4 @@
--- What is printed of why an image is refused.
+-- What is printed about why an image is refused.
 use Rattle.queries.specs.Names.{Written, Wrote, ℕ, List, codes, Option, None, Some, Result, Ok, Err, line_of, Disk}
 use Rattle.queries.specs.Names.{OpenFault, ImageFault, fault_text, WroteFront, Fault}
 use Rattle.std.specs.Prelude.{◌≡◌}
@@ -10,13 +10,13 @@ abbrev pub explanation_text : Option ImageFault → List ℕ
 explanation_text None = codes "ok"
 explanation_text (Some d) = fault_text d
 
--- the status: 0 only where nothing is wrong
+-- the status: 0 only if nothing is wrong
 abbrev pub explained_status : Result (Option ImageFault) Fault → ℕ
 explained_status (Ok None) = 0
 explained_status (Ok (Some d)) = 1
 explained_status (Err why) = 1
 
--- a fault of the image is none of the command
+-- the outcome of the command: a fault of the image isn't one of the command
 abbrev pub without_fault : Result (Option ImageFault) Fault → Result (Unit {0}) Fault
 without_fault (Ok found) = Ok tt
 without_fault (Err why) = Err why
@@ -27,7 +27,7 @@ TellsFault disk device back found Reported =
     (let r : Result (Option ImageFault) OpenFault = Ok found in Explains disk device back r) × Reported
     (line_of (explanation_text found))
 
--- that is written; or it isn't written whole; or the device failed, or memory ran out
+-- the line about an image is written; or it isn't written whole; or the device failed, or memory ran out
 abbrev pub ExplainsImage : {D : Type 0} → (D → Disk) → D → D → Written → Written →
     Result (Option ImageFault) Fault → Type 0
 ExplainsImage disk device back output output_left (Ok found) = TellsFault disk device back found

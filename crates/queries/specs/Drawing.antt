@@ -1,4 +1,4 @@
--- What the command that draws says of an image.
+-- What the command that draws an image writes.
 use Rattle.queries.specs.Names.{Written, Wrote, ℕ, Bool, true, false, Option, None, Some, List, [], Result, Ok, Err}
 use Rattle.queries.specs.Names.{Object, objects_of, is_process, Disk, WroteFront, Description, boxes, graph_text}
 use Rattle.queries.specs.Names.{IsPart, holders, is_listed, is_member, IsReach, Fault, Purpose, links}
@@ -7,30 +7,30 @@ use Rattle.queries.specs.declared.drawing.Focus.{Focus}
 use Rattle.jobs.specs.declared.fault.Fault.TheVariants as fault
 use Rattle.queries.specs.Images.{IsDescriptionOf, TellsImage}
 
--- a description is restricted to an object, which has a box, and to its holders, if one is named
+-- if a number is named, it has a box, and e is the part of d with this object and its holders; else e is d
 abbrev pub IsHeldTo : Option ℕ → Description → Description → Type 0
 IsHeldTo None d e = e ≡ d
 IsHeldTo (Some o) d e = (is_listed o (boxes d) ≡ true) × (inside : ℕ → Bool) ×
     ((n : ℕ) → inside n ≡ is_listed n (holders o d)) × IsPart inside d e
 
--- and to what a process reaches, if one is named
+-- if a process is named, e is the part of d that it reaches; else e is d
 abbrev pub IsReachedFrom : List Object → Option ℕ → Purpose → Description → Description → Type 0
 IsReachedFrom os None by d e = e ≡ d
 IsReachedFrom os (Some p) by d e = (is_process os p ≡ true) × (inside : ℕ → Bool)
     × IsReach os (links by (is_member [])) (p ∷ []) inside × IsPart inside d e
 
--- to both
+-- e is d with both restrictions
 abbrev pub IsFocus : List Object → Focus → Description → Description → Type 0
 IsFocus os focus d e = (m : Description) × IsHeldTo focus.to d m × IsReachedFrom os focus.from focus.purpose m e
 
--- so it was; or the number has no box; or memory ran out
+-- a description is restricted to an object and its holders; or the number has no box; or memory ran out
 abbrev pub KeepsHolders : Option ℕ → Description → Description → Result (Unit {0}) Fault → Type 0
 KeepsHolders to d e (Ok a) = IsHeldTo to d e
 KeepsHolders to d e (Err (fault.NoObject o)) = (to ≡ Some o) × (is_listed o (boxes d) ≡ false)
 KeepsHolders to d e (Err fault.NoMemory) = Unit {0}
 KeepsHolders to d e (Err _) = ⊥
 
--- so it was; or the number isn't that of a process; or memory ran out
+-- a description is restricted to what a process reaches; or the number has no process; or memory ran out
 abbrev pub KeepsReached : List Object → Option ℕ → Purpose → Description → Description → Result (Unit {0}) Fault →
     Type 0
 KeepsReached os from by d e (Ok a) = IsReachedFrom os from by d e
@@ -38,7 +38,7 @@ KeepsReached os from by d e (Err (fault.NoProcess p)) = (from ≡ Some p) × (is
 KeepsReached os from by d e (Err fault.NoMemory) = Unit {0}
 KeepsReached os from by d e (Err _) = ⊥
 
--- a number of a focus is none of an object with a box, or of a process
+-- a number of the focus is wrong: it has no box, or no process
 abbrev pub IsNoFocus : List Object → Focus → Description → Fault → Type 0
 IsNoFocus os focus d (fault.NoObject o) = (focus.to ≡ Some o) × (is_listed o (boxes d) ≡ false)
 IsNoFocus os focus d (fault.NoProcess p) = (focus.from ≡ Some p) × (is_process os p ≡ false)

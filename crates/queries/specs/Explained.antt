@@ -5,12 +5,12 @@ use Rattle.queries.specs.Names.{IsExplanation, WroteFront, Fault, IsOneLine}
 use Rattle.std.specs.Prelude.{◌+◌, if◌then◌else◌, ◌≡◌, ◌==◌, ◌||◌, ◌≤◌, ◌++◌, ◌∷◌}
 use Rattle.jobs.specs.declared.fault.Fault.TheVariants as fault
 
--- it is that of a description which `build` accepts on a device that is large enough
+-- the text is that of a description which `build` accepts on each device that is large enough
 abbrev pub IsAcceptedText : List ℕ → Type 0
 IsAcceptedText text = (table : Members) × (parse_document text ≡ Some table) × Explains table None
 
--- The line and the column after a text that begins at these. A column counts characters: a byte from 128 to 191 belongs
--- to the character before.
+-- The line and the column where a text ends that begins at this line and column. A column counts characters: a byte
+-- from 128 to 191 belongs to the character before it.
 abbrev pub position_from : ℕ → ℕ → List ℕ → ℕ × ℕ
 position_from line column [] = (line, column)
 position_from line column (b ∷ bs) =
@@ -22,7 +22,7 @@ position_from line column (b ∷ bs) =
 abbrev pub position_text : ℕ × ℕ → List ℕ → List ℕ
 position_text p why = codes "line " ++ (decimal p.0 ++ (codes ", column " ++ (decimal p.1 ++ (codes ": " ++ why))))
 
--- the place is one of the text, and the words stand on one line
+-- the line about a text that isn't TOML: a place in the text, and why, on one line
 abbrev pub IsSyntaxLine : List ℕ → List ℕ → Type 0
 IsSyntaxLine text line =
     (at : ℕ) × (why : List ℕ) × (at ≤ length text) × IsOneLine why

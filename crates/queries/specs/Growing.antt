@@ -5,7 +5,7 @@ use Rattle.queries.specs.Names.{NamesNodes, NamesPages, grown_geometry, descript
 use Rattle.std.specs.Prelude.{◌≡◌}
 use Rattle.jobs.specs.declared.fault.Fault.TheVariants as fault
 
--- a text is that of a description, and is read as it
+-- the text is that of the description, and is read as this description
 pub record IsSpelling (d : Description) (text : List ℕ) : Type 0 where
   pub table : Members
   pub read : parse_document text ≡ Some table
@@ -22,7 +22,7 @@ TellsDescription d output output_left (Err fault.CannotWriteOutput) = TellsText 
 TellsDescription d output output_left (Err fault.NoMemory) = output_left ≡ output
 TellsDescription d output output_left (Err _) = ⊥
 
--- a description is another's, renumbered for sizes that have a number for each object
+-- e is the description d, renumbered for these sizes, which have a number for each object
 pub record IsGrownFrom (sizes : Sizes) (d e : Description) : Type 0 where
   pub geometry : e.geometry ≡ grown_geometry d.geometry sizes
   pub limits : IsGeometry e.geometry
@@ -30,7 +30,7 @@ pub record IsGrownFrom (sizes : Sizes) (d e : Description) : Type 0 where
   pub nodes : NamesNodes e.geometry.nodes d
   pub pages : NamesPages d.geometry e.geometry d
 
--- so it was; or there are no such sizes; or memory ran out
+-- a description was renumbered; or the sizes don't suit it; or memory ran out
 abbrev pub GrowsDescription : Sizes → Description → Description → Result (Unit {0}) Fault → Type 0
 GrowsDescription sizes d e (Ok a) = IsGrownFrom sizes d e
 GrowsDescription sizes d e (Err (fault.Sizes why)) = IsNotRenumbered d (grown_geometry d.geometry sizes) why
@@ -40,7 +40,7 @@ GrowsDescription sizes d e (Err _) = ⊥
 abbrev pub TellsGrownText : Description → Sizes → (List ℕ → Type 0) → Type 0
 TellsGrownText d sizes Reported = (e : Description) × IsGrownFrom sizes d e × TellsText e Reported
 
--- the text of a renumbered description was written; or a fault
+-- the text of a renumbered description was written; or the fault says why not
 abbrev pub TellsGrown : Description → Sizes → Written → Written → Result (Unit {0}) Fault → Type 0
 TellsGrown d sizes output output_left (Ok a) = TellsGrownText d sizes (Wrote output output_left)
 TellsGrown d sizes output output_left (Err fault.CannotWriteOutput) = TellsGrownText d sizes

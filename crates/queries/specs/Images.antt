@@ -1,4 +1,4 @@
--- What the commands that read an image tell of it.
+-- What the commands that read an image say about it.
 use Rattle.queries.specs.Names.{Written, Wrote, ℕ, List, [], map, Some, Result, Ok, Err, Members, parse_document, Frame}
 use Rattle.queries.specs.Names.{Geometry, IsSoundFrames, world_at, World, Disk, Encodes, SavedState, Plan}
 use Rattle.queries.specs.Names.{version_number, OnlyReads, numbers_of, RefusesToOpen, Description, IsDescription, Sizes}
@@ -14,7 +14,7 @@ pub record ReadsSaved {D : Type 0} (disk : D → Disk) (device back : D) (state 
   pub failures : (disk back).failures ≡ (disk device).failures
   pub only_reads : OnlyReads (disk device) (disk back)
 
--- a device was opened so, and this part of what it saves was read
+-- a device was read in this way, and x is what `Is` says of what it saves
 abbrev pub IsReadFrom : {D T : Type 0} → (D → Disk) → (SavedState → T → Type 0) → D → D → T → Type 0
 IsReadFrom disk Is device back x = (s : SavedState) × ReadsSaved disk device back s × Is s x
 
@@ -46,7 +46,7 @@ pub record IsDescribedIn (p : Plan) (g : Geometry) (age : ℕ) (frames : List Fr
     pub ranges : description.ranges.items ≡ grown_ranges p.geometry g (map numbers_of p.ranges)
     pub layout : description.layout ≡ version_number p.version
 
--- A text is that of such a description: the one text of it, and it is read as it.
+-- A text is the one text of such a description, and is read as this description.
 pub record IsTextIn (p : Plan) (g : Geometry) (age : ℕ) (frames : List Frame) (text : List ℕ) : Type 0 where
   pub table : Members
   pub read : parse_document text ≡ Some table
@@ -57,7 +57,7 @@ pub record IsTextIn (p : Plan) (g : Geometry) (age : ℕ) (frames : List Frame) 
 
 -- A text is that of a description which gives each object the state in its frame, at the age of the frames, and nothing
 -- else: no default, numbers in order, and the home ranges and the version of a plan. It is the one text of that
--- description, and is read as it.
+-- description, and is read as that description.
 pub record IsTextOf (p : Plan) (age : ℕ) (frames : List Frame) (text : List ℕ) : Type 0 where
   pub table : Members
   pub read : parse_document text ≡ Some table
@@ -74,7 +74,7 @@ abbrev pub TellsWhole : Sizes → SavedState → (List ℕ → Type 0) → Type 
 TellsWhole sizes s Reported = (text : List ℕ)
     × IsTextIn s.plan (grown_geometry s.plan.geometry sizes) s.header.age s.frames text × Reported text
 
--- all was written; or not all of it; or there is no image of these sizes for it; or memory ran out
+-- such a text was written; or not all of it; or an image of these sizes can't have the objects; or memory ran out
 abbrev pub TellsGrownState : Sizes → SavedState → Written → Written → Result (Unit {0}) Fault → Type 0
 TellsGrownState sizes s output output_left (Ok a) = TellsWhole sizes s (Wrote output output_left)
 TellsGrownState sizes s output output_left (Err fault.CannotWriteOutput) = TellsWhole sizes s

@@ -42,7 +42,7 @@ info_text f lines = flat_map (λ l. line_of (info_line f l)) lines
 abbrev pub range_line : HomeRange → InfoLine
 range_line r = line.Range r.first r.count
 
--- the lines about the image of a plan with a checkpoint, and as many objects of each role as a function says
+-- the lines about the image of a plan with a checkpoint; `count` says how many objects of each role it has
 abbrev pub lines_with : Plan → Checkpoint → (Role → ℕ) → List InfoLine
 lines_with p saved count =
     ((line.Layout (version_number p.version) ∷ line.Nodes p.geometry.nodes ∷ line.Pages p.geometry.pages ∷ line.Log
@@ -52,11 +52,11 @@ lines_with p saved count =
     ∷ line.Free (count role.Free) ∷ line.PageObjects (count role.Page) ∷ line.NodeObjects (count role.Node)
     ∷ line.Processes (count role.Root) ∷ line.Banks (count role.Bank) ∷ []
 
--- with as many as there are headers of each
+-- how many headers have a role
 abbrev pub headers_with : Role → List ObjectHeader → ℕ
 headers_with r hs = count_by (λ h. role_number h.role == role_number r) hs
 
--- The lines about the image of a plan with a saved part: the superblock, the home ranges, the checkpoint, and how many
+-- The lines about the image of a plan with a saved state: the superblock, the home ranges, the checkpoint, and how many
 -- objects of each kind its world has. A process is counted by its root.
 abbrev pub info_lines : Plan → Saved → List InfoLine
 info_lines p saved = lines_with p

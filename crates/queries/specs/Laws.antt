@@ -1,11 +1,11 @@
--- What the text of a description is built as.
+-- What `build` makes of the text of a description.
 use Rattle.queries.specs.Names.{ℕ, List, Some, Members, parse_document, Frame, Geometry, IsSoundFrames, world_at, Saved}
 use Rattle.queries.specs.Names.{World, Image, Version, Plan, version_number, Holds, SavedFrames, MayBeLaid, Denotes}
 use Rattle.queries.specs.Names.{Description, IsDescription, IsAccepted, plan_for, IsSavedOf, Describes, IsGrown}
 use Rattle.std.specs.Prelude.{◌≡◌, ◌≤◌}
 use Rattle.queries.specs.Images.{IsTextIn, IsTextOf}
 
--- what is saved of frames that were never saved before
+-- the saved state of frames in a new image: generation 0, and nothing in the log
 abbrev pub anew : ℕ → List Frame → Saved
 anew age frames = record { world = world_at age frames; generation = 0; entries = 0 }
 

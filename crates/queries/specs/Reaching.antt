@@ -1,4 +1,4 @@
--- What the command says of the objects that some processes can ever change or read.
+-- What the command says about the objects that some processes can ever change or read.
 use Rattle.queries.specs.Names.{Written, ℕ, Bool, not, Option, None, Some, List, Vec, Result, Ok, Err, IsTrue, is_some}
 use Rattle.queries.specs.Names.{Wrote, WroteFront, All, find, Global, is_marked, Object, objects_of, is_process, Disk}
 use Rattle.queries.specs.Names.{Step, IsShortestIfAny, chain_text, reach_text, BoundsRuns, IsReach, true, false}
@@ -21,7 +21,7 @@ pub record IsSetText (f : Format) (os : List Object) (p : Purpose) (starts trust
   pub bounds : BoundsRuns os (is_member trusted) (is_marked marks)
   pub spelled : text ≡ reach_text f os marks
 
--- the text of a shortest chain to an object that there is, or that there is none: it is outside that set
+-- the text of a shortest chain to an existing object; or that there is none, if the object is outside the least set
 pub record IsChainText (f : Format) (os : List Object) (p : Purpose) (starts trusted : List ℕ) (o : ℕ) (text : List ℕ)
     : Type 0 where
   pub there : is_free (content_at os o) ≡ false
@@ -31,7 +31,7 @@ pub record IsChainText (f : Format) (os : List Object) (p : Purpose) (starts tru
       inside o ≡ is_some chain
   pub spelled : text ≡ chain_text f os p o chain
 
--- the text of those of some processes that can ever change, or read, an object that there is
+-- the text of those of some processes that can ever change, or read, an existing object
 pub record IsChangersText (f : Format) (os : List Object) (p : Purpose) (starts trusted : List ℕ) (o : ℕ) (text : List ℕ)
     : Type 0 where
   pub there : is_free (content_at os o) ≡ false
@@ -51,7 +51,7 @@ object_of (question.Set p) = None
 object_of (question.Chain p o) = Some o
 object_of (question.Changers p o) = Some o
 
--- the answer about some processes was written; or not whole; or its number has no object; or memory ran out
+-- the answer about some processes was written; or not whole; or the question's number has no object; or memory ran out
 abbrev pub TellsOf : Format → List Object → List ℕ → List ℕ → ReachQuestion → Written → Written →
     Result (Unit {0}) Fault → Type 0
 TellsOf f os starts trusted q output output_left (Ok a) =
@@ -68,12 +68,12 @@ abbrev pub AreStarts : List Object → List ℕ → List ℕ → Type 0
 AreStarts os [] starts = (n : ℕ) → Contains starts n ↔ IsTrue (is_process os n)
 AreStarts os (p ∷ ps) starts = (starts ≡ p ∷ ps) × AreProcesses os (p ∷ ps)
 
--- the first number that has no process, of those named and else of those trusted
+-- the first named number without a process; if there is none, the first trusted number without one
 abbrev pub IsFirstMissing : List Object → List ℕ → List ℕ → ℕ → Type 0
 IsFirstMissing os named trusted p = (find (λ n. not (is_process os n)) named ≡ Some p)
     ⊎ (AreProcesses os named × (find (λ n. not (is_process os n)) trusted ≡ Some p))
 
--- so it was of these; or a number that is named or trusted has no process; or memory ran out
+-- the answer about these processes was written; or a named or trusted number has no process; or memory ran out
 abbrev pub TellsReach : Format → List Object → List ℕ → List ℕ → ReachQuestion → Written → Written →
     Result (Unit {0}) Fault → Type 0
 TellsReach f os named trusted q output output_left (Err (fault.NoProcess p)) =

@@ -1,4 +1,4 @@
--- Chains lead to what was found, and nowhere else. What was found is the least closed set: closed sets are those that no step leaves.
+-- Chains lead exactly to the numbers that were found. These are the least closed set: no step leaves a closed set.
 use Rattle.reach.proofs.Names.{nat_tests, ℕ, Bool, true, false, is_some, Option, None, Some, List, [], length, reverse, option_and_then, inl, inr, ⊎_elim, refl}
 use Rattle.reach.proofs.Names.{sym, ap, subst, arith, IsTrue, All, cases_eq, length-reverse, length_push, reverse-append, same_Some, Capability, Void, Page}
 use Rattle.reach.proofs.Names.{Node, Space, Process, Start, Resume, Bank, Content, Object, IsConfinedBut, AreBy, with_free, slots_in, annex_at, content_at}

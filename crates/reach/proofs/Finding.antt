@@ -1,4 +1,4 @@
--- What holds as numbers are found by steps.
+-- What holds while numbers are found by steps.
 use Rattle.reach.proofs.Names.{nat_tests, ℕ, max, zero, suc, true, false, is_some, Option, None, Some, List, [], length, length-set, slice_set, inl, inr}
 use Rattle.reach.proofs.Names.{⊎_elim, refl, sym, ap, arith, get_or-set_same, get_or-set_other, same_Some, Capability, Void, Object, is_free, content_at}
 use Rattle.reach.proofs.Names.{owner_at, Found, Levels, Step, Way, Conveys, Begins, FindsBy, IsBy, IsFoundBy, IsHeldIn, IsOwnedBelow, IsTheStep, found_at}

@@ -1,4 +1,4 @@
--- What can change an object.
+-- The objects that can change an object.
 use Rattle.reach.proofs.Names.{nat_tests, ℕ, zero, suc, Bool, true, false, not, List, [], length, slice_set, slice_index_or, inl, inr, ⊎_elim, refl, sym, ap}
 use Rattle.reach.proofs.Names.{subst, arith, IsTrue, All, get_or_default, Contains, is_marked, Object, is_free, is_bank, content_at, owner_at, is_process}
 use Rattle.reach.proofs.Names.{AreSoundObjects, AddsOwners, AllChange, Grows, HasOwners, IsClosedAt, LeadsInto, Widens, others, unmarked, AreChangers, ConveysInto}

@@ -11,7 +11,7 @@ use Rattle.reach.specs.Links.{Links}
 use Rattle.reach.specs.declared.step.Way.{Way}
 use Rattle.reach.specs.declared.step.Way.TheVariants as way
 
--- whether a capability is followed: a weak one only to what may be read
+-- whether a search follows a capability; it follows a weak one only if it looks for what can be read
 abbrev pub IsFollowed : Purpose → Capability → Type 0
 IsFollowed purpose.Change c = IsWeak c → ⊥
 IsFollowed purpose.Read c = Unit {0}
@@ -25,7 +25,7 @@ abbrev pub held_by : List Object → Content Capability → List Capability
 held_by os (content.Root root) = slots_in (content_at os root.annex)
 held_by os other = slots_in other
 
--- a way from an object with a content to another object
+-- a way from object n, which has the content x, to object m
 abbrev pub IsWay : List Object → Links → ℕ → Content Capability → Way → ℕ → Type 0
 IsWay os follows n x way.Annex m = IsTrue (is_root x) × ((root_in x).annex ≡ m)
 IsWay os follows n x way.Owner m = IsTrue (is_bank x) × (is_free (content_at os m) ≡ false) × (owner_at os m ≡ n)
@@ -40,11 +40,11 @@ abbrev pub IsPath : List Object → Links → ℕ → List Step → ℕ → Type
 IsPath os follows n [] m = n ≡ m
 IsPath os follows n (s ∷ ss) m = (s.from ≡ n) × IsStep os follows s × IsPath os follows s.to ss m
 
--- a chain of steps from one of some numbers to an object
+-- a chain of steps from one of the numbers `starts` to object o
 abbrev pub IsChain : List Object → Links → List ℕ → List Step → ℕ → Type 0
 IsChain os follows starts steps o = (p : ℕ) × Contains starts p × IsPath os follows p steps o
 
--- and none has fewer steps
+-- a chain than which none has fewer steps
 pub record IsShortest (os : List Object) (follows : Links) (starts : List ℕ) (steps : List Step) (o : ℕ) : Type 0 where
   pub chain : IsChain os follows starts steps o
   pub least : (others : List Step) → IsChain os follows starts others o → length steps ≤ length others

@@ -44,12 +44,12 @@ step_line f os s = line_of (step_text f os s.from s.way s.to)
 abbrev pub steps_text : Format → List Object → List Step → ℕ → List ℕ
 steps_text f os steps o = flat_map (step_line f os) steps ++ line_of (object_text f o (object_at os o))
 
--- without a chain `cannot change page 48`, or `cannot read page 48`
+-- if there is no chain: `cannot change page 48`, or `cannot read page 48`
 abbrev pub denial_of : Purpose → List ℕ
 denial_of purpose.Change = codes "cannot change"
 denial_of purpose.Read = codes "cannot read"
 
--- in JSON: `"can_change": false`
+-- the same in JSON: `"can_change": false`
 abbrev pub denied_key : Purpose → Key
 denied_key purpose.Change = key.CanChange
 denied_key purpose.Read = key.CanRead

@@ -7,7 +7,7 @@ use Rattle.reach.specs.declared.authority.Purpose.TheVariants as purpose
 use Rattle.reach.specs.Chain.{IsStep}
 use Rattle.reach.specs.Links.{IsClosedFor, Links, links}
 
--- A number can change or read an object exactly if the least closed set that contains it contains the object.
+-- Object n can change or read object o exactly if the least closed set that contains n contains o.
 abbrev pub ReachIsChange : Type 0
 ReachIsChange = (os : List Object) (follows : Links) (inside : ℕ → Bool) (n o : ℕ) →
     IsReach os follows (n ∷ []) inside → IsTrue (inside o) ↔ CanChange os follows n o
@@ -17,7 +17,7 @@ abbrev pub StepsAreAuthority : Type 0
 StepsAreAuthority = (os : List Object) (follows : Links) (inside : ℕ → Bool) →
     IsClosedFor follows os inside ↔ ((s : Step) → IsStep os follows s → IsTrue (inside s.from) → IsTrue (inside s.to))
 
--- To change, a set is closed but for trusted processes; to read, it is closed for reading but for these.
+-- To change: a set closed except for trusted processes. To read: a set closed for reading, except for these.
 abbrev pub ClosedSetsAre : Type 0
 ClosedSetsAre = (os : List Object) (trusted inside : ℕ → Bool) →
     (IsClosedFor (links purpose.Change trusted) os inside ↔ IsClosedBut trusted os inside)

@@ -17,11 +17,11 @@ found_at l n = slice_index_or l.found.items n None
 abbrev pub IsFound : Levels → ℕ → Type 0
 IsFound l n = (f : Found) × (found_at l n ≡ Some f)
 
--- found in at most `k` steps
+-- n is found in at most `k` steps
 abbrev pub IsFoundIn : Levels → ℕ → ℕ → Type 0
 IsFoundIn l n k = (f : Found) × (found_at l n ≡ Some f) × (f.level ≤ k)
 
--- found at level `k`
+-- n is found at level `k`
 abbrev pub IsAt : Levels → ℕ → ℕ → Type 0
 IsAt l n k = (f : Found) × (found_at l n ≡ Some f) × (f.level ≡ k)
 
@@ -29,7 +29,7 @@ abbrev pub has_level : Option Found → ℕ → Bool
 has_level None k = false
 has_level (Some f) k = f.level == k
 
--- a number with which the search began, and one that was found by a step of some
+-- the search began with n; or found it, at a level, by a step that has the property `By`
 pub record IsFirst (n : ℕ) (f : Found) : Type 0 where
   pub level : f.level ≡ 0
   pub none : f.step ≡ None
@@ -41,7 +41,7 @@ pub record IsFoundBy (By : Step → Type 0) (level n : ℕ) (f : Found) : Type 0
   pub to : step.to ≡ n
   pub by : By step
 
--- a number is found in no step
+-- a number is added with which the search begins
 pub record Begins (number : ℕ) (old new : Levels) : Type 0 where
   pub count : length new.found.items ≡ length old.found.items
   pub kept : (n : ℕ) (f : Found) → found_at old n ≡ Some f → found_at new n ≡ Some f
@@ -50,7 +50,7 @@ pub record Begins (number : ℕ) (old new : Levels) : Type 0 where
   pub greatest : new.greatest ≡ old.greatest
   pub work : missing new.found.items ≤ missing old.found.items
 
--- all to which some steps lead is found, at a level if it wasn't before
+-- all numbers to which steps with the property `By` lead are found; the new ones are at this level
 pub record FindsBy (By : Step → Type 0) (level : ℕ) (old new : Levels) : Type 0 where
   pub count : length new.found.items ≡ length old.found.items
   pub kept : (n : ℕ) (f : Found) → found_at old n ≡ Some f → found_at new n ≡ Some f
@@ -64,7 +64,7 @@ pub record FindsBy (By : Step → Type 0) (level : ℕ) (old new : Levels) : Typ
 abbrev pub NamesWithin : ℕ → Capability → Type 0
 NamesWithin count c = elim (named c) [ None ↦ Unit {0} | Some n ↦ n < count ]
 
--- a step, those by a capability, by those of a list, and from a bank to what it owns
+-- which steps: this one; one by a capability; one by a capability of a list; one from a bank to what it owns
 abbrev pub IsTheStep : Step → Step → Type 0
 IsTheStep step s = (s.from ≡ step.from) × (s.way ≡ step.way) × (s.to ≡ step.to)
 
@@ -80,7 +80,7 @@ abbrev pub IsOwnedBelow : List Object → ℕ → ℕ → Step → Type 0
 IsOwnedBelow os count bank s = (s.from ≡ bank) × (s.way ≡ way.Owner) × (s.to < count) ×
     (is_free (content_at os s.to) ≡ false) × (owner_at os s.to ≡ bank)
 
--- the steps from a number, and from those of a level
+-- the steps from number n; the steps from the numbers of a level
 abbrev pub IsFrom : List Object → Links → ℕ → Step → Type 0
 IsFrom os follows n s = (s.from ≡ n) × IsStep os follows s
 
@@ -97,7 +97,7 @@ pub record IsAfter (os : List Object) (follows : Links) (l : Levels) (n : ℕ) (
   pub from : found_at l step.from ≡ Some before
   pub level : f.level ≡ before.level + 1
 
--- the first numbers were found, and those below a level followed
+-- the numbers with which the search begins were found, and those below a level were followed
 pub record IsSearched (os : List Object) (follows : Links) (starts : List ℕ) (level : ℕ) (l : Levels) : Type 0 where
   pub count : length l.found.items ≡ length os
   pub begins : All (λ p. IsFoundIn l p 0) starts

@@ -20,11 +20,11 @@ words_of n o = elim o.content [
   | content.Bank limit ↦ codes "bank" ∷ decimal n ∷ codes "owner" ∷ decimal o.owner ∷ codes "limit" ∷ decimal limit ∷ []
 ]
 
--- in JSON: `{"kind": "process", "number": 3` and more
+-- how an object begins in JSON: `{"kind": "process", "number": 3`
 abbrev pub kind_object : List ℕ → ℕ → List Member → List ℕ
 kind_object kind n rest = text_object (codes "kind") kind (member.Number key.Number n ∷ rest)
 
--- the same values as the words
+-- an object in JSON, with the same values as its words
 abbrev pub object_json : ℕ → Object → List ℕ
 object_json n o = elim o.content [
   | content.Free ↦ kind_object (codes "free") n []
@@ -66,7 +66,7 @@ pull_line f name n place p = if pulls n p.1 then line_of (held_text f name n pla
 abbrev pub pull_lines : Format → List ℕ → ℕ → Key → List Capability → List ℕ
 pull_lines f name n place capabilities = flat_map (pull_line f name n place) (enumerate_from 0 capabilities)
 
--- those of an object: a process has the registers of its annex
+-- the lines of an object's capabilities that pull; a process has the registers of its annex
 abbrev pub object_pulls : Format → List Object → ℕ → Object → List ℕ
 object_pulls f os n o = elim o.content [
   | content.Node slots ↦ pull_lines f (codes "node") n key.Slot slots
@@ -86,7 +86,7 @@ counted_text f word os marks = flat_map (member_line f marks) (enumerate_from 0 
 abbrev pub changers_text : Format → List Object → List Bool → List ℕ
 changers_text f os marks = counted_text f (codes "processes") os marks
 
--- the members, their count, and what pulls in processes and banks
+-- the members, their count, and the capabilities that pull in processes and banks
 unfoldable pub reach_text : Format → List Object → List Bool → List ℕ
 reach_text f os marks = counted_text f (codes "closed") os marks
     ++ flat_map (member_pulls f os marks) (enumerate_from 0 os)

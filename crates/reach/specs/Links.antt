@@ -5,7 +5,7 @@ use Rattle.std.specs.Prelude.{◌≡◌}
 use Rattle.reach.specs.declared.authority.Purpose.{Purpose}
 use Rattle.reach.specs.declared.authority.Purpose.TheVariants as purpose
 
--- what is sought, and the processes whose start capabilities aren't followed
+-- the purpose of a search, and the trusted processes, whose start capabilities it doesn't follow
 pub record Links : Type 0 where
   pub purpose : Purpose
   pub trusted : ℕ → Bool
@@ -21,7 +21,7 @@ StaysAs purpose.Read trusted inside c = NamesBut trusted inside c
 abbrev pub StaysFor : Links → (ℕ → Bool) → Capability → Type 0
 StaysFor l inside c = StaysAs l.purpose l.trusted inside c
 
--- a set closed for a purpose, but for trusted processes
+-- a set closed for a purpose, except for trusted processes
 pub record IsClosedFor (l : Links) (os : List Object) (inside : ℕ → Bool) : Type 0 where
   pub annexes : (p : ℕ) → IsTrue (inside p) → IsTrue (is_process os p) → IsTrue (inside (annex_at os p))
   pub owned : (b n : ℕ) → IsTrue (inside b) → IsTrue (is_bank (content_at os b)) →

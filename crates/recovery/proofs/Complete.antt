@@ -1,4 +1,4 @@
--- An image for which none of the ten reasons holds denotes a saved part.
+-- An image for which none of the ten reasons holds denotes a saved state.
 use Rattle.recovery.proofs.Names.{ℕ, zero, suc, List, [], length, refl, sym, ap, subst, inl, inr, arith, cases_lt, Frame, Image, BadImage, frame_at}
 use Rattle.recovery.proofs.Names.{AreKeepable, IsSoundFrames, IsBad, IsInconsistent, kept_of, saved_of, NotBadIsDenoted, Entry, CheckpointHeader, IsFrameOf}
 use Rattle.recovery.proofs.Names.{Encodes, HasDirectory, HasHeader, HasPlan, IsBadBy, IsTooSmall, SavedState, total_in, IsPlan, Plan, superblock_bytes}

@@ -1,4 +1,4 @@
--- An image denotes at most one saved part, and one that denotes a saved part isn't bad.
+-- An image denotes at most one saved state, and an image that denotes one isn't bad.
 use Rattle.recovery.proofs.Names.{nat_tests, ℕ, zero, suc, List, [], refl, sym, ap, subst, ⊎_elim, inl, arith, Contains, Geometry, Saved, IsSound, Image, Disk}
 use Rattle.recovery.proofs.Names.{BadImage, one_state, SavedFrames, Holds, kept_of, frames_not_bad, saved_of, IsSoundSaved, Denotes, DenotesOne, Leaves}
 use Rattle.recovery.proofs.Names.{DenoteOneSaved, DenotedIsNotBad, DenotedIsOneOf, DenotedIsSound, IsBad}
@@ -19,7 +19,7 @@ leaves_saved g disk fs sound holds c left = inl (denoted_by g disk.sectors c fs 
 pub holds_one : (size : ℕ) (c : Image) (a b : SavedFrames) → Holds size c a → Holds size c b → a ≡ b
 holds_one size c a b ha hb = sym ha.2 ∙ ap kept_of (one_state c size ha.0 hb.0 ha.1 hb.1) ∙ hb.2
 
--- and denote one saved part, which is that of the frames that they hold
+-- and denote one saved state, which is that of the frames that they hold
 pub denotes_held : (g : Geometry) (size : ℕ) (c : Image) (s : Saved) (fs : SavedFrames) → Denotes g size c s → Holds size c fs →
     (saved_of fs ≡ s) × IsSoundSaved g fs
 denotes_held g size c s fs denoted held =
@@ -52,7 +52,7 @@ one_denoted g size c (s ∷ ss) fs denoted held = ⊎_elim (λ here. let is = de
 pub denoted_one_of : DenotedIsOneOf
 denoted_one_of g h size c ss t one denoted = grind (arith, nat_tests, one_denoted)
 
--- what denotes a saved part is refused for no reason
+-- an image that denotes a saved state is refused for no reason
 pub denoted_not_bad : DenotedIsNotBad
 denoted_not_bad g size c s reason denoted why = ⊎_elim (λ first. frames_not_bad c size denoted.holds.0 denoted.holds.1 reason first)
     (λ last.

@@ -1,4 +1,4 @@
--- Frames that were only read.
+-- Frames that were read and not changed.
 use Rattle.capability.specs.Parts.{Parts}
 use Rattle.std.proofs.Common.{◌≡◌}
 

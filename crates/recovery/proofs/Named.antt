@@ -1,4 +1,4 @@
--- What objects hold, and whether it is named.
+-- The capabilities of objects, and whether they are as `IsNamed` requires.
 use Rattle.recovery.proofs.Names.{nat_tests, ℕ, inl, inr, Bool, true, List, [], length, slice_index_or, sym, ap, subst, arith, IsTrue, nat_lt, All, cases_lt}
 use Rattle.recovery.proofs.Names.{get_or_default, Cap, Frame, ObjectHeader, Content, Role, Root, current_count, frame_at, headers, caps_in, role_of, Parts}
 use Rattle.recovery.proofs.Names.{frames_of, AreNamed, IsNamed, NamesItsRole}

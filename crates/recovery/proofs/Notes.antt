@@ -1,4 +1,4 @@
--- What is noted of roots.
+-- The notes of roots.
 use Rattle.recovery.proofs.Names.{nat_tests, ℕ, List, Option, None, Some, length, arith, get_or_past, Frame, Content, Root, frame_at, Noted, IsRootOf, AreNoted}
 use Rattle.recovery.proofs.Names.{note_at, noted_in}
 use Rattle.std.proofs.Common.{◌≡◌, ◌<◌}

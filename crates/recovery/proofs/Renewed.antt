@@ -1,4 +1,4 @@
--- Which numbers were renewed since the last checkpoint or restart, by their counts of allocations.
+-- Which numbers were renewed since the last checkpoint or restart, by their allocation counts.
 use Rattle.recovery.proofs.Names.{ℕ, Bool, false, not, Option, None, Some, List, length, replicate, slice_index_or, refl, ap, sym, arith, eq-eqb, ext_get_or}
 use Rattle.recovery.proofs.Names.{get_or-replicate, length-replicate, get_or-map-range_with_len, length-map-range_with_len, Frame, Geometry, frame_at}
 use Rattle.recovery.proofs.Names.{untouched, Snapshots, FrozenFrames, base_of, renewed_since}

@@ -1,4 +1,4 @@
--- What stands at a number, of frames and of the objects that they stand for.
+-- The frame at a number, and the object that it stands for.
 use Rattle.recovery.proofs.Names.{arith, ℕ, zero, suc, Bool, true, List, Option, Some, length, sym, ap, nat_tests, IsTrue, get_or-map, eqb-true, length-map}
 use Rattle.recovery.proofs.Names.{Capability, Frame, Content, Object, Role, blank_frame, conveyed, frame_at, header_at, headers, object_of, objects_of}
 use Rattle.recovery.proofs.Names.{is_annex, is_bank, is_free, is_node, is_page, is_root, is_waiting, limit_in, map_content, role_number, role_of, NamesItsKind}

@@ -1,4 +1,4 @@
--- What the table of headers and the contents in memory say of frames.
+-- What the headers and contents in memory say about frames.
 use Rattle.recovery.proofs.Names.{nat_tests, ℕ, List, length, sym, ap, arith, get_or_past, Cap, Frame, ObjectHeader, Content, blank_frame, frame_at, header_at}
 use Rattle.recovery.proofs.Names.{headers, held_at, Parts, frames_of, frame_in, headers_in, length_in, role_at}
 use Rattle.std.proofs.Common.{◌≡◌, ◌<◌, ◌≤◌, ◌∙◌}

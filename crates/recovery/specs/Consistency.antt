@@ -16,12 +16,12 @@ abbrev pub IsOwnedAt : List Frame → ℕ → Type 0
 IsOwnedAt fs n = (role_at fs n ≢ role.Free → role_at fs (owner_of fs n) ≡ role.Bank) ×
     (role_at fs n ≡ role.Bank → Contains (chain (objects_of fs) n) 0)
 
--- all numbers before one have a property
+-- all numbers below n have the property P
 abbrev pub AllBefore : (ℕ → Type 0) → ℕ → Type 0
 AllBefore P n = (m : ℕ) → m < n → P m
 
--- the first place where banks aren't as they must be: number 0; else the first object that isn't owned by a bank, or
--- bank whose chain doesn't reach number 0; else the first bank that accounts for more than its limit
+-- the first place where a rule of banks is broken: number 0; else the first object that isn't owned by a bank, or
+-- bank whose chain doesn't reach number 0; else the first bank whose usage is above its limit
 abbrev pub IsUnbanked : List Frame → Unbanked → Type 0
 IsUnbanked fs bank.Prime = HasPrime fs → ⊥
 IsUnbanked fs (bank.Owner object owner) = (role_at fs object ≢ role.Free) × (owner_of fs object ≡ owner) ×
@@ -32,7 +32,7 @@ IsUnbanked fs (bank.Limit b used limit) = (role_at fs b ≡ role.Bank) × (used 
     (limit ≡ limit_in (frame_at fs b).content) × (limit < used) × AreOwned fs ×
     AllBefore (λ m. role_at fs m ≡ role.Bank → usage (objects_of fs) m ≤ limit_in (frame_at fs m).content) b
 
--- the same of a limit, by usages and limits that were counted and read
+-- the first bank whose usage is above its limit, by a list of usages and one of limits
 abbrev pub IsAboveLimit : List Frame → List ℕ → List ℕ → Unbanked → Type 0
 IsAboveLimit fs usages limits (bank.Limit b used limit) = (role_at fs b ≡ role.Bank) × (used ≡ slice_index usages b) ×
     (limit ≡ slice_index limits b) × (limit < used) ×
@@ -40,12 +40,12 @@ IsAboveLimit fs usages limits (bank.Limit b used limit) = (role_at fs b ≡ role
 IsAboveLimit fs usages limits _ = ⊥
 
 -- The least of the reasons 8 to 10 why frames stand for no sound world:
--- - `BadCapability`: a capability has a greater count than its object, or is live and its object isn't what it is for,
---   or resumes a process that doesn't wait.
--- - `BadProcess`: a root and an annex don't belong together. The root's annex is none, has another owner, or is that of
---   another root too, or an annex has no root.
+-- - `BadCapability`: a capability has a greater count than its object, or is live and its object has another role than
+--   the capability is for, or resumes a process that doesn't wait.
+-- - `BadProcess`: a root and an annex don't belong together: the root names no annex, or one with another owner, or one
+--   that another root names too, or an annex has no root.
 -- - `BadBank`: number 0 isn't a bank that owns itself, an object's owner isn't a bank, a bank's chain of at most 16
---   banks doesn't reach number 0, or a bank accounts for more than its limit.
+--   banks doesn't reach number 0, or a bank's usage is above its limit.
 -- No frames are inconsistent for another reason.
 abbrev pub IsInconsistent : List Frame → BadImage → Type 0
 IsInconsistent fs BadCapability = AreNamed fs → ⊥
@@ -53,7 +53,7 @@ IsInconsistent fs BadProcess = AreNamed fs × (AreWholeProcesses fs → ⊥)
 IsInconsistent fs BadBank = AreNamed fs × AreWholeProcesses fs × (AreBanked fs → ⊥)
 IsInconsistent fs _ = ⊥
 
--- what the search for a reason finds: none where the frames are consistent, else the least
+-- the result of the search for a reason: `None` if the frames are consistent, else the least reason
 abbrev pub Tells : List Frame → Option BadImage → Type 0
 Tells fs None = AreNamed fs × AreWholeProcesses fs × AreBanked fs
 Tells fs (Some why) = IsInconsistent fs why

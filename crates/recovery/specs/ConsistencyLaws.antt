@@ -9,7 +9,7 @@ abbrev pub ConsistentIsSound : Type 0
 ConsistentIsSound = (g : Geometry) (age : ℕ) (fs : List Frame) → AreKeepable g age fs → age ≤ 2 ^ 62 →
     AreNamed fs → AreWholeProcesses fs → AreBanked fs → IsSoundFrames g age fs
 
--- frames for which a reason holds aren't
+-- frames for which a reason holds aren't sound
 abbrev pub InconsistentIsUnsound : Type 0
 InconsistentIsUnsound = (g : Geometry) (age : ℕ) (fs : List Frame) (why : BadImage) → IsInconsistent fs why →
     IsSoundFrames g age fs → ⊥

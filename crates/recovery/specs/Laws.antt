@@ -1,29 +1,29 @@
--- An image denotes at most one saved part, whose world is sound. It denotes one where none of the ten reasons holds.
+-- An image denotes at most one saved state, whose world is sound. It denotes one if none of the ten reasons holds.
 use Rattle.recovery.specs.Names.{ℕ, List, Contains, Geometry, Saved, IsSound, Image, BadImage}
 use Rattle.std.specs.Prelude.{◌≡◌}
 use Rattle.recovery.specs.Denotes.{Denotes, DenotesOne}
 use Rattle.recovery.specs.Recovered.{IsBad}
 
--- the same saved part of the same geometry
+-- an image denotes at most one saved state, of one geometry
 abbrev pub DenoteOneSaved : Type 0
 DenoteOneSaved = (g h : Geometry) (size : ℕ) (c : Image) (s t : Saved) → Denotes g size c s → Denotes h size c t →
     (g ≡ h) × (s ≡ t)
 
--- where an image denotes one of some saved parts, each part that it denotes is one of them
+-- if an image denotes one of these saved states, each state that it denotes is one of them
 abbrev pub DenotedIsOneOf : Type 0
 DenotedIsOneOf = (g h : Geometry) (size : ℕ) (c : Image) (ss : List Saved) (t : Saved) → DenotesOne g size ss c →
     Denotes h size c t → (g ≡ h) × Contains ss t
 
--- a sound world
+-- the world of a saved state that an image denotes is sound
 abbrev pub DenotedIsSound : Type 0
 DenotedIsSound = (g : Geometry) (size : ℕ) (c : Image) (s : Saved) → Denotes g size c s → IsSound g s.world
 
--- none of the ten reasons holds for an image that denotes one
+-- if an image denotes a saved state, none of the ten reasons holds
 abbrev pub DenotedIsNotBad : Type 0
 DenotedIsNotBad = (g : Geometry) (size : ℕ) (c : Image) (s : Saved) (reason : BadImage) → Denotes g size c s →
     IsBad size c reason → ⊥
 
--- An image for which none of them holds denotes a saved part: it can't be that it denotes none.
+-- An image for which none of the reasons holds denotes a saved state: it can't be that it denotes none.
 abbrev pub NotBadIsDenoted : Type 0
 NotBadIsDenoted = (size : ℕ) (c : Image) → ((reason : BadImage) → IsBad size c reason → ⊥) →
     ((g : Geometry) (s : Saved) → Denotes g size c s → ⊥) → ⊥

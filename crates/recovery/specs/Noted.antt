@@ -19,7 +19,7 @@ pub record AreNoted (fs : List Frame) (notes : List (Option Noted)) : Type 0 whe
   pub count : length notes ≡ length fs
   pub each : (n : ℕ) → note_at notes n ≡ noted_in (frame_at fs n).content
 
--- whether an annex is taken
+-- whether annex a is taken by a root
 abbrev pub is_taken : List Bool → ℕ → Bool
 is_taken taken a = slice_index_or taken a false
 
@@ -30,7 +30,7 @@ pub record AreTaken (fs : List Frame) (count : ℕ) (taken : List Bool) : Type 0
   pub marked : (p a : ℕ) → p < count → IsRootOf fs p a → is_taken taken a ≡ true
   pub found : (a : ℕ) → is_taken taken a ≡ true → (p : ℕ) × (p < count) × IsRootOf fs p a
 
--- whether a note is that of a process that waits, and that of a number
+-- whether a note says that its process waits; whether that of number p does
 abbrev pub is_waiting_note : Option Noted → Bool
 is_waiting_note (Some note) = note.is_waiting
 is_waiting_note None = false

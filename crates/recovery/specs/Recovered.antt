@@ -14,7 +14,7 @@ IsBad size c reason =
     IsBadBy c size reason
     ⊎ ((saved : SavedFrames) × Holds size c saved × IsInconsistent saved.frames reason)
 
--- why a device wasn't opened
+-- why a device wasn't opened: it failed, memory ran out, or its image is bad
 abbrev pub IsWhy : Disk → Disk → OpenFault → Type 0
 IsWhy old new fault.Failed = old.failures < new.failures
 IsWhy old new fault.NoMemory = new.failures ≡ old.failures

@@ -1,8 +1,8 @@
--- What an object has to be for a capability to it.
+-- The role that an object must have for a capability to it.
 use Rattle.recovery.specs.Names.{Capability, Page, Node, Space, Process, Start, Resume, Bank, Role}
 use Rattle.model.specs.declared.object.Role.TheVariants as role
 
--- the role of the object that a capability is for; free where it names none
+-- the role of the object that a capability is for; free if it names none
 abbrev pub role_for : Capability → Role
 role_for (Page o a) = role.Page
 role_for (Node o a) = role.Node

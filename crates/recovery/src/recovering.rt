@@ -36,7 +36,7 @@ fn examine<F: Frames>(alloc: Global, store: &mut F, age: u64) -> Result<Banks, O
     Ok(Banks::count(alloc, store)?)
 }
 
-/// Opens the device at the saved part that its sectors denote, and writes nothing to it.
+/// Opens the device at the saved state that its sectors denote, and writes nothing to it.
 ///
 /// A refusal gives the device back: `Failed` exactly if the device failed, `NoMemory` if memory ran
 /// out, and else `Bad` with the least of the ten reasons to refuse an image.

@@ -1,4 +1,4 @@
--- What a run over a kernel changes, where its lines are by processes of a closed set.
+-- What a run over a kernel changes, if its lines are by processes of a closed set.
 use Rattle.runs.proofs.Names.{arith, nat_tests, ℕ, Bool, List, [], Option, Ok, Err, ap, sym, subst, ⊎_elim, append-nil, Result, Consumes, All-cons, All-head}
 use Rattle.runs.proofs.Names.{All-nil, All-tail, Geometry, Line, Machine, Running, Up, IsRun, Turn, lines_of, IsSound, Says, Disk, AreBy, IsLineBy, with_free}
 use Rattle.runs.proofs.Names.{run_confined, Written, Parts, View, Power, Stands, RunFault, AreAll, AreFirst, AreLines, AreLinesBy, BeginsWith, Does, IsConfined}

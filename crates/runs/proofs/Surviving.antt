@@ -1,4 +1,4 @@
--- What a crash leaves in the course of a run, and that it is opened.
+-- What a crash during a run leaves, and that it is opened.
 use Rattle.runs.proofs.Names.{nat_tests, ℕ, List, [], sym, subst, inl, inr, arith, Geometry, Machine, Saved, Up, Down, candidates, opened, Turn, IsRun, Image}
 use Rattle.runs.proofs.Names.{Disk, LeavesOnly, leaves_on, leaves_weaker, started, OpenFault, Parts, View, Power, Denotes, DenotesOne, RefusesToOpen}
 use Rattle.runs.proofs.Names.{IsNoReason, Opens, Stands, disk_of, denotes_one, denoted_not_bad, AreTurnsOf, IsLeftIn, CrashesAreSurvived}
@@ -46,7 +46,7 @@ module _ {D S : Type 0} (disk : D → Disk) (view : S → View D) (parts : S →
       (leaves_weaker {old = of goes.0} {new = of new} {P = LeavesSaved g size t.after ts} (LeavesSaved g size m (t ∷ ts))
       (λ c is. (is.0, inr is.1, is.2)) rest)
 
-  -- what denotes a saved part is opened there
+  -- an image that denotes a saved state is opened there
   opened_there : (g : Geometry) (size : ℕ) (c : Image) (s : Saved) → Denotes g size c s → IsOpenedAt disk view parts g size c s
   opened_there g size c s denoted d size_is seen_is =
       let held : Denotes g (disk d).sectors (disk d).seen s =

@@ -1,4 +1,4 @@
--- What a tracer makes of a turn.
+-- What a tracer writes about a turn.
 use Rattle.runs.proofs.Names.{arith, nat_tests, ℕ, min, Bool, Option, Some, List, [], codes, sym, subst, IfNone, IfSome, Answer, Command, Geometry, ResultCode}
 use Rattle.runs.proofs.Names.{BadLine, Reported, Turn, Says, line_of, spaced, says_one, LineFault, command_name, IsFaultOf, Cause, Stop, Tracer, reported_code}
 use Rattle.runs.proofs.Names.{Ends, EndsIf, IsCauseIn, IsCauseOf, IsOutcome, IsTrace, Notes, Sees, cause_text, place_text, Written}

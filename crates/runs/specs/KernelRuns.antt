@@ -15,12 +15,12 @@ abbrev pub tells_fault : Reply → Bool
 tells_fault (Reported (answer.Refused refusal.Fault)) = true
 tells_fault _ = false
 
--- what a crash in a turn may leave saved: a candidate of the machine before it, or what its command is to save besides
+-- what a crash in a turn may leave saved: a candidate of the machine before it, or what its command saves besides
 abbrev pub MaySaveIn : Turn → Saved → Type 0
 MaySaveIn t s = Contains (candidates t.before) s ⊎
     ((c : Command) × Says t.line (line.Command c) × Contains (second t.before c) s)
 
--- an image denotes such a saved part
+-- an image denotes a saved state that a crash in the turn may leave
 abbrev pub IsLeftIn : Geometry → ℕ → Turn → Image → Type 0
 IsLeftIn g size t c = (s : Saved) × MaySaveIn t s × Denotes g size c s
 
@@ -61,10 +61,10 @@ pub record IsCutShort (turns : List Turn) (output output_left : Written) : Type 
   pub failed : output.failures < output_left.failures
 
 -- What a run with these turns read and wrote. At Ok all of the input was read, and each line of it is a turn whose
--- answer was written. Where the reader failed the same holds of the lines read whole. Where the writer failed the
+-- answer was written. If the reader failed, the same holds of the lines read whole. If the writer failed, the
 -- turns are the first of the lines read whole, or all lines of an input at its end, and only the answer to the last
--- may be cut short; or it took the answers to all of these lines, and didn't pass them on. Where the observer ended the
--- run the turns are the first of the lines read whole, or all lines of an input at its end, and each was answered.
+-- may be cut short; or it took the answers to all of these lines, and didn't pass them on. If the observer ended the
+-- run, the turns are the first of the lines read whole, or all lines of an input at its end, and each was answered.
 abbrev pub Does : List Turn → Option (List ℕ) → Option (List ℕ) → Written → Written → Result (Unit {0}) RunFault →
     Type 0
 Does turns input input_left output output_left (Ok a) =
@@ -82,12 +82,12 @@ Does turns input input_left output output_left (Err fault.Stopped) =
     (text : List ℕ) × Consumes input input_left text × AreFirst text input_left (lines_in turns) × Wrote output
     output_left (output_of turns)
 
--- the device failed exactly if that was answered
+-- the device failed exactly if the reply is `fault`
 pub record IsReportedBy (old new : Disk) (reply : Reply) : Type 0 where
   pub later : old.failures ≤ new.failures
   pub exact : (tells_fault reply ≡ true) ↔ (old.failures < new.failures)
 
--- a count of failures rises exactly if this failed, and never falls
+-- a count of failures rises exactly if `Failed` holds, and never falls
 pub record IsCounted (Failed : Type 0) (old new : ℕ) : Type 0 where
   pub never_falls : old ≤ new
   pub cause : Failed ↔ (old < new)
@@ -99,7 +99,7 @@ AreSeen sees old new [] on = (new ≡ old) × (on ≡ true)
 AreSeen sees old new (t ∷ ts) on = ((next : _) × sees t old next true × AreSeen sees next new ts on) ⊎
     ((ts ≡ []) × (on ≡ false) × sees t old new false)
 
--- it ended the run exactly if the run says so; where the writer failed the observer may have ended it at that line
+-- the observer ended the run exactly if the result says so; if the writer failed, it may have ended it at that line too
 abbrev pub EndsBy : Bool → Result (Unit {0}) RunFault → Type 0
 EndsBy on (Ok a) = on ≡ true
 EndsBy on (Err fault.Read) = on ≡ true
@@ -112,8 +112,8 @@ AreLinesBy inside lines = All (λ line. (l : Line) → Says line l → IsLineBy 
 
 -- The parameters are ghost members of a device and of an object store.
 module _ {D S : Type 0} (disk : D → Disk) (view : S → View D) (parts : S → Parts) where
-  -- From one kernel to another a turn was taken: it stands for the machine after it. A crash at any moment of the turn
-  -- leaves what may be saved in it.
+  -- A turn leads from one kernel to another, which stands for the machine after it. A crash at any moment of the turn
+  -- leaves an image of a state that may be saved in it.
   pub record IsTurnOf (g : Geometry) (old new : Power D S) (t : Turn) : Type 0 where
     pub stands : Stands disk view parts g new t.after
     pub size : (disk_of disk view parts new).sectors ≡ (disk_of disk view parts old).sectors
@@ -121,26 +121,26 @@ module _ {D S : Type 0} (disk : D → Disk) (view : S → View D) (parts : S →
         (IsLeftIn g (disk_of disk view parts old).sectors t)
     pub faults : IsReportedBy (disk_of disk view parts old) (disk_of disk view parts new) t.reply
 
-  -- one turn after another, and nothing besides
+  -- these turns lead from one kernel to another, one after another, and nothing else happens
   abbrev pub AreTurnsOf : Geometry → Power D S → Power D S → List Turn → Type 0
   AreTurnsOf g old new [] = new ≡ old
   AreTurnsOf g old new (t ∷ ts) = (next : Power D S) × IsTurnOf g old next t × AreTurnsOf g next new ts
 
-  -- they are a run of the machine, with power cuts and failures in it
+  -- these turns are a run of the machine m, with power cuts and failures in it
   pub record IsRunOf (g : Geometry) (m : Machine) (old new : Power D S) (turns : List Turn) : Type 0 where
     pub after : Machine
     pub run : IsRun g m turns after
     pub stands : Stands disk view parts g new after
     pub each : AreTurnsOf g old new turns
 
-  -- whichever machine the kernel stands for, what was read and written is that of such a run
+  -- for each machine that the kernel stands for, what was read and written is that of such a run
   abbrev pub RunsOver : Power D S → Power D S → Option (List ℕ) → Option (List ℕ) → Written → Written →
       Result (Unit {0}) RunFault → Type 0
   RunsOver old new input input_left output output_left result =
       (g : Geometry) (m : Machine) → Stands disk view parts g old m →
       (turns : List Turn) × IsRunOf g m old new turns × Does turns input input_left output output_left result
 
-  -- the same of a run that an observer saw, each of whose turns it saw
+  -- the same, and an observer saw each turn of the run
   abbrev pub RunsSeen : {O : Type 0} → (Geometry → Turn → O → O → Bool → Type 0) → Power D S → Power D S → O → O
       → Option (List ℕ) → Option (List ℕ) → Written → Written → Result (Unit {0}) RunFault → Type 0
   RunsSeen sees old new before after input input_left output output_left result =

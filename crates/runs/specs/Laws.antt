@@ -1,4 +1,4 @@
--- What holds of every run: what it writes is settled where nothing is wanting, and what it can change is bounded.
+-- What holds of every run: its output is determined if nothing fails, crashes are survived, its changes are bounded.
 use Rattle.runs.specs.Names.{ℕ, Bool, true, false, List, [], Contains, Command, Geometry, IsClosed, Machine, Running}
 use Rattle.runs.specs.Names.{Saved, Up, candidates, opened, Reported, Turn, IsRun, output_of, takes_memory, Says}
 use Rattle.runs.specs.Names.{object_at, Disk, Image, LeavesOnly, OpenFault, AreBy, IsKept, with_free, Parts, View}
@@ -19,13 +19,13 @@ abbrev pub AreSteady : List Turn → Type 0
 AreSteady [] = Unit {0}
 AreSteady (t ∷ ts) = IsSteady t × AreSteady ts
 
--- two such runs of a machine that is up on the same lines write the same and end at the same machine
+-- two steady runs of a machine that is up, on the same lines, write the same and end at the same machine
 abbrev pub SteadyRunsAgree : Type 0
 SteadyRunsAgree = (g : Geometry) (s : Running) (ts us : List Turn) (a b : Machine) → IsRun g (Up s) ts a →
     IsRun g (Up s) us b → lines_in ts ≡ lines_in us →
     AreSteady ts → AreSteady us → (output_of ts ≡ output_of us) × (a ≡ b)
 
--- what a crash since a run began may leave saved: what one in a turn may, or a candidate of the machine at its end
+-- what a crash since a run began may leave saved: what a crash in one of its turns may, or a candidate at its end
 abbrev pub MaySave : Machine → List Turn → Saved → Type 0
 MaySave m [] s = Contains (candidates m) s
 MaySave m (t ∷ ts) s = MaySaveIn t s ⊎ MaySave t.after ts s
@@ -42,25 +42,25 @@ module _ {D S : Type 0} (disk : D → Disk) (view : S → View D) (parts : S →
       with_free s.now.objects inside n ≡ false →
       IsKept inside (object_at s.now.objects n) (object_at t.now.objects n)
 
-  -- a device that holds an image is opened at a saved part, or the device fails, or memory runs out
+  -- a device that holds this image is opened at this saved state, or the device fails, or memory runs out
   abbrev pub IsOpenedAt : Geometry → ℕ → Image → Saved → Type 0
   IsOpenedAt g size c s = (d : D) → (disk d).sectors ≡ size → (disk d).seen ≡ c →
       ((k : Power D S) → Opens disk view parts d k → Stands disk view parts g k (Up (opened g s)))
       × ((back : D) (why : OpenFault) → RefusesToOpen disk d back why → IsNoReason why)
 
-  -- at every moment from one kernel to another a crash leaves what denotes one of some saved parts, and opening it
-  -- stands there
+  -- a crash at any moment from one kernel to another leaves an image that denotes a saved state which may be left, and
+  -- the image opens at this state
   abbrev pub IsSurvived : Geometry → Power D S → Power D S → (Saved → Type 0) → Type 0
   IsSurvived g old new MayBeLeft = LeavesOnly (disk_of disk view parts old) (disk_of disk view parts new)
       (λ c. (s : Saved) × MayBeLeft s × Denotes g (disk_of disk view parts old).sectors c s
       × IsOpenedAt g (disk_of disk view parts old).sectors c s)
 
-  -- the headline: at every moment of a turn a crash leaves what may be saved in it, and opening it stands there
+  -- the main theorem: a crash at any moment of a turn leaves a state that may be saved in it, and the image opens there
   abbrev pub CrashesAreSurvived : Type 0
   CrashesAreSurvived = (g : Geometry) (old new : Power D S) (t : Turn) → IsTurnOf disk view parts g old new t →
       IsSurvived g old new (MaySaveIn t)
 
-  -- the same at every moment since a run began, for what may be saved in its course
+  -- the same for a crash at any moment since a run began, and for what may be saved during the run
   abbrev pub CrashesInRunsAreSurvived : Type 0
   CrashesInRunsAreSurvived = (g : Geometry) (m : Machine) (old new : Power D S) (turns : List Turn) →
       Stands disk view parts g old m → IsRunOf disk view parts g m old new turns →

@@ -6,7 +6,7 @@ use Rattle.runs.specs.declared.script_reader.ScriptReader.{ScriptReader}
 abbrev pub read_from : {R : Type 0} → ScriptReader R → R
 read_from script = script.inner
 
--- how many more reads are passed on to it
+-- how many more reads are passed on to the reader beneath
 abbrev pub left_to_read : {R : Type 0} → ScriptReader R → ℕ
 left_to_read script = script.left
 

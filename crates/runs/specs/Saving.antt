@@ -6,11 +6,11 @@ use Rattle.model.specs.declared.answer.Answer.TheVariants as answer
 use Rattle.model.specs.declared.command.Command.TheVariants as command
 use Rattle.runs.specs.KernelRuns.{IsRunOf}
 
--- as many objects as a command can name
+-- the greatest count of objects that a command can name
 abbrev pub all_objects : ℕ
 all_objects = 2 ^ 64 - 1
 
--- a turn is the command, and this its answer, or its refusal
+-- the turn's line is the command, and its reply is this answer or refusal
 abbrev pub IsStage : Command → Turn → Result Answer Refusal → Type 0
 IsStage c t (Ok a) = (t.line ≡ spelling c) × (t.reply ≡ Reported a) × ((why : Refusal) → a ≢ answer.Refused why)
 IsStage c t (Err why) = (t.line ≡ spelling c) × (t.reply ≡ Reported (answer.Refused why))
@@ -39,7 +39,7 @@ module _ {D S : Type 0} (disk : D → Disk) (view : S → View D) (parts : S →
       ((why : Refusal) × (r ≡ Err why) × CarriesOut old c new (Err why))
       ⊎ ((next : Power D S) × (a : Answer) × CarriesOut old c next (Ok a) × CarriesOutAll next (d ∷ cs) new r)
 
-  -- what was committed was moved home; or it wasn't committed
+  -- the committed objects were moved home; or nothing was committed
   abbrev pub Moves : Result Answer Refusal → Power D S → Power D S → Result Answer Refusal → Type 0
   Moves (Ok committed) old new r = (moved : Result Answer Refusal) × CarriesOut old (command.Migrate all_objects) new moved
       × (r ≡ after_migration committed moved)

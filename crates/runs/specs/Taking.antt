@@ -1,4 +1,4 @@
--- A run of a script in its course.
+-- A run of a script that isn't at its end.
 use Rattle.runs.specs.Names.{ℕ, Bool, true, false, List, [], length, take, Option, Result, Ok, Err, Written, Wrote}
 use Rattle.runs.specs.Names.{WroteFront, Consumes, IsAtEnd, Geometry, Line, Machine, Reply, Turn, Replies, lines_of}
 use Rattle.runs.specs.Names.{reply_text, output_of, Says, Disk, LeavesOnly, Parts, View, Power, Stands, disk_of}
@@ -9,14 +9,14 @@ use Rattle.runs.specs.declared.script_pieces.Piece.{Piece}
 use Rattle.runs.specs.declared.script_pieces.Piece.TheVariants as piece
 use Rattle.runs.specs.KernelRuns.{AreLines, AreSeen, IsCutShort, IsLeftIn, IsRunOf, IsReportedBy, lines_in}
 
--- bytes were read, or none
+-- what a read gave: bytes, none yet, or the end
 abbrev pub ReadsPiece : Option (List ℕ) → Option (List ℕ) → List ℕ → Result Piece RunFault → Type 0
 ReadsPiece old new bytes (Ok (piece.Bytes n)) = (n ≤ length bytes) × Consumes old new (take n bytes)
 ReadsPiece old new bytes (Ok piece.End) = Consumes old new [] × IsAtEnd new
 ReadsPiece old new bytes (Ok piece.Nothing) = Consumes old new []
 ReadsPiece old new bytes (Err e) = (e ≡ fault.Read) × Consumes old new []
 
--- after a read before the end fewer can follow
+-- after each read before the end, fewer reads can follow
 abbrev pub LeavesFewer : Result Piece RunFault → ℕ → ℕ → Type 0
 LeavesFewer (Ok (piece.Bytes n)) old new = new < old
 LeavesFewer (Ok piece.Nothing) old new = new < old
@@ -31,7 +31,7 @@ IsWritten written wrote (Err e) on text = (e ≡ fault.Write) × WroteFront writ
 -- The parameters are ghost members of a device, of an object store, and of an observer.
 module _ {D S O : Type 0} (disk : D → Disk) (view : S → View D) (parts : S → Parts)
     (sees : Geometry → Turn → O → O → Bool → Type 0) where
-  -- a line was taken: the machine after it, what a crash leaves in its course, and what the observer made of it
+  -- a line was taken: the machine after it, what a crash during it leaves, and what the observer saw
   pub record TakesTurn (g : Geometry) (m : Machine) (text : List ℕ) (says : Line) (old new : Power D S)
       (before seen : O) (written wrote : Written) (result : Result Bool RunFault) : Type 0 where
     pub reply : Reply
@@ -79,7 +79,7 @@ module _ {D S O : Type 0} (disk : D → Disk) (view : S → View D) (parts : S �
   StopsBy fault.Write turns on output output_left = IsCutShort turns output output_left
   StopsBy fault.Stopped turns on output output_left = (on ≡ false) × Wrote output output_left (output_of turns)
 
-  -- a run of such lines that ended early
+  -- a run that ended early, of lines for which `AreTaken` holds
   pub record Stopped (AreTaken : List (List ℕ) → Type 0) (e : RunFault) (g : Geometry) (m : Machine)
       (old new : Power D S) (before seen : O) (output output_left : Written) : Type 0 where
     pub turns : List Turn

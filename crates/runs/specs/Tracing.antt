@@ -38,7 +38,7 @@ cause_text (cause.BadLine why) = spaced (codes "bad line:" ∷ line_fault_text w
 cause_text (cause.Refused why) = refusal_text why
 cause_text (cause.Code c) = code_text c
 
--- what became of a command: the result code of its order, or else its answer
+-- the outcome of a command in a trace: the result code of its order, or else its answer
 abbrev pub IsOutcome : Option ResultCode → Answer → List ℕ → Type 0
 IsOutcome (Some c) a text = text ≡ code_text c
 IsOutcome None a text = IsAnswerText a text
@@ -60,27 +60,27 @@ IsTrace g place t (Reported a) text =
 
 -- Where a strict run ends
 
--- an answer, with its result code, is such a cause
+-- an answer, with its result code, is this cause to end a strict run
 abbrev pub IsCauseIn : Answer → Option ResultCode → Cause → Type 0
 IsCauseIn a reported (cause.BadLine why) = ⊥
 IsCauseIn a reported (cause.Refused why) = a ≡ answer.Refused why
 IsCauseIn a reported (cause.Code c) = (reported ≡ Some c) × (c ≢ code.Done)
 
--- and a turn is one
+-- a turn has this cause to end a strict run
 abbrev pub IsCauseOf : Geometry → Turn → Cause → Type 0
 IsCauseOf g t (cause.BadLine why) = (t.reply ≡ BadLine) × IsFaultOf t.line why
 IsCauseOf g t why =
     (c : Command) × Says t.line (line.Command c) × (a : Answer) × (t.reply ≡ Reported a) × IsCauseIn a
     (reported_code g t.before c a) why
 
--- the run ends at this turn with this number exactly if it is strict and the turn is a cause
+-- the run ends at this turn, which has this number, exactly if it is strict and the turn has a cause
 abbrev pub Ends : Geometry → ℕ → Turn → Bool → Bool → Option Stop → Type 0
 Ends g place t false on stop = on ≡ true
 Ends g place t true true stop = (why : Cause) → IsCauseOf g t why → ⊥
 Ends g place t true false None = ⊥
 Ends g place t true false (Some stop) = (stop.line ≡ place) × IsCauseOf g t stop.cause
 
--- A text was written; or writing it failed, and then it is lost with all that follow. If none are wanted, none is.
+-- A trace was written; or that failed, and it is lost with all that follow. If traces aren't wanted, none is written.
 abbrev pub IsTraced : Bool → Bool → Bool → Written → Written → List ℕ → Type 0
 IsTraced true false false old new text = Wrote old new text
 IsTraced true false true old new text = WroteFront old new text
@@ -106,13 +106,13 @@ pub record IsNewTracer {V : Type 0} (writer : V) (chosen : TraceOptions) (new : 
   pub none_lost : new.is_lost ≡ false
   pub none_stopped : new.stop ≡ None
 
--- only what was written changed
+-- the two tracers agree, except in what was written
 pub record IsSame {V : Type 0} (old new : Tracer V) : Type 0 where
   pub options : new.options ≡ old.options
   pub place : new.line ≡ old.line
   pub stop : new.stop ≡ old.stop
 
--- a line with a cause ends a strict run, at its place
+-- a line with a cause ends a strict run; `stop` has the number of the line, and the cause
 abbrev pub EndsIf : Bool → Option Cause → ℕ → Bool → Option Stop → Type 0
 EndsIf true (Some why) place on stop = (on ≡ false) × (stop ≡ Some (record { line = place; cause = why }))
 EndsIf true None place on stop = on ≡ true

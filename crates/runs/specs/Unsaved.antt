@@ -9,8 +9,8 @@ use Rattle.runs.specs.declared.unsaved.Unsaved.{Unsaved}
 abbrev pub nothing_unsaved : Unsaved
 nothing_unsaved = record { present = false; frozen = false }
 
--- Each invocation and store that is carried out isn't committed. A checkpoint freezes what isn't, a commit saves what
--- is frozen, and a restart loses both.
+-- After each invocation or store that is carried out, something present isn't committed. A checkpoint freezes that, a
+-- commit saves what is frozen, and a restart loses both.
 abbrev pub unsaved_after : Command → Answer → Unsaved → Unsaved
 unsaved_after (command.Evict n) answer.Done old = old
 unsaved_after c answer.Done old = record { present = true; frozen = old.frozen }
@@ -24,6 +24,6 @@ abbrev pub NotesReply : Turn → Reply → Unsaved → Unsaved → Type 0
 NotesReply t (Reported a) old new = (c : Command) × Says t.line (line.Command c) × (new ≡ unsaved_after c a old)
 NotesReply t reply old new = new ≡ old
 
--- what is noted of a turn; the run goes on
+-- what isn't committed after a turn; the run goes on
 abbrev pub Notes : Geometry → Turn → Unsaved → Unsaved → Bool → Type 0
 Notes g t old new on = (on ≡ true) × NotesReply t t.reply old new

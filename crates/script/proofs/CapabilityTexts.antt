@@ -1,4 +1,4 @@
--- A text is a capability's where its pieces are the capability's words.
+-- A text is a capability's if its words are the capability's.
 use Rattle.script.proofs.Names.{not, list_all, access_text, nat_tests, ℕ, Bool, true, false, List, [], length, codes, decimal, refl, sym, ap, arith, flat_map}
 use Rattle.script.proofs.Names.{same_Some, All-nil, All-cons, All-weaker, AllPass-from_list_all, join_with_byte-slice_split, Access, Capability, spaced}
 use Rattle.script.proofs.Names.{capability_text, IsSpaceless, split_spaced, decimal_is_word, access_words, capability_words, kind_name, words_of}

@@ -1,4 +1,4 @@
--- What a writer is left with, put together.
+-- What a writer has taken after several writes.
 use Rattle.script.proofs.Names.{nat_tests, ℕ, List, [], Option, Result, Ok, Err, length, take, drop, sym, ap, subst, append_assoc, append-nil, arith}
 use Rattle.script.proofs.Names.{take-append-drop, take_all, length-drop, take-add, Appends-trans, Appends, Keeps, line_of, RunFault, AppendsFront, Writes}
 use Rattle.script.proofs.Names.{Appends-kept, Written, Wrote, WroteFront, CountedWriter, written_by}

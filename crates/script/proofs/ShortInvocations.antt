@@ -1,4 +1,4 @@
--- The command that numbers say which are read one after the other.
+-- The command of numbers that are read one after the other.
 use Rattle.script.proofs.Names.{nat_tests, ℕ, List, [], Option, Some, length, get_or, drop, refl, ap, arith, IfSome, IsSome, lt-ltb, Command, Operation, Fits}
 use Rattle.script.proofs.Names.{command_words, operation_name, keyword_name, Words, arguments_at, invocation_at, number_at, numbers_at, register_at}
 use Rattle.script.proofs.Names.{registers_at, words_of}

@@ -1,4 +1,4 @@
--- A line is a command's spelling where its pieces are the command's words.
+-- A line spells a command if its words are the command's.
 use Rattle.script.proofs.Names.{arith, nat_tests, ℕ, List, refl, ap, Command, Fits, IsSkipped, command_words, spelling, length-spelling, skip_is_no_command}
 use Rattle.script.proofs.Names.{spelling_from_words, spells_one, split_spelling, words_of, Says}
 use Rattle.std.proofs.Common.{◌≡◌, ◌≢◌, ◌∙◌}

@@ -1,4 +1,4 @@
--- The line of an answer, where only one is wanted.
+-- An answer as a single line.
 use Rattle.script.specs.Names.{ℕ, List, codes, Answer, line_of, printed}
 use Rattle.std.specs.Prelude.{◌≡◌}
 use Rattle.model.specs.declared.answer.Answer.TheVariants as answer

@@ -2,19 +2,19 @@
 use Rattle.script.specs.Names.{ℕ, Option, Result, MatchResult, option_map}
 use Rattle.std.specs.Prelude.{◌≡◌, ◌⊎◌, ◌≤◌, ◌+◌, ◌-◌, ◌^◌}
 
--- how many calls failed, and how many were interrupted; a write that takes nothing of some bytes fails
+-- how many calls failed, and how many were interrupted; a write that takes none of its bytes counts as failed
 pub record CallErrors : Type 0 where
   pub failed : ℕ
   pub interrupted : ℕ
 
--- so many failed more, and so many were interrupted
+-- the errors after more failed and more interrupted calls
 abbrev pub more_errors : ℕ → ℕ → CallErrors → CallErrors
 more_errors failed interrupted errors = record {
   failed = errors.failed + failed;
   interrupted = errors.interrupted + interrupted;
 }
 
--- no call failed
+-- no call failed; any number of calls were interrupted
 abbrev pub NoneFailed : Option CallErrors → Option CallErrors → Type 0
 NoneFailed old new = (n : ℕ) × (new ≡ option_map (more_errors 0 n) old)
 

@@ -8,14 +8,14 @@ use Rattle.script.specs.declared.counted.BufferedOutput.{BufferedOutput}
 abbrev pub inner_writer : {W : Type 0} → CountedWriter W → W
 inner_writer w = w.inner
 
--- how many of its calls have failed
+-- how many calls of the writer have failed
 abbrev pub failed_writes : {W : Type 0} → CountedWriter W → ℕ
 failed_writes w = w.failures.number
 
--- what it has taken, and how many of its calls have failed
+-- what the writer has taken, and how many of its calls have failed
 abbrev pub written_by : {W : Type 0} → (W → Option (List ℕ)) → CountedWriter W → Written
 written_by contents w = record { contents = contents w.inner; failures = w.failures.number }
 
--- the buffer beneath, and what it counts
+-- the counted writer over the buffer of an output
 abbrev pub counted_buffer : {B : Type 0} → BufferedOutput B → CountedWriter B
 counted_buffer b = b.counted

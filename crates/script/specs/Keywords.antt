@@ -28,7 +28,7 @@ pub record BeginsWith (word : List ℕ) (more : ℕ) (line : List ℕ) : Type 0 
   pub front : take (length word + 1) line ≡ word ++ codes " "
   pub room : length word + 1 + more ≤ length line
 
--- the least bytes of the numbers after a keyword that most lines begin with
+-- the keywords that most lines begin with, and the least bytes that the words after them take
 abbrev pub IsCommon : Keyword → ℕ → Type 0
 IsCommon (Invoke operation) least = least ≡ 19
 IsCommon Load least = least ≡ 3

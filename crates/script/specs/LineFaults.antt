@@ -9,7 +9,7 @@ use Rattle.script.specs.declared.line_fault.LineFault.TheVariants as fault
 use Rattle.script.specs.Keywords.{keyword_name}
 use Rattle.script.specs.Reading.{Words, words_of}
 
--- of each word after a keyword, whether it is a register
+-- for each word after a keyword, whether it is a register
 abbrev pub are_registers : Keyword → List Bool
 are_registers (keyword.Invoke operation) = false ∷ true ∷ false ∷ false ∷ false ∷ false ∷ true ∷ true ∷ true ∷ true ∷ []
 are_registers keyword.Load = false ∷ false ∷ []
@@ -24,7 +24,7 @@ are_registers _ = false ∷ []
 abbrev pub Names : List ℕ → Keyword → Words → Type 0
 Names line k words = words_of line ≡ keyword_name k ∷ words
 
--- the word at a place of the line, from 1
+-- the word at a place of the line, counted from 1
 abbrev pub HasWord : List ℕ → ℕ → List ℕ → Type 0
 HasWord line place word = (before : Words) × (after : Words) × (words_of line ≡ before ++ word ∷ after) ×
     (place ≡ suc (length before))
@@ -34,7 +34,7 @@ abbrev pub HasOperand : List ℕ → ℕ → List ℕ → Type 0
 HasOperand line place word = (k : Keyword) × (words : Words) × Names line k words
     × (i : ℕ) × (place ≡ i + 2) × (i < length (are_registers k)) × (slice_get words i ≡ Some word)
 
--- the fault is one of the line
+-- this fault is one of the line
 abbrev pub IsFaultOf : List ℕ → LineFault → Type 0
 IsFaultOf line fault.Long = 256 < length line
 IsFaultOf line fault.CarriageReturn = (i : ℕ) × (i < length line) × (get_or line i 0 ≡ 13)
@@ -55,7 +55,7 @@ IsFaultOf line (fault.NoRegister number) =
     × (place : ℕ) × (slice_get (are_registers k) place ≡ Some true) × (slice_get words place ≡ Some (decimal number)) ×
     (31 < number)
 
--- a word can stand where a register has to, or any number
+-- a word is a valid operand: the number of a register if one is required, else any number
 abbrev pub IsOperand : Bool → List ℕ → Type 0
 IsOperand is_register word = (n : ℕ) × (n < (if is_register then 32 else 2 ^ 64)) × (word ≡ decimal n)
 
@@ -65,7 +65,7 @@ AreOperands [] [] = Unit {0}
 AreOperands (is_register ∷ others) (word ∷ words) = IsOperand is_register word × AreOperands others words
 AreOperands _ _ = ⊥
 
--- why the word at a place can't stand there
+-- why the word at a place can't be there
 abbrev pub IsWordFault : List ℕ → ℕ → Bool → LineFault → Type 0
 IsWordFault word place is_register (fault.EmptyWord at) = (at ≡ place) × (word ≡ [])
 IsWordFault word place is_register (fault.NoNumber at) = (at ≡ place) × (AllDigits 10 word → ⊥)
@@ -75,7 +75,7 @@ IsWordFault word place is_register (fault.NoRegister number) = (is_register ≡ 
     (31 < number)
 IsWordFault word place is_register _ = ⊥
 
--- a fault in words
+-- the text of a fault
 abbrev pub line_fault_text : LineFault → List ℕ
 line_fault_text fault.Long = codes "more than 256 bytes"
 line_fault_text fault.CarriageReturn = codes "carriage return"

@@ -21,7 +21,7 @@ kind_name Resume = codes "resume"
 kind_name Bank = codes "bank"
 kind_name Discrim = codes "discrim"
 
--- the word of a restricted access
+-- the word for a restricted access; none for full access
 abbrev pub access_words : Access → Words
 access_words a = if a.0 == 0 then [] else if a.0 == 1 then codes "ro" ∷ [] else codes "weak" ∷ []
 
@@ -43,7 +43,7 @@ unfoldable pub access_in : List ℕ → Option Access
 access_in word = if bytes_eq word (codes "ro") then Some (record { 0 = 1 }) else if bytes_eq word (codes "weak") then
     Some weak else None
 
--- full where no word is left
+-- the access at the end of these words: full if no word is left
 unfoldable pub access_at : Words → Option (Access × Words)
 access_at [] = Some (full, [])
 access_at (word ∷ words) = do
@@ -60,20 +60,20 @@ key_at words = do
   key ← number_at words
   if nat_lt key.0 (2 ^ 16) then Some key else None
 
--- a capability of one number
+-- a capability with one number, read from these words
 abbrev pub one_of : (ℕ → Capability) → Words → Option (Capability × Words)
 one_of make words = do
   n ← number_at words
   Some (make n.0, n.1)
 
--- a capability of an object and an access
+-- a capability with an object and an access, read from these words
 abbrev pub object_of : (ℕ → Access → Capability) → Words → Option (Capability × Words)
 object_of make words = do
   object ← number_at words
   access ← access_at object.1
   Some (make object.0 access.0, access.1)
 
--- what follows the first word
+-- the capability of this kind, read from the words after its first one, and the words left
 unfoldable pub capability_at : Kind → Words → Option (Capability × Words)
 capability_at Void words = Some (capability.Void, words)
 capability_at Number words = one_of (λ n. capability.Number n) words

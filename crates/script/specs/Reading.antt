@@ -14,7 +14,7 @@ None >>= f = None
 abbrev pub Words : Type 0
 Words = List (List ℕ)
 
--- the pieces between the spaces
+-- the words of a line: the pieces between its spaces
 abbrev pub words_of : List ℕ → Words
 words_of line = slice_split (λ b. b == 32) line
 
@@ -29,7 +29,7 @@ first_end text = position_or_len (λ b. b == 32) text
 abbrev pub first_word : List ℕ → List ℕ
 first_word text = take (first_end text) text
 
--- what a reader returned, and the words that it left, are what reading gives
+-- the value that a reader returned, and the words that it left, are those that `read` says
 abbrev pub Gives : {A : Type 0} → Option A → Words → Option (A × Words) → Type 0
 Gives None left read = read ≡ None
 Gives (Some x) left read = read ≡ Some (x, left)
@@ -82,13 +82,13 @@ invocation_at operation words = do
     sent.1,
   )
 
--- a command of one number
+-- a command with one number, read from these words
 abbrev pub one_at : (ℕ → Command) → Words → Option (Command × Words)
 one_at make words = do
   n ← number_at words
   Some (make n.0, n.1)
 
--- what follows a keyword
+-- the command of this keyword, read from the words after it, and the words left
 unfoldable pub arguments_at : Keyword → Words → Option (Command × Words)
 arguments_at (keyword.Invoke operation) words = invocation_at operation words
 arguments_at keyword.Load words = do

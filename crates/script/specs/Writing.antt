@@ -1,15 +1,15 @@
--- What a writer is left with.
+-- What a writer has taken, and how many of its calls have failed.
 use Rattle.script.specs.Names.{ℕ, List, Option, Result, Ok, Err, Appends}
 use Rattle.std.specs.Prelude.{◌≡◌, ◌<◌, ◌++◌}
 use Rattle.script.specs.declared.fault.RunFault.{RunFault}
 use Rattle.script.specs.declared.fault.RunFault.TheVariants as fault
 
--- what a writer has taken, where that is known, and how many of its calls have failed
+-- what a writer has taken, if that is known, and how many of its calls have failed
 pub record Written : Type 0 where
   pub contents : Option (List ℕ)
   pub failures : ℕ
 
--- known bytes grow by a beginning of the text
+-- the known bytes grow by the front of the text
 abbrev pub AppendsFront : Option (List ℕ) → Option (List ℕ) → List ℕ → Type 0
 AppendsFront old new text = (front : List ℕ) × (rest : List ℕ) × (text ≡ front ++ rest) × Appends old new front
 

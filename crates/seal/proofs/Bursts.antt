@@ -1,4 +1,4 @@
--- Rows that differ in a burst have all numbers the same but for three.
+-- Rows that differ in a burst differ in at most three numbers.
 use Rattle.seal.proofs.Names.{ℕ, zero, suc, List, [], length, get_or, ap, sym, inl, inr, arith, cases_lt, get_or_past, All-get_or, same_from_bits_below, bit_at}
 use Rattle.seal.proofs.Names.{All, DifferInBurst, IsRow, differences, row_bit, BurstsChangeSums, FewChangesChangeSums, numbers, sums_of}
 use Rattle.std.proofs.Common.{◌≡◌, ◌+◌, ◌*◌, ◌/◌, ◌%◌, ◌<◌, ◌≤◌, ◌∷◌, ◌∙◌}

@@ -1,4 +1,4 @@
--- What sums and seals tell.
+-- What sums and seals detect.
 use Rattle.std.specs.Prelude.{◌≡◌, ℕ, ◌≤◌, List, length, replicate}
 use Rattle.seal.specs.Damage.{DifferInBurst, IsRow, differences}
 use Rattle.seal.specs.Seal.{IsSealed, body_of}
@@ -13,7 +13,7 @@ FewChangesChangeSums = (x y : List ℕ) → IsRow x → IsRow y → length x ≡
 abbrev pub BurstsChangeSums : Type 0
 BurstsChangeSums = (i : ℕ) (x y : List ℕ) → IsRow x → IsRow y → DifferInBurst i x y → sums_of x ≡ sums_of y → x ≡ y
 
--- of two rows that differ in a burst one at most is sealed
+-- of two rows that differ in a burst, at most one is sealed
 abbrev pub BurstsBreakSeals : Type 0
 BurstsBreakSeals = (i : ℕ) (x y : List ℕ) → IsRow x → IsRow y → DifferInBurst i x y → IsSealed x → IsSealed y → x ≡ y
 

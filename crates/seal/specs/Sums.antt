@@ -13,7 +13,7 @@ abbrev pub weighted : (ℕ → ℕ) → List ℕ → ℕ
 weighted weight [] = 0
 weighted weight (h ∷ hs) = weight (length (h ∷ hs)) * h + weighted weight hs
 
--- each number counts once, k times, and 1 + 2 + .. + k times, if its place is k
+-- three sums of a row's numbers: a number with place k counts once, k times, and 1 + 2 + .. + k times
 unfoldable pub sums_of : List ℕ → Sums
 sums_of row = record {
   a = weighted (λ k. 1) (numbers row);

@@ -1,4 +1,4 @@
--- How often a number stands in a list.
+-- How often a number occurs in a list.
 use Rattle.sealed_layout.proofs.Names.{ℕ, List, [], length, get_or, replicate, zero, suc, subst, sym, refl, inl, inr, arith, cases_eq, nat_tests, differences}
 use Rattle.sealed_layout.proofs.Names.{copies}
 use Rattle.std.proofs.Common.{◌≡◌, ◌+◌, ◌<◌, ◌≤◌, ◌∷◌, ◌++◌, ◌∙◌}

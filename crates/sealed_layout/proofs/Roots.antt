@@ -1,4 +1,4 @@
--- The root, and what it shows.
+-- The root, and what it detects.
 use Rattle.sealed_layout.proofs.Names.{ℕ, List, [], zero, suc, ap, sym, refl, inl, inr, arith, add-mul, mul-add, mul_assoc, mul_comm, pow-suc, cases_lt, Sums}
 use Rattle.sealed_layout.proofs.Names.{same_sums, Unit, directory_sums, root_of, seals_total, units_total, weighed, OneOldSectorIsSeen, OneOldUnitIsSeen}
 use Rattle.sealed_layout.proofs.Names.{UnitsHaveNoOrder, unit_of}

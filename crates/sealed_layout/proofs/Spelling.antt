@@ -1,4 +1,4 @@
--- Given bytes spell one value.
+-- Bytes encode at most one value.
 use Rattle.sealed_layout.proofs.Names.{ℕ, List, [], length, get_or, drop, ap, refl, sym, arith, Entry, HomeRange, bursts_break, entries_bytes, entry_numbers}
 use Rattle.sealed_layout.proofs.Names.{header_bytes, header_from, header_numbers, ClustersShowBursts, SectorsShowBursts, SpellOneHeader, SpellOnePageHeader}
 use Rattle.sealed_layout.proofs.Names.{SpellOneSector, SpellOneSuperblock, page_header_bytes, page_header_from, page_header_numbers, range_numbers, row_from}

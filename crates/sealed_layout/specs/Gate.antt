@@ -12,12 +12,12 @@ gate_bytes n = words_bytes (replicate 64 n)
 unfoldable pub gate_numbers : List ℕ → List ℕ
 gate_numbers bytes = map (λ k. little_number 8 (drop (8 * k) bytes)) (range_with_len 0 64)
 
--- in how many places a number stands
+-- how often n occurs in a list
 abbrev pub copies : ℕ → List ℕ → ℕ
 copies n [] = 0
 copies n (x ∷ xs) = (if x == n then 1 else 0) + copies n xs
 
--- the number of a gate isn't 0, and most copies hold it
+-- the number of a gate: it isn't 0, and most of the 64 copies hold it
 pub record HasNumber (bytes : List ℕ) (n : ℕ) : Type 0 where
   pub some : 0 < n
   pub most : 33 ≤ copies n (gate_numbers bytes)

@@ -16,7 +16,7 @@ WrittenGatesHaveTheirNumber = (n : ℕ) → 0 < n → n < 2 ^ 64 → HasNumber (
 abbrev pub ClosedGatesHaveNone : Type 0
 ClosedGatesHaveNone = (n : ℕ) → HasNumber (gate_bytes 0) n → ⊥
 
--- a whole gate keeps its number, or has none, whatever some of its bits in a row become
+-- a burst of damage leaves a whole gate the number that it had, or none if it had none
 abbrev pub BurstsKeepNumbers : Type 0
 BurstsKeepNumbers = (i : ℕ) (x y : List ℕ) (n : ℕ) → IsRow x → IsRow y → length x ≡ 512 → DifferInBurst i x y →
     IsWhole x → HasNumber x n ↔ HasNumber y n

@@ -5,17 +5,17 @@ use Rattle.layout.specs.declared.header.CheckpointHeader.{CheckpointHeader}
 use Rattle.sealed_layout.specs.declared.header.SealedHeader.{SealedHeader}
 use Rattle.sealed_layout.specs.Sector.{sector_bytes}
 
--- a header as numbers of 8 bytes; the first spells the magic
+-- a header as numbers of 8 bytes; the first is the magic
 abbrev pub header_numbers : SealedHeader → List ℕ
 header_numbers h =
     little_number 8 (codes "EROSHEAD") ∷ h.header.sequence ∷ h.header.generation ∷ h.header.entries ∷ h.header.age
     ∷ h.root.a ∷ h.root.b ∷ h.root.c ∷ h.directory.a ∷ h.directory.b ∷ h.directory.c ∷ []
 
--- its sector
+-- the sector of a header
 unfoldable pub header_bytes : SealedHeader → List ℕ
 header_bytes h = sector_bytes (header_numbers h)
 
--- the header that numbers are, whatever the first is
+-- the header that these numbers stand for; the first one is ignored
 abbrev pub header_from : List ℕ → SealedHeader
 header_from ns = record {
   header = record {
@@ -28,7 +28,7 @@ header_from ns = record {
   directory = record { a = slice_index ns 8; b = slice_index ns 9; c = slice_index ns 10 };
 }
 
--- what a committed header needs on a device whose log half has `room` slots
+-- what a committed header requires on a device whose log half has `room` slots
 pub record IsWithinLimits (room : ℕ) (h : CheckpointHeader) : Type 0 where
   pub entries : h.entries ≤ room
   pub age : h.age ≤ 2 ^ 62

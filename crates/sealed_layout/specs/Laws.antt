@@ -1,4 +1,4 @@
--- Given bytes spell one value, and show damage.
+-- Bytes encode at most one value, and show damage.
 use Rattle.std.specs.Prelude.{◌≡◌, ℕ, ◌≤◌, List, length}
 use Rattle.layout.specs.Bytes.{zeros}
 use Rattle.layout.specs.Directory.{AllFitting}
@@ -33,12 +33,12 @@ SpellOneSuperblock = (p q : SuperblockRow) (qs rs : List HomeRange) → length q
     AreWords (superblock_numbers p qs) → AreWords (superblock_numbers q rs) →
     superblock_bytes p qs ≡ superblock_bytes q rs → (p ≡ q) × (qs ≡ rs)
 
--- of two rows that differ in a burst one at most is a sector of numbers: of a superblock, header, directory or page
+-- of two rows that differ in a burst, at most one is a sealed sector: superblock, header, directory or page header
 abbrev pub SectorsShowBursts : Type 0
 SectorsShowBursts = (i : ℕ) (x y ms ns : List ℕ) → IsRow x → IsRow y → DifferInBurst i x y →
     x ≡ sector_bytes ms → y ≡ sector_bytes ns → x ≡ y
 
--- and one at most is a cluster
+-- of two rows that differ in a burst, at most one is a sealed cluster
 abbrev pub ClustersShowBursts : Type 0
 ClustersShowBursts = (i : ℕ) (x y : List ℕ) (m n : ℕ) → IsRow x → IsRow y → DifferInBurst i x y →
     IsCluster m x → IsCluster n y → x ≡ y

@@ -17,7 +17,7 @@ page_header_numbers h =
 unfoldable pub page_header_bytes : PageHeader → List ℕ
 page_header_bytes h = sector_bytes (page_header_numbers h)
 
--- the header that numbers are
+-- the header that these numbers stand for
 abbrev pub page_header_from : List ℕ → PageHeader
 page_header_from ns = record {
   object = record {
@@ -29,13 +29,13 @@ page_header_from ns = record {
   words = record { a = slice_index ns 4; b = slice_index ns 5; c = slice_index ns 6 };
 }
 
--- a page, or free without an owner; with counts of an image of this age
+-- the header of a page, or of a free number without an owner; its counts are at most the age
 pub record IsPageHeader (age : ℕ) (h : PageHeader) : Type 0 where
   pub role : (h.object.role ≡ role.Page) ⊎ ((h.object.role ≡ role.Free) × (h.object.owner ≡ 0))
   pub allocations : IsCount age h.object.allocations
   pub calls : IsCount age h.object.calls
 
--- the words have the sums that the header says, and are zeros where it is free
+-- the words have the sums that the header says, and are zeros if its number is free
 pub record HasWords (words : List ℕ) (h : PageHeader) : Type 0 where
   pub sums : h.words ≡ sums_of words
   pub free : h.object.role ≡ role.Free → words ≡ zeros 4096

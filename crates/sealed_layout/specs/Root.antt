@@ -2,7 +2,7 @@
 use Rattle.std.specs.Prelude.{ℕ, ◌+◌, ◌*◌, ◌^◌, ◌%◌, List, [], ◌∷◌}
 use Rattle.seal.specs.declared.sums.Sums.{Sums}
 
--- a cluster, by its least number, or the header sector of a page
+-- a unit: a cluster, named by its least number, or the header sector of a page; and its seal
 pub record Unit : Type 0 where
   pub number : ℕ
   pub seal : Sums
@@ -26,6 +26,6 @@ seals_total part (s ∷ ss) = part s + seals_total part ss
 unfoldable pub directory_sums : List Sums → Sums
 directory_sums ss = modulo (seals_total (λ s. s.a) ss) (seals_total (λ s. s.b) ss) (seals_total (λ s. s.c) ss)
 
--- sums with one seal more, times a weight
+-- the sums with one more seal, times a weight
 abbrev pub weighed : Sums → ℕ → Sums → Sums
 weighed sums weight seal = modulo (sums.a + weight * seal.a) (sums.b + weight * seal.b) (sums.c + weight * seal.c)

@@ -1,4 +1,4 @@
-//! The bytes of version 3 of the layout. Each structure has one spelling, and its decoder accepts no other bytes.
+//! The bytes of version 3 of the layout. Each structure has one encoding, and its decoder accepts no other bytes.
 #![tactic(auto)]
 
 mod cluster;

@@ -1,4 +1,4 @@
--- The slots of an image: there are some, and they are determined by its sectors.
+-- The slots of an image: they exist, and its sectors determine them.
 use Rattle.std.proofs.Common.{◌≡◌, ℕ, ◌%◌, ◌⊎◌, ◌↔◌, List, Option, None, Some, ap, refl, subst, sym, ◌∙◌, inl, inr}
 use Rattle.std.proofs.Math.Path.{fun_ext}
 use Rattle.std.proofs.lemmas.Option.{same_Some}

@@ -1,4 +1,4 @@
--- What is left where the gates of all header slots are closed, so that no header is committed.
+-- What a crash leaves while the gates of all header slots are closed, so that no header is committed.
 use Rattle.std.specs.Prelude.{◌≡◌, ℕ, ◌%◌, ◌<◌}
 use Rattle.device.specs.Disk.{Disk, Image}
 use Rattle.header_slots.specs.Slots.{Counts, Slots}
@@ -15,16 +15,16 @@ AreClosed image = (k : ℕ) → k < 3 → image (gate_sector k) ≡ gate_bytes 0
 abbrev pub CommitsNone : Image → Type 0
 CommitsNone image = (h : SealedHeader) → Commits image h → ⊥
 
--- nothing is touched but gates, and the committed header is the same, or there is none
+-- only gates differ, and the committed header is the same, or there is none
 pub record KeepsOrHasNone (old new : Image) : Type 0 where
   pub elsewhere : (i : ℕ) → ((k : ℕ) → k < 3 → i ≡ gate_sector k → ⊥) → new i ≡ old i
   pub committed : (h : SealedHeader) → Commits new h → Commits old h
 
--- the same, after what a crash could have left before
+-- c differs in this way from an image that a crash may leave
 abbrev pub WasKeptOrHasNone : Disk → Image → Type 0
 WasKeptOrHasNone disk c = (d : Image) × disk.may_leave d × KeepsOrHasNone d c
 
--- where the header of slot j counts, so does that of slot i, with a lesser number
+-- if the header of slot j counts, so does that of slot i, and its number is less
 abbrev pub GoesFirst : Slots → ℕ → ℕ → Type 0
 GoesFirst slots i j = (n : ℕ) → n % 3 ≡ j → Counts slots n → (m : ℕ) × (m % 3 ≡ i) × Counts slots m × (m < n)
 

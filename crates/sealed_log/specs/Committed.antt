@@ -25,7 +25,7 @@ Refuses image why = (slots : Slots) × AreSlots image slots × IsRefused slots w
 abbrev pub IsBeyond : Image → ℕ → Type 0
 IsBeyond image room = (h : SealedHeader) × Commits image h × (IsWithinLimits room h.header → ⊥)
 
--- why no header is read, where the device didn't fail
+-- why no header is read; nothing is said if the device failed
 abbrev pub HasNone : Image → ℕ → OpenFault → Type 0
 HasNone image room fault.Failed = ⊤
 HasNone image room (fault.Bad bad.NoHeader) = Refuses image NoPair

@@ -1,4 +1,4 @@
--- What a publish writes, and what a crash in its course leaves.
+-- What a publish writes, and what a crash during it leaves.
 use Rattle.std.specs.Prelude.{◌≡◌, ◌⊎◌, ℕ, ◌+◌, ◌%◌}
 use Rattle.device.specs.Calls.{Elsewhere}
 use Rattle.device.specs.Disk.{Disk, Image}
@@ -13,7 +13,7 @@ header_at h = header_sector (h.header.sequence % 3)
 abbrev pub gate_at : SealedHeader → ℕ
 gate_at h = gate_sector (h.header.sequence % 3)
 
--- the header that is committed stays so
+-- the header that is committed in `old` is committed in `new`
 abbrev pub StaysCommitted : Image → Image → Type 0
 StaysCommitted old new = (h : SealedHeader) → Commits old h → Commits new h
 
@@ -25,16 +25,16 @@ CommitsOne disk = (c : Image) → disk.may_leave c → StaysCommitted disk.seen 
 abbrev pub Precedes : Image → SealedHeader → Type 0
 Precedes image h = (before : SealedHeader) × Commits image before × (before.header.sequence + 1 ≡ h.header.sequence)
 
--- the same bytes in each sector but those of h and its gate
+-- the same bytes in each sector, except those of h and its gate
 abbrev pub SparesRest : SealedHeader → Image → Image → Type 0
 SparesRest h old new = (i : ℕ) → (i ≡ header_at h → ⊥) → (i ≡ gate_at h → ⊥) → new i ≡ old i
 
--- what a crash could have left before, but for the slot of h, with the committed header from before
+-- c equals an image that a crash may leave, except in the slot of h; its committed header is the one that `disk` reads
 pub record IsOld (h : SealedHeader) (disk : Disk) (c : Image) : Type 0 where
   pub could_be : (d : Image) × disk.may_leave d × SparesRest h d c
   pub committed : StaysCommitted disk.seen c
 
--- nothing is touched but the slot of h, where h stands, and h is the committed header
+-- only the slot of h is touched: it has h, and h is the committed header
 pub record HasNew (h : SealedHeader) (old new : Image) : Type 0 where
   pub written : new (header_at h) ≡ header_bytes h
   pub elsewhere : SparesRest h old new
@@ -43,7 +43,7 @@ pub record HasNew (h : SealedHeader) (old new : Image) : Type 0 where
 abbrev pub IsOldOrNew : SealedHeader → Disk → Image → Type 0
 IsOldOrNew h disk c = IsOld h disk c ⊎ HasNew h disk.seen c
 
--- the gate of h isn't touched yet; or h stands, and with it all that was written before
+-- either the gate of h isn't touched yet; or h is written, and so is all that was written before it
 abbrev pub IsInOrder : SealedHeader → Disk → Image → Type 0
 IsInOrder h disk c =
     ((d : Image) × disk.may_leave d × Elsewhere (header_at h) 1 d c)

@@ -15,7 +15,7 @@ use Rattle.sealed_layout.specs.Sector.{AreWords}
 use Rattle.sealed_log.specs.Opening.{gate_sector, header_sector}
 use Rattle.sealed_log.specs.declared.opening.HeaderSlot.{HeaderSlot}
 
--- these bytes are this sound header, or none
+-- these bytes encode this sound header, or no sound header
 abbrev pub IsHeaderIn : List ℕ → Option SealedHeader → Type 0
 IsHeaderIn bytes (Some h) = AreWords (header_numbers h) × (bytes ≡ header_bytes h)
 IsHeaderIn bytes None = (h : SealedHeader) → AreWords (header_numbers h) → bytes ≡ header_bytes h → ⊥
@@ -25,17 +25,17 @@ abbrev pub IsGateIn : List ℕ → Option ℕ → Type 0
 IsGateIn bytes (Some n) = HasNumber bytes n
 IsGateIn bytes None = (n : ℕ) → HasNumber bytes n → ⊥
 
--- slot k of an image
+-- this is what slot k of an image holds
 pub record IsSlotIn (image : Image) (k : ℕ) (slot : HeaderSlot) : Type 0 where
   pub header : IsHeaderIn (image (header_sector k)) slot.header
   pub gate : IsGateIn (image (gate_sector k)) slot.gate
 
--- all three
+-- this is what the three slots of an image hold
 pub record AreRead (image : Image) (slots : List HeaderSlot) : Type 0 where
   pub count : length slots ≡ 3
   pub each : (k : ℕ) (d : HeaderSlot) → k < 3 → IsSlotIn image k (get_or slots k d)
 
--- their numbers
+-- the sequence number of a header, if there is one; then the numbers of slots
 abbrev pub number_of : Option SealedHeader → Option ℕ
 number_of None = None
 number_of (Some h) = Some h.header.sequence
@@ -56,7 +56,7 @@ abbrev pub reason_of : NotCommitted → BadImage
 reason_of NoPair = bad.NoHeader
 reason_of NextGate = bad.BadHeader
 
--- why there is none, or none within its limits
+-- why no header is committed, or why the committed one isn't within its limits
 abbrev pub HasNoneBy : List HeaderSlot → ℕ → BadImage → Type 0
 HasNoneBy slots room bad.NoHeader = IsRefused (numbered slots) NoPair
 HasNoneBy slots room bad.BadHeader =

@@ -14,7 +14,7 @@ use Rattle.shell.specs.declared.request.Request.TheVariants as request
 abbrev pub is_blank : ℕ → Bool
 is_blank b = (b == 32) || (b == 9)
 
--- what stands before the first `#`, or all
+-- the part of a line before the first `#`, or all of it
 abbrev pub before_comment : List ℕ → List ℕ
 before_comment line = take (unwrap_or (position (λ b. b == 35) line) (length line)) line
 
@@ -22,16 +22,16 @@ before_comment line = take (unwrap_or (position (λ b. b == 35) line) (length li
 abbrev pub words_in : List ℕ → List (List ℕ)
 words_in text = filter (λ word. nat_lt 0 (length word)) (slice_split is_blank text)
 
--- A line as a shell reads it: its words before a comment, with one space between each two. Of a line of more than 256
--- bytes, which is bad whatever they are, it is the first 257.
+-- A line as a shell reads it: its words before a comment, with one space between each two. A line of more than 256
+-- bytes is bad whatever they are, and is read as its first 257 bytes.
 abbrev pub read_as : List ℕ → List ℕ
 read_as line = if nat_lt 256 (length line) then take 257 line else spaced (words_in (before_comment line))
 
--- the words that end a shell
+-- whether a line ends the shell
 abbrev pub ends_shell : List ℕ → Bool
 ends_shell line = bytes_eq line (codes "quit") || bytes_eq line (codes "exit")
 
--- `help`, or `help WORD`
+-- whether a line is `help`, or `help WORD`
 abbrev pub requests_help : List ℕ → Bool
 requests_help line = bytes_eq line (codes "help") || bytes_eq (codes "help ") (take 5 line)
 
@@ -39,11 +39,11 @@ requests_help line = bytes_eq line (codes "help") || bytes_eq (codes "help ") (t
 abbrev pub IsKept : List ℕ → ℕ → List ℕ → Type 0
 IsKept old b new = ((length old < 257) × (new ≡ old ++ b ∷ [])) ⊎ ((257 ≤ length old) × (new ≡ old))
 
--- to save all
+-- whether a line requests to save all
 abbrev pub requests_save : List ℕ → Bool
 requests_save line = bytes_eq line (codes "save")
 
--- to list what is there
+-- whether a line requests the list of all objects
 abbrev pub requests_list : List ℕ → Bool
 requests_list line = bytes_eq line (codes "list")
 
@@ -56,16 +56,16 @@ IsRequest line (request.Help word) = (requests_help line ≡ true) × (word.now 
 IsRequest line request.Pass = (ends_shell line ≡ false) × (requests_save line ≡ false) × (requests_list line ≡ false)
     × (requests_help line ≡ false)
 
--- the lines of an input, of whose first line these bytes were read before
+-- the lines of an input; these bytes of its first line were read before
 abbrev pub lines_from : List ℕ → List ℕ → List (List ℕ)
 lines_from [] rest = lines_of rest
 lines_from (b ∷ begun) rest = onto_first b (lines_from begun rest)
 
--- the lines that a shell will read, where its input is known
+-- the lines that a shell will read, if its input is known
 abbrev pub lines_ahead : List ℕ → Option (List ℕ) → Option (List (List ℕ))
 lines_ahead begun rest = option_map (λ text. map read_as (lines_from begun text)) rest
 
--- known lines begin with these, and lose them
+-- the known lines began with `taken`, and `new` are the others
 abbrev pub Takes : Option (List (List ℕ)) → Option (List (List ℕ)) → List (List ℕ) → Type 0
 Takes None new taken = ⊤
 Takes (Some ls) None taken = ⊥
@@ -76,6 +76,6 @@ abbrev pub NoneAhead : Option (List (List ℕ)) → Type 0
 NoneAhead None = ⊤
 NoneAhead (Some ls) = ls ≡ []
 
--- the lines that will be read, where the input is known
+-- the lines that will be read, if the input is known
 abbrev pub ahead_of : {R : Type 0} → (R → Option (List ℕ)) → TypedLines R → Option (List (List ℕ))
 ahead_of rest typed = lines_ahead typed.line.items (rest (read_from typed.reader))

@@ -1,4 +1,4 @@
--- A list of what is there.
+-- The list of all objects.
 use Rattle.std.specs.Prelude.{◌≡◌, ◌⊎◌, ◌∷◌, ℕ, suc, List, [], codes, length, Result, Ok, Err}
 use Rattle.capability.specs.Parts.{Parts}
 use Rattle.checkpoint.specs.Store.{View}
@@ -38,7 +38,7 @@ abbrev pub shown_text : Answer → List ℕ
 shown_text (answer.Shown d) = listed_text d
 shown_text a = []
 
--- where `show` is refused beyond the last number there is no line
+-- the text where `show` is refused: none beyond the last number, else the refusal
 abbrev pub end_text : Refusal → List ℕ
 end_text refusal.BadNumber = []
 end_text why = line_of (refusal_text why)

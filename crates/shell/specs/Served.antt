@@ -1,4 +1,4 @@
--- What a shell writes beside the answers, and how it reads a line.
+-- What a shell writes besides the answers, and how it reads a line.
 use Rattle.std.specs.Prelude.{◌≡◌, ◌≢◌, ◌⊎◌, ◌∷◌, ℕ, Bool, true, false, List, [], codes, map, Option, Result, ⊤}
 use Rattle.std.specs.Io.KnownBytes.{IsAtEnd}
 use Rattle.std.specs.List.{All, Any}
@@ -14,7 +14,7 @@ use Rattle.shell.specs.declared.typed_lines.LineEnd.TheVariants as end
 abbrev pub WritesNote : Written → Written → List ℕ → Type 0
 WritesNote old new text = (wrote : Result (Unit {0}) RunFault) × Writes old new wrote text
 
--- a text for a person was written, if one is there
+-- a text for a person was written, if the flag says that there is one
 abbrev pub Notes : Bool → List ℕ → Written → Written → Type 0
 Notes true text old new = WritesNote old new text
 Notes false text old new = new ≡ old
@@ -22,7 +22,7 @@ Notes false text old new = new ≡ old
 abbrev pub greeting : List ℕ
 greeting = line_of (codes "Type help for the commands, and quit or Control-D to end.")
 
--- what the shell asks where something isn't committed
+-- the question of the shell if something isn't committed
 abbrev pub question : List ℕ
 question = line_of (codes "Some invocations or stores are not saved: type save to keep them, or quit again to lose them.")
 
@@ -38,13 +38,13 @@ IsHelp topics word text = Any (λ t. (t.word.now ≡ word) × (text ≡ t.text.n
 abbrev pub WritesHelp : List Topic → List ℕ → Written → Written → Type 0
 WritesHelp topics word old new = (text : List ℕ) × IsHelp topics word text × WritesNote old new text
 
--- the lines that a read took where it ended there: none at the end of the input
+-- the lines that a read took: one, or none if the input ended
 abbrev pub lines_to : LineEnd → List ℕ → List (List ℕ)
 lines_to end.Newline line = line ∷ []
 lines_to end.Input [] = []
 lines_to end.Input (b ∷ bs) = (b ∷ bs) ∷ []
 
--- nothing is left where the input ended
+-- if the input ended, nothing of it is left
 abbrev pub EndsAt : LineEnd → Option (List ℕ) → Type 0
 EndsAt end.Newline rest = ⊤
 EndsAt end.Input rest = IsAtEnd rest

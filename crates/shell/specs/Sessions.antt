@@ -42,14 +42,14 @@ session_at written shell kernel output = record {
   output = output;
 }
 
--- after these notes
+-- the session with its notes replaced
 abbrev pub noting : {D S : Type 0} → Session D S → Written → Session D S
 noting s notes = record s { notes = notes }
 
 abbrev pub watching : Unsaved → Watch
 watching unsaved = record { unsaved = unsaved; remark = None }
 
--- what is to be said of a line that was answered was noted
+-- the remark on a line was written to the notes, if the line was answered
 abbrev pub Remarks : Result Bool RunFault → Option Remark → Written → Written → Type 0
 Remarks (Ok on) remark old new = NotesRemark remark old new
 Remarks (Err e) remark old new = new ≡ old
@@ -58,21 +58,21 @@ abbrev pub saved_text : Result Answer Refusal → List ℕ
 saved_text (Ok a) = codes "saved"
 saved_text (Err why) = refusal_text why
 
--- once all is committed nothing is unsaved
+-- what isn't committed after a save: nothing, if it succeeded
 abbrev pub unsaved_if : Result Answer Refusal → Unsaved → Unsaved
 unsaved_if (Ok a) before = nothing_unsaved
 unsaved_if (Err why) before = before
 
--- the shell goes on where the answer was written
+-- the shell goes on if the answer was written
 abbrev pub goes_on_if : Result (Unit {0}) RunFault → Result Bool RunFault
 goes_on_if (Ok u) = Ok true
 goes_on_if (Err e) = Err e
 
--- where something isn't committed a shell that prompts asks, unless it just did
+-- whether the shell asks before it ends: it prompts, didn't just ask, and something isn't committed
 abbrev pub is_to_ask : Bool → Unsaved → Bool → Bool
 is_to_ask prompts unsaved asked = (prompts && not asked) && (unsaved.present || unsaved.frozen)
 
--- it asked, and goes on; or it ends
+-- the shell asked and goes on; or it ends
 abbrev pub Quits : Bool → Unsaved → Bool → Bool → Written → Written → Bool → Type 0
 Quits prompts unsaved was_asked is_asked before after on =
     (on ≡ is_to_ask prompts unsaved was_asked) × (is_asked ≡ on) × Notes on question before after
@@ -85,19 +85,19 @@ module _ {D S : Type 0} (disk : D → Disk) (view : S → View D) (parts : S →
       × CarriesOutAll disk view parts old commit_stages next committed × Moves disk view parts committed next new r
       × (after ≡ unsaved_if committed before)
 
-  -- the machine ran the line alone; what is to be said of it was noted
+  -- the machine ran the line alone, and the remark on it was written to the notes
   abbrev pub RunsIn : List ℕ → Session D S → Session D S → Result Bool RunFault → Type 0
   RunsIn line s t r = (seen : Watch)
       × RunsLine disk view parts Watches line s.kernel t.kernel (watching s.unsaved) seen s.output t.output r
       × (t.unsaved ≡ seen.unsaved) × Remarks r seen.remark s.notes t.notes × (t.is_asked ≡ false)
 
-  -- all was saved, or not, and that was answered
+  -- all was saved, or not, and the shell answered which
   abbrev pub SavesIn : Session D S → Session D S → Result Bool RunFault → Type 0
   SavesIn s t r = (saved : Result Answer Refusal) × SavesAll s.kernel t.kernel s.unsaved t.unsaved saved
       × (wrote : Result (Unit {0}) RunFault) × Writes s.output t.output wrote (line_of (saved_text saved)) × (r ≡ goes_on_if wrote)
       × (t.notes ≡ s.notes) × (t.is_asked ≡ false)
 
-  -- what is there was listed
+  -- all objects were listed
   abbrev pub ListsIn : Session D S → Session D S → Result Bool RunFault → Type 0
   ListsIn s t r = (wrote : Result (Unit {0}) RunFault) × Lists disk view parts s.kernel t.kernel s.output t.output wrote
       × (r ≡ goes_on_if wrote) × (t.unsaved ≡ s.unsaved) × (t.notes ≡ s.notes) × (t.is_asked ≡ false)
@@ -118,19 +118,19 @@ module _ {D S : Type 0} (disk : D → Disk) (view : S → View D) (parts : S →
   ServesLine topics prompts line s t r =
       (request : Request) × IsRequest line request × Serves topics prompts request line s t r
 
-  -- it prompted first
+  -- the shell prompted, and then served what the line requests
   abbrev pub StepsBy : List Topic → Bool → List ℕ → Session D S → Session D S → Result Bool RunFault → Type 0
   StepsBy topics prompts line s t r = (prompted : Written) × Notes prompts (codes "eros> ") s.notes prompted
       × ServesLine topics prompts line (noting s prompted) t r
 
-  -- lines were served one after another, and it went on after each
+  -- lines were served one after another, and the shell went on after each
   abbrev pub AreServed : List Topic → Bool → List (List ℕ) → Session D S → Session D S → Type 0
   AreServed topics prompts [] s t = t ≡ s
   AreServed topics prompts (l ∷ ls) s t =
       (next : Session D S) × StepsBy topics prompts l s next (Ok true) × AreServed topics prompts ls next t
 
-  -- How a session ends: by its last line, or with none at the end of the input, or where a read failed. At the end of the
-  -- input the line that a person is on was ended.
+  -- How a session ends: by its last line; or with no more lines, at the end of the input or if a read failed. At the
+  -- end of the input, the line of the prompt was ended.
   abbrev pub Finishes : List Topic → Bool → List (List ℕ) → Option (List (List ℕ)) → Session D S → Session D S →
       Result (Unit {0}) RunFault → Type 0
   Finishes topics prompts [] ahead s t (Ok u) = NoneAhead ahead × (prompted : Written)
@@ -141,14 +141,14 @@ module _ {D S : Type 0} (disk : D → Disk) (view : S → View D) (parts : S →
   Finishes topics prompts (l ∷ []) ahead s t (Err e) = StepsBy topics prompts l s t (Err e)
   Finishes topics prompts (l ∷ k ∷ ls) ahead s t r = ⊥
 
-  -- the lines that were taken of those ahead were served, the last of them as it ended
+  -- lines were taken from those ahead and served, and then the session ended
   abbrev pub HasServed : List Topic → Bool → Option (List (List ℕ)) → Option (List (List ℕ)) → Session D S → Session D S →
       Result (Unit {0}) RunFault → Type 0
   HasServed topics prompts ahead ahead_left s t r = (lines : List (List ℕ)) × (last : List (List ℕ)) × (between : Session D S)
       × Takes ahead ahead_left (lines ++ last) × AreServed topics prompts lines s between
       × Finishes topics prompts last ahead_left between t r
 
-  -- so it was, once what had been written was passed on; or that couldn't be, and no line was taken
+  -- what had been written was passed on, and then lines were served; or that failed, and no line was taken
   abbrev pub ServesFrom : List Topic → Bool → Option (List (List ℕ)) → Option (List (List ℕ)) → Session D S → Session D S →
       Result (Unit {0}) RunFault → Type 0
   ServesFrom topics prompts ahead ahead_left s t r =

@@ -16,14 +16,14 @@ use Rattle.shell.specs.declared.watch.Remark.{Remark}
 use Rattle.shell.specs.declared.watch.Remark.TheVariants as remark
 use Rattle.shell.specs.declared.watch.Watch.{Watch}
 
--- what is said of a turn: why its line is bad, or the result code of its order
+-- the remark on a turn: why its line is bad, or the result code of its order
 abbrev pub IsRemark : Geometry → Turn → Reply → Option Remark → Type 0
 IsRemark g t Nothing said = said ≡ None
 IsRemark g t BadLine said = (why : LineFault) × IsFaultOf t.line why × (said ≡ Some (remark.Fault why))
 IsRemark g t (Reported a) said =
     (c : Command) × Says t.line (line.Command c) × (said ≡ option_map remark.Code (reported_code g t.before c a))
 
--- what is seen of a turn
+-- what a shell sees of a turn: what isn't committed after it, and the remark on it
 abbrev pub Watches : Geometry → Turn → Watch → Watch → Bool → Type 0
 Watches g t old new on = Notes g t old.unsaved new.unsaved on × IsRemark g t t.reply new.remark
 
@@ -31,7 +31,7 @@ abbrev pub remark_text : Remark → List ℕ
 remark_text (remark.Fault why) = spaced (codes "reason:" ∷ line_fault_text why ∷ [])
 remark_text (remark.Code c) = spaced (codes "result:" ∷ code_text c ∷ [])
 
--- a line for a person was written, if there is something to say
+-- the line of a remark was written, if there is one
 abbrev pub NotesRemark : Option Remark → Written → Written → Type 0
 NotesRemark (Some said) old new = WritesNote old new (line_of (remark_text said))
 NotesRemark None old new = new ≡ old

@@ -1,5 +1,4 @@
--- The least free numbers, and numbers that aren't free, found by marks. What is counted, a number at a time. Usages, added up over the
--- numbers.
+-- The least free numbers, and numbers in use, found by marks. The banks' state and the usages, counted number by number.
 use Rattle.space_bank.proofs.Names.{and-false, nat_tests, ℕ, zero, suc, None, Some, Bool, cond, List, [], length, ⊎_elim, refl, sym, ap, subst, zero-add, arith}
 use Rattle.space_bank.proofs.Names.{cases_lt, range_with_len, Geometry, Object, are_free, free_nodes, free_pages, is_free, content_at, MakeProcess, process_at}
 use Rattle.space_bank.proofs.Names.{AreCounted, BanksState, AreMarked, HasNoneMarked, IsNextMarked, is_marked, map, IsTrue, slice_index, slice_set}

@@ -1,4 +1,4 @@
--- Chains of banks, walked from owner to owner. The plan of an order is its effect, and what orders plan may be made.
+-- Chains of banks, walked from owner to owner. The plan of an order has the order's effect, and planned changes may be made.
 use Rattle.space_bank.proofs.Names.{nat_tests, ℕ, suc, Bool, true, false, List, [], length, map, min, nat_eq, refl, sym, ap, subst, arith, IsTrue, nat_le}
 use Rattle.space_bank.proofs.Names.{slice_index, list_all, list_any, eq-eqb, le-leb, lt-leb, ne_eqb, ObjectHeader, Object, chain, chain_within, usage}
 use Rattle.space_bank.proofs.Names.{has_quota, least, left_of, remaining, is_bank, limit_in, content_at, owner_at, Parts, objects_in, length_objects}

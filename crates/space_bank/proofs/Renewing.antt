@@ -1,4 +1,4 @@
--- Counts of allocations, and what is left of what is counted, where objects are freed. A bank that is returned to its parent.
+-- Allocation counts, and the banks' state, where objects are freed. A bank that is returned to its parent.
 use Rattle.space_bank.proofs.Names.{nat_tests, ℕ, Bool, true, false, not, List, sym, ap, arith, Capability, ObjectHeader, Content, Object, with_new, given_up}
 use Rattle.space_bank.proofs.Names.{header_at, is_free, is_member, rescind, content_at, new_used, rescinded_given_up, AreGivenUp, Parts, Renews, objects_in}
 use Rattle.space_bank.proofs.Names.{⊎_elim, cases_lt, zero, suc, [], drop, take, length, refl, subst, IsTrue, slice_index, slice_index_or, All, eq-eqb}

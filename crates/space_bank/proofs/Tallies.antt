@@ -1,5 +1,5 @@
--- What sound frames that are counted say of their objects. What is counted, where objects come, go or are transferred. A walk along a
--- chain, owner by owner.
+-- Sound frames with which the banks' state agrees, also after objects were made, freed or transferred. A walk along a chain, owner by
+-- owner.
 use Rattle.space_bank.proofs.Names.{nat_tests, ℕ, true, false, List, length, refl, sym, ap, arith, IsTrue, slice_index, Cap, Capability, Geometry}
 use Rattle.space_bank.proofs.Names.{Content, Object, chain, usage, has_quota, conveyed, header_at, held_at, AreKeepable, world_at, is_free, limit_in}
 use Rattle.space_bank.proofs.Names.{map_content, role_of, is_member, HasShape, object_count, content_at, IsTree, chain_banks, tree_of, member_passes, IsNow}

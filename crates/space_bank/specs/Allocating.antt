@@ -19,12 +19,12 @@ new_of order.NewProcess args = Some new.Process
 new_of order.NewBank args = Some (new.Bank args.first)
 new_of _ args = None
 
--- how many numbers it takes
+-- how many numbers a new object takes
 abbrev pub count_of : New → ℕ
 count_of new.Process = 2
 count_of _ = 1
 
--- what a bank makes of the first free numbers, if there are enough
+-- the change by which bank b makes a new object at the first free numbers, if there are enough
 abbrev pub new_at : ℕ → Fresh → List ℕ → Option BankChange
 new_at b f [] = None
 new_at b f (n ∷ ns) = Some (bank.Make n f b)
@@ -40,7 +40,7 @@ made_for g os b new.Node = new_at b fresh.Node (free_nodes g os)
 made_for g os b new.Process = process_at b (free_nodes g os)
 made_for g os b (new.Bank limit) = new_at b (fresh.Bank limit) (free_nodes g os)
 
--- its numbers, and the capability to it
+-- the numbers of the objects that a change makes; the capability to them
 abbrev pub numbers_of : BankChange → List ℕ
 numbers_of (bank.Make n f b) = n ∷ []
 numbers_of (bank.MakeProcess r a b) = r ∷ a ∷ []
@@ -57,7 +57,7 @@ given_by (bank.Make n f b) = given_for n f
 given_by (bank.MakeProcess r a b) = Process r
 given_by _ = Void
 
--- whether it is a bank under a chain of 16 banks
+-- whether a new bank would be too deep: the chain of its owner has 16 banks already
 abbrev pub is_deep : List Object → ℕ → New → Bool
 is_deep os b (new.Bank limit) = not (nat_lt (length (chain os b)) 16)
 is_deep os b _ = false

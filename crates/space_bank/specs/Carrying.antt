@@ -1,4 +1,4 @@
--- What the orders of a bank require, and what they leave.
+-- What the orders of a bank require, and what holds after them.
 use Rattle.space_bank.specs.Names.{[], ℕ, Bool, true, false, List, length, IsTrue, Geometry, Object, Arguments}
 use Rattle.space_bank.specs.Names.{BankOrder, chain, usage, has_quota, on_bank, owned_by, AreCurrent, AreKeepable}
 use Rattle.space_bank.specs.Names.{is_bank, is_free, is_member, rescind, content_at, object_at, IsNow, SameFrame}
@@ -21,15 +21,15 @@ pub record IsMade (s t : BanksState) (n : ℕ) : Type 0 where
   pub marks : marks_of t ≡ slice_set (marks_of s) n false
   pub kept : t ≡ record s { free_nodes = t.free_nodes; free_pages = t.free_pages }
 
--- what is counted is what there is, and the frames can be kept at the next age
+-- the state of the banks agrees with the new objects, and their frames can be kept at the next age
 pub record CarriesOut (old new : Parts) (s : BanksState) : Type 0 where
   pub counted : AreCounted old.geometry (objects_in new) s
   pub current : AreCurrent (frames_of new)
   pub keepable : (age : ℕ) → age + 1 < 2 ^ 64 → AreKeepable old.geometry age (frames_of old) →
       AreKeepable old.geometry (age + 1) (frames_of new)
 
--- A list can be freed: it has no number twice, each number has an object, and no bank of the chain of above is in
--- it. A bank outside the list accounted for the whole list if it is in that chain, and for nothing of it if it isn't.
+-- A list can be freed: it has no number twice, each number has an object, and no bank of the chain of `above` is in it.
+-- A bank outside the list counts the whole list in its usage if it is in that chain, else nothing of it.
 pub record MayFree (os : List Object) (above : ℕ) (list : List ℕ) : Type 0 where
   pub once : IsOnce list
   pub used : (n : ℕ) → is_member list n ≡ true → is_free (content_at os n) ≡ false
@@ -37,20 +37,20 @@ pub record MayFree (os : List Object) (above : ℕ) (list : List ℕ) : Type 0 w
   pub lowered : (x : ℕ) → IsTrue (is_bank (content_at os x)) → is_member list x ≡ false →
       usage (rescind list os) x + (if is_member (chain os above) x then length list else 0) ≡ usage os x
 
--- objects that a list names are a bank's, and the others as they were
+-- the listed objects belong to bank b now, and all others are unchanged
 pub record AreTransferred (list : List ℕ) (b : ℕ) (old new : List Object) : Type 0 where
   pub size : length new ≡ length old
   pub each : (n : ℕ) → object_at new n ≡
       (if is_member list n then record { owner = b; content = content_at old n } else object_at old n)
 
--- a new object that is a page, a node, or a bank under a chain that isn't as long as it may be
+-- a new object that is a page, a node, or a bank whose owner's chain has fewer than 16 banks
 abbrev pub IsMadeUnder : List Object → ℕ → Fresh → Type 0
 IsMadeUnder os b (fresh.Bank limit) = length (chain os b) < 16
 IsMadeUnder os b (fresh.Root annex) = ⊥
 IsMadeUnder os b fresh.Annex = ⊥
 IsMadeUnder os b _ = Unit {0}
 
--- what a bank may make: one new object, a process, or the end of objects
+-- when a bank may make its changes: one new object, a process, objects freed, objects moved to its owner
 pub record MakesOne (g : Geometry) (os : List Object) (list : List ℕ) (n : ℕ) (f : Fresh) (b : ℕ) : Type 0 where
   pub listed : list ≡ n ∷ []
   pub bank : IsTrue (is_bank (content_at os b))
@@ -78,7 +78,7 @@ pub record Transfers (os : List Object) (list : List ℕ) (b : ℕ) : Type 0 whe
   pub other : b ≢ 0
   pub listed : list ≡ b ∷ owned_by os b
 
--- a change of a bank may be made, whose order writes the numbers of a list
+-- a change of a bank may be made; its order writes the numbers of the list
 abbrev pub MayMake : Geometry → List Object → List ℕ → BankChange → Type 0
 MayMake g os list (bank.Make n f b) = MakesOne g os list n f b
 MayMake g os list (bank.MakeProcess r a b) = MakesTwo g os list r a b
@@ -98,7 +98,7 @@ pub record PlansAs (g : Geometry) (os : List Object) (b : ℕ) (order : BankOrde
   pub outcome : (us : List Object) → SameFrame os us → on_bank g us b order args ≡ outcome_by us written plan
   pub may : (us : List Object) → SameFrame os us → IsNow g us → IsForBank g us written plan.change
 
--- a plan, and what is listed, after the numbers that the invocation writes itself
+-- the plan of an order, and the list: the numbers that the invocation writes itself, then those of the order
 pub record IsPlanned (p : Parts) (b : ℕ) (order : BankOrder) (args : Arguments) (first : List ℕ) (plan : OrderPlan)
     (list : List ℕ) : Type 0 where
   pub plans : PlansAs p.geometry (objects_in p) b order args (on_bank p.geometry (objects_in p) b order args).written

@@ -1,4 +1,4 @@
--- What is counted, part by part.
+-- The parts of the state of the banks, one by one.
 use Rattle.space_bank.specs.Names.{ℕ, Bool, List, length, map, range_with_len, Capability, Content, Object, Role}
 use Rattle.space_bank.specs.Names.{is_free, limit_in, root_in, content_at, is_marked}
 use Rattle.std.specs.Prelude.{◌≡◌, ◌+◌, ◌<◌}

@@ -10,12 +10,12 @@ abbrev pub annex_of : List Object → Capability → List ℕ
 annex_of os (Process p) = annex_at os p ∷ []
 annex_of os _ = []
 
--- the same, by the annexes of all processes
+-- the same, from a list of the annexes of all processes
 abbrev pub annex_among : List ℕ → Capability → List ℕ
 annex_among annexes (Process p) = slice_index annexes p ∷ []
 annex_among annexes _ = []
 
--- whether a number is listed: all of a bank's if it is deep, itself and what is under it, else what it owns itself
+-- whether n is listed for bank b: if `deep`, the bank and all objects under it are, else those that it owns itself
 abbrev pub is_listed : List Object → ℕ → Bool → ℕ → Bool
 is_listed os b deep n = if deep then (n == b) || is_under os b (object_at os n) else
     not (is_free (content_at os n)) && (owner_at os n == b)
@@ -23,25 +23,25 @@ is_listed os b deep n = if deep then (n == b) || is_under os b (object_at os n) 
 abbrev pub listed_by : List Object → ℕ → Bool → List ℕ
 listed_by os b deep = if deep then under os b else owned_by os b
 
--- a bank has something left to count, below its limit
+-- bank b has a usage and a limit, and its usage is within the limit
 pub record HasLeft (s : BanksState) (b : ℕ) : Type 0 where
   pub usage : b < length s.usages
   pub limit : b < length s.limits
   pub within : slice_index s.usages b ≤ slice_index s.limits b
 
--- what is marked, nodes first, is what is free
+-- the marks, nodes first, say which numbers are free
 pub record AreFree (os : List Object) (nodes pages : List Bool) : Type 0 where
   pub each : length nodes + length pages ≡ length os
   pub free : (n : ℕ) → n < length os → is_marked (nodes ++ pages) n ≡ is_free (content_at os n)
 
--- the least number from a number on that isn't free
+-- n is the least number from `from` on that isn't free
 pub record IsNextUsed (os : List Object) (from n : ℕ) : Type 0 where
   pub past : from ≤ n
   pub inside : n < length os
   pub used : is_free (content_at os n) ≡ false
   pub least : (m : ℕ) → from ≤ m → m < n → is_free (content_at os m) ≡ true
 
--- all are free from a number on
+-- all numbers from `from` on are free
 abbrev pub HasNoneUsed : List Object → ℕ → Type 0
 HasNoneUsed os from = (m : ℕ) → from ≤ m → m < length os → is_free (content_at os m) ≡ true
 
@@ -50,7 +50,7 @@ HasNoneUsed os from = (m : ℕ) → from ≤ m → m < length os → is_free (co
 abbrev pub writers : Operation → ℕ → ℕ → List ℕ
 writers operation p annex = elim operation [ Call ↦ p ∷ annex ∷ [] | Return ↦ p ∷ [] | Send ↦ [] ]
 
--- how many they are
+-- how many numbers these are
 abbrev pub writer_count : Operation → ℕ
 writer_count Call = 2
 writer_count Return = 1

@@ -1,5 +1,4 @@
-//! Space banks: how many objects each accounts for, which numbers are free, and the orders that
-//! allocate and free.
+//! Space banks: the usage of each, which numbers are free, and the orders that allocate and free.
 #![tactic(auto)]
 
 mod allocating;

@@ -1,6 +1,6 @@
 //! Runs a script over an image in memory, whole, or again and again with a device that stops at
-//! each of its calls in turn, and prints what was answered and what a power cut then leaves; and
-//! upgrades or copies an image so. It expects nothing: `checks/stops` and `checks/upgrades` do.
+//! each of its calls in turn, and prints what was answered and what a power cut then leaves. Upgrades
+//! or copies an image in the same way. It expects nothing: `checks/stops` and `checks/upgrades` do.
 #![tactic(auto)]
 
 mod deeds;

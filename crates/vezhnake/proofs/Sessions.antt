@@ -1,4 +1,4 @@
--- Equal bytes are copied out alike.
+-- Equal bytes are copied out in the same way.
 use Rattle.vezhnake.proofs.Names.{ℕ, Bool, List, subst, CopiesOut}
 use Rattle.std.proofs.Common.{◌≡◌}
 

@@ -3,7 +3,7 @@ use Rattle.std.specs.Prelude.{◌≡◌, ℕ, zero, suc, List, [], refl}
 use Rattle.std.specs.Coded.{Coded, code_by, coded×, coded_ℕ, coded_list}
 use Rattle.vezhnake.specs.HostCalls.{HostCall, write, sync, power_cut}
 
--- which call, its number and its bytes
+-- a call as plain data: its kind, its number and its bytes
 abbrev Parts : Type 0
 Parts = ℕ × (ℕ × List ℕ)
 

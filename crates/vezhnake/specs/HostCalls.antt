@@ -18,7 +18,7 @@ pub data HostCall : Type 0 where
 unfoldable pub number_bytes : ℕ → List ℕ
 number_bytes n = to_le_bytes w64 n
 
--- where a write begins, as a byte, and its length
+-- the header of a write: the byte where it begins, and its length
 abbrev pub header_of : ℕ → ℕ → List ℕ
 header_of byte count = number_bytes byte ++ number_bytes count
 

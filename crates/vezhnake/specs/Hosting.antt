@@ -41,13 +41,13 @@ calls_beneath view (power.Up l) = (view l.store).beneath.file.history.calls
 calls_beneath view (power.Down d) = d.file.history.calls
 calls_beneath view power.Between = []
 
--- the number of calls before the ones that are kept
+-- how many calls came before those that are kept for the host
 abbrev pub start_beneath : {S : Type 0} → (S → View HostDevice) → Power HostDevice S → ℕ
 start_beneath view (power.Up l) = (view l.store).beneath.file.pending.start
 start_beneath view (power.Down d) = d.file.pending.start
 start_beneath view power.Between = 0
 
--- a text in memory, for which memory ran out so often
+-- a text in memory, and how often memory for it ran out
 abbrev pub in_memory : List ℕ → ℕ → Written
 in_memory text failures = record { contents = Some text; failures = failures }
 
@@ -55,8 +55,8 @@ module _ {S : Type 0} (view : S → View HostDevice) (parts : S → Parts) where
   abbrev pub disk_beneath : Power HostDevice S → Disk
   disk_beneath p = disk_of host_disk view parts p
 
-  -- Between two kernels there were these turns. The host's storage has carried out the first k calls of the device, at
-  -- least those before the first turn. Then a crash of the storage leaves a saved part of the run.
+  -- These turns lead from one kernel to another. The host's storage has carried out the first k calls of the device, at
+  -- least those before the first turn. Then a crash of the storage leaves a state that the run may save.
   abbrev pub Survives : Geometry → Machine → Power HostDevice S → Power HostDevice S → List Turn → Type 0
   Survives g m old new turns =
       (d : HostDevice) (k : ℕ) (c : Image) → IsDeviceOf host_disk view parts new d →
@@ -64,7 +64,7 @@ module _ {S : Type 0} (view : S → View HostDevice) (parts : S → Parts) where
       StorageLeaves d.sectors d.file.history.first (take k d.file.history.calls) c →
       (s : Saved) × MaySave m turns s × Denotes g (disk_beneath old).sectors c s
 
-  -- the same of every run between them
+  -- the same for every run from one kernel to the other
   abbrev pub RunsSurvive : Power HostDevice S → Power HostDevice S → Type 0
   RunsSurvive old new = (g : Geometry) (m : Machine) (turns : List Turn) → Stands host_disk view parts g old m →
       IsRunOf host_disk view parts g m old new turns → Survives g m old new turns

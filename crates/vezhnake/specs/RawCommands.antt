@@ -1,4 +1,4 @@
--- The command that numbers are.
+-- The command that numbers stand for.
 use Rattle.std.specs.Prelude.{ℕ, Bool, true, Option, None, Some, List, [], ◌∷◌, nat_lt, slice_index, replicate}
 use Rattle.std.specs.Prelude.{◌-◌, ◌^◌}
 use Rattle.std.specs.Prelude.{◌==◌, ◌&&◌, if◌then◌else◌}
@@ -17,14 +17,14 @@ are_registers (r ∷ rs) = nat_lt r 32 && are_registers rs
 abbrev pub registers_of : List ℕ → Option (List ℕ)
 registers_of rs = if are_registers rs then Some rs else None
 
--- an invocation, if its registers are some
+-- an invocation, if all its registers exist
 abbrev pub invocation_of : Operation → RawCommand → Option Command
 invocation_of op r = if are_registers (r.register ∷ r.sent) then
     Some (command.Invoke (record
     { operation = op; process = r.number; register = r.register; words = r.words; sent = r.sent }))
     else None
 
--- the command of each kind
+-- the command of these numbers, by its kind
 abbrev pub command_of : RawCommand → Option Command
 command_of r =
     if r.kind == 0 then invocation_of Call r else
@@ -41,7 +41,7 @@ command_of r =
     if r.kind == 11 then Some command.Restart else
     if r.kind == 12 then Some command.Cut else None
 
--- a command of this kind without registers, of all objects
+-- the numbers of a command of this kind, without registers, for all objects
 abbrev pub stage_of : ℕ → RawCommand
 stage_of kind =
     record { kind = kind; register = 0; sent = replicate 4 0; number = 2 ^ 64 - 1; words = replicate 4 0 }

@@ -25,7 +25,7 @@ abbrev pub raw_registers : Option (List Capability) → List RawCapability
 raw_registers None = void_slots
 raw_registers (Some registers) = map raw_capability registers
 
--- an object of a kind that has nothing but an owner
+-- the numbers of an object of this kind with an owner and nothing else
 abbrev pub plain_object : ℕ → ℕ → RawObject
 plain_object kind owner = record {
   kind = kind;
@@ -58,12 +58,12 @@ object_of d = elim d.object.content [
   | content.Bank limit ↦ record (plain_object 5 d.object.owner) { limit = limit; used = d.used }
 ]
 
--- the words of a page that is shown, and otherwise these
+-- the words of the page that is shown, if one is; else the words `before`
 abbrev pub shown_words : Answer → List ℕ → List ℕ
 shown_words (answer.Shown d) before = elim d.object.content [ content.Page words ↦ words | _ ↦ before ]
 shown_words _ before = before
 
--- the numbers of an object that is shown, and otherwise these
+-- the numbers of the object that is shown, if one is; else the numbers `before`
 abbrev pub shown_object : Answer → RawObject → RawObject
 shown_object (answer.Shown d) before = object_of d
 shown_object _ before = before

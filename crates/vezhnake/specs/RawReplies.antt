@@ -10,7 +10,7 @@ use Rattle.model.specs.declared.answer.Refusal.TheVariants as refusal
 use Rattle.model.specs.declared.order.ResultCode.{ResultCode}
 use Rattle.vezhnake.specs.declared.raw_reply.RawReply.{RawReply}
 
--- which refusal, and the number in it
+-- the number of a refusal, and the number that it has, or 0
 abbrev pub refusal_numbers : Refusal → ℕ × ℕ
 refusal_numbers refusal.Down = (32, 0)
 refusal_numbers refusal.NoProcess = (33, 0)
@@ -27,7 +27,7 @@ refusal_numbers refusal.Fault = (43, 0)
 refusal_numbers refusal.BadNumber = (44, 0)
 refusal_numbers (refusal.NotJournaled why) = (45, unjournaled_number why)
 
--- which answer, and the numbers in it; of a shown object its number and what it is
+-- the number of an answer, and the numbers that it has, or 0; of a shown object these are its number and its role
 abbrev pub answer_numbers : Answer → ℕ × ℕ × ℕ
 answer_numbers answer.Done = (0, 0, 0)
 answer_numbers (answer.Value v) = (1, v, 0)
@@ -40,7 +40,7 @@ answer_numbers (answer.At g age) = (7, g, age)
 answer_numbers (answer.Shown d) = (8, d.number, role_number (role_of d.object.content))
 answer_numbers (answer.Refused why) = ((refusal_numbers why).0, (refusal_numbers why).1, 0)
 
--- a result code, or 2^32 - 1
+-- the number of a result code, or 2^32 - 1 for none
 abbrev pub code_in : Option ResultCode → ℕ
 code_in None = 2 ^ 32 - 1
 code_in (Some code) = code_number code
@@ -54,12 +54,12 @@ reply_of a code = record
 abbrev pub is_refused : RawReply → Bool
 is_refused r = not (nat_lt r.kind 32)
 
--- no object is shown
+-- the answer shows no object
 abbrev pub ShowsNone : Answer → Type 0
 ShowsNone (answer.Shown d) = ⊥
 ShowsNone _ = Unit {0}
 
--- equal numbers are of one answer and one result code
+-- replies with equal numbers have the same answer and result code
 abbrev pub RepliesTellAnswers : Type 0
 RepliesTellAnswers = (a b : Answer) (m n : Option ResultCode) → ShowsNone a → ShowsNone b →
     reply_of a m ≡ reply_of b n → (a ≡ b) × (m ≡ n)

@@ -20,7 +20,7 @@ use Rattle.vezhnake.specs.declared.raw_reply.RawReply.{RawReply}
 use Rattle.vezhnake.specs.Hosting.{HostDevice, RunsSurvive, host_disk}
 use Rattle.vezhnake.specs.RawReplies.{is_refused, reply_of}
 
--- a turn is the line of a command, with this answer and result code; only commands that take memory want it
+-- the turn's line is that of a command, with this answer and result code; memory runs out only if the command takes it
 pub record IsTurnFor (g : Geometry) (t : Turn) (c : Command) (served : Served) : Type 0 where
   pub line : t.line ≡ spelling c
   pub reply : t.reply ≡ Reported served.answer
@@ -36,7 +36,7 @@ abbrev pub IsNumbered : Geometry → Turn → Option Command → RawReply → Ty
 IsNumbered g t (Some c) r = (served : Served) × IsTurnFor g t c served × (r ≡ numbers_of served)
 IsNumbered g t None r = ⊥
 
--- turn by turn
+-- the same of each turn, command and reply
 abbrev pub AreNumbered : Geometry → List Turn → List (Option Command) → List RawReply → Type 0
 AreNumbered g [] [] [] = Unit {0}
 AreNumbered g (t ∷ ts) (c ∷ cs) (r ∷ rs) = IsNumbered g t c r × AreNumbered g ts cs rs
@@ -46,7 +46,7 @@ AreNumbered g _ _ _ = ⊥
 abbrev pub refuses_at : List RawReply → ℕ → Bool
 refuses_at replies k = is_refused (slice_index_or replies k (reply_of answer.Done None))
 
--- Where a batch ends: after its last command, or before the first that is none. If a refusal ends it, then after the
+-- Where a batch ends: after its last command, or before the first that is invalid. If a refusal ends it, then after the
 -- first refusal.
 pub record EndsAt (stops : Bool) (commands : List (Option Command)) (replies : List RawReply) (n : ℕ) : Type 0 where
   pub most : n ≤ length commands

@@ -22,7 +22,7 @@ abbrev pub OpensOn : HostDevice → HostKernel → Type 0
 OpensOn d (store.Plain k) = Opens host_disk (objects.view_of host_disk) (objects.parts_of host_disk) d k
 OpensOn d (store.Bounded k) = Opens host_disk (objects.view_of host_disk) (objects.parts_of host_disk) d k
 
--- the store for a number: without a cache for 0, and otherwise with a cache of this capacity
+-- a number for a cache: 0 for none, else its capacity; then the store for it
 abbrev pub IsCapacity : ℕ → Option ℕ → Type 0
 IsCapacity cache None = cache ≡ 0
 IsCapacity cache (Some capacity) = (capacity ≡ cache) × (8 ≤ capacity) × (capacity ≤ 8192)
@@ -38,7 +38,7 @@ RefusesFrom d status.NoMemory = Unit {0}
 RefusesFrom d status.Failed = (back : HostDevice) × IsWhy (host_disk d) (host_disk back) fault.Failed
 RefusesFrom d _ = ⊥
 
--- a kernel was opened on storage that holds these bytes, or why not
+-- a kernel was opened on storage that holds these bytes; or the status says why not
 abbrev pub OpensKernel : List ℕ → ℕ → Result HostKernel Status → Type 0
 OpensKernel bytes cache (Ok k) = (d : HostDevice) × IsFresh bytes d × OpensOn d k × IsStoreFor cache k
 OpensKernel bytes cache (Err (status.Bad reason)) =
@@ -72,7 +72,7 @@ abbrev pub calls_in : HostKernel → List HostCall
 calls_in (store.Plain k) = calls_beneath (objects.view_of host_disk) k
 calls_in (store.Bounded k) = calls_beneath (objects.view_of host_disk) k
 
--- the number of calls before the ones that are kept
+-- how many calls came before those that are kept
 abbrev pub kept_from : HostKernel → ℕ
 kept_from (store.Plain k) = start_beneath (objects.view_of host_disk) k
 kept_from (store.Bounded k) = start_beneath (objects.view_of host_disk) k
@@ -85,8 +85,8 @@ CopiesOut bytes old new size true =
     (size ≡ length bytes) × (length bytes ≤ length old) × (new ≡ bytes ++ drop (length bytes) old)
 CopiesOut bytes old new size false = (size ≡ length bytes) × (length old < length bytes) × (new ≡ old)
 
--- The lines of a text were served, and their answers are kept and copied out. Without memory for the answers, the lines
--- up to there were.
+-- The lines of a text were served, and their answers are kept and copied out. If memory for the answers runs out, the
+-- lines before that were served.
 abbrev pub StepsSession : Session → Session → List ℕ → List ℕ → List ℕ → ℕ → Status → Type 0
 StepsSession old new text buffer copied size status.Done =
     RunsKernel old.kernel new.kernel text [] new.answer.items (Ok tt) × (new.taken ≡ old.taken)
@@ -106,8 +106,8 @@ CopiesAnswer old new buffer copied size status.SmallBuffer =
     (new ≡ old) × CopiesOut old.answer.items buffer copied size false
 CopiesAnswer old new buffer copied size _ = ⊥
 
--- all calls that the host has not taken are copied out, and are then taken; or none is. They are lost only if there are
--- some, and what is kept doesn't begin with them.
+-- all calls that the host hasn't taken are copied out, and then count as taken; or none is. They are lost only if there
+-- are some, and those that are kept don't begin with them.
 abbrev pub TakesCalls : Session → Session → List ℕ → List ℕ → ℕ → Status → Type 0
 TakesCalls old new buffer copied size status.Done =
     CopiesOut (encoded (drop old.taken (calls_in old.kernel))) buffer copied size true
@@ -120,7 +120,7 @@ TakesCalls old new buffer copied size _ = ⊥
 
 -- ---- handles
 
--- A call does this to the session of a handle. It refuses a handle without one: then nothing changes, neither the
+-- A call does P to the session of a handle. It refuses a handle without one: then nothing changes, neither the
 -- handle nor what `Unchanged` says.
 abbrev pub OnSession : Option Session → Option Session → Status → Type 0 → (Session → Session → Type 0) → Type 0
 OnSession None new result Unchanged P = (result ≡ status.NotOpen) × (new ≡ None) × Unchanged

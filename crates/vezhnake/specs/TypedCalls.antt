@@ -26,7 +26,7 @@ ServesEachOver (store.Bounded old) (store.Bounded new) =
 ServesEachOver (store.Plain old) (store.Bounded new) = λ commands replies. ⊥
 ServesEachOver (store.Bounded old) (store.Plain new) = λ commands replies. ⊥
 
--- or one command
+-- one command was served, over the same kind of kernel
 abbrev pub ServesLineOver : HostKernel → HostKernel → Command → Served → Type 0
 ServesLineOver (store.Plain old) (store.Plain new) = ServesLine (objects.view_of host_disk)
     (objects.parts_of host_disk) old new
@@ -43,7 +43,7 @@ pub record ServesFront (old new : Session) (commands : List (Option Command)) (b
   pub answer : new.answer ≡ old.answer
   pub taken : new.taken ≡ old.taken
 
--- all commands of a batch were served, or those before the first that is none; or there are too few replies
+-- all commands of a batch were served, or those before the first that is invalid; or there are too few replies
 abbrev pub ServesBatch : Session → Session → List RawCommand → List RawReply → List RawReply → ℕ → Status → Type 0
 ServesBatch old new raws before after served status.Done =
     ServesFront old new (map command_of raws) before after served × (served ≡ length raws)
@@ -62,14 +62,14 @@ SavesSession old new before after served status.SmallBuffer =
     (new ≡ old) × (after ≡ before) × (served ≡ 0) × (length before < 5)
 SavesSession old new before after served _ = ⊥
 
--- an object was shown: the numbers of the answer
+-- an object was shown, and `reply` has the numbers of the answer
 pub record ShowsSession (old new : Session) (number : ℕ) (served : Served) (reply : RawReply) : Type 0 where
   pub kernel : ServesLineOver old.kernel new.kernel (command.Show number) served
   pub numbers : reply ≡ numbers_of served
   pub answer : new.answer ≡ old.answer
   pub taken : new.taken ≡ old.taken
 
--- and the words of a page; or its numbers
+-- an object was shown, and `after` has the words of a page; or the numbers of the object
 abbrev pub ShowsPage : Session → Session → ℕ → List ℕ → List ℕ → RawReply → Status → Type 0
 ShowsPage old new number before after reply result = (result ≡ status.Done)
     × (served : Served) × ShowsSession old new number served reply × (after ≡ shown_words served.answer before)

@@ -1,4 +1,4 @@
--- The text of what bytes save, and what is found of them.
+-- The text about the bytes of an image, and what is found about them.
 use Rattle.vezhnake_images.proofs.Names.{ℕ, List, Some, Option, Ok, IsDescription, Description, described_has_text, CanBeSpelled, Explains, ImageFault}
 use Rattle.vezhnake_images.proofs.Names.{IsDescriptionOf, IsReadFrom, Members, ImageDevice, IsOver, image_disk, IsFound, IsTextFor}
 use Rattle.std.proofs.Common.{◌≡◌}

@@ -14,7 +14,7 @@ use Rattle.vezhnake_images.specs.ImageStatuses.{Answered}
 use Rattle.vezhnake_images.specs.declared.image_status.ImageStatus.{ImageStatus}
 use Rattle.vezhnake_images.specs.declared.image_status.ImageStatus.TheVariants as status
 
--- a text is that of a description within the limits of images
+-- the text is that of this description
 abbrev pub IsRead : List ℕ → Description → Type 0
 IsRead text d = (table : Members) × (parse_document text ≡ Some table) × IsDescription table d
 
@@ -24,7 +24,7 @@ RefusesTable table (status.BadDescription fault) = (fault_number fault ≤ 6) ×
 RefusesTable table status.NoMemory = Unit {0}
 RefusesTable table _ = ⊥
 
--- why there is none of a text
+-- why there is no image of a text
 abbrev pub RefusesText : List ℕ → ImageStatus → Type 0
 RefusesText text status.NotToml = (IsUtf8 text → ⊥) ⊎ (parse_document text ≡ None)
 RefusesText text status.NoMemory = Unit {0}
@@ -47,14 +47,14 @@ pub record IsImageOf (text bytes : List ℕ) : Type 0 where
   pub size : length bytes ≡ 512 * (plan_for description).total
   pub bytes_are : AreSectors (image_disk device).seen 0 bytes
 
--- the buffer begins with the image of a text's description; or the image is longer than the buffer, and its length was written
+-- the buffer begins with the image of a text's description; or the image is longer, and its length was written
 abbrev pub PutsImage : List ℕ → List ℕ → List ℕ → ℕ → Bool → Type 0
 PutsImage text old new size true = IsImageOf text (take size new) × (size ≤ length old) × (drop size new ≡ drop size old)
 PutsImage text old new size false =
     ((d : Description) × IsRead text d × IsWithinLimits d × (size ≡ 512 * (plan_for d).total))
     × (length old < size) × (new ≡ old)
 
--- it is; or it is longer; or why there is none
+-- the image is put into the buffer; or is longer than it; or the status says why there is none
 abbrev pub BuildsBytes : List ℕ → List ℕ → List ℕ → ℕ → ℕ → ImageStatus → Type 0
 BuildsBytes text old new size_old size =
     Answered (PutsImage text old new size) (λ refused. RefusesText text refused × (new ≡ old) × (size ≡ size_old))

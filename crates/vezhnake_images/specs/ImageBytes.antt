@@ -12,7 +12,7 @@ use Rattle.vezhnake_images.specs.declared.image_status.ImageStatus.{ImageStatus}
 use Rattle.vezhnake_images.specs.declared.image_status.ImageStatus.TheVariants as status
 use Rattle.vezhnake_images.specs.declared.no_file.NoFile.{NoFile}
 
--- a device in memory, and it as a disk
+-- a device in memory; the same as a disk
 abbrev pub ImageDevice : Type 0
 ImageDevice = CopiedFile NoFile ghosts
 

@@ -32,7 +32,7 @@ image_number status.Failed = 18
 image_number status.NotToml = 20
 image_number (status.BadDescription why) = 20 + fault_number why
 
--- a call did its work, or its buffer is too small: this holds of whether it fits; or why it did nothing
+-- a call did its work, or its buffer is too small: `Fits` says what then holds; or it did nothing: `Refuses` says why
 abbrev pub Answered : (Bool → Type 0) → (ImageStatus → Type 0) → ImageStatus → Type 0
 Answered Fits Refuses status.Done = Fits true
 Answered Fits Refuses status.SmallBuffer = Fits false

@@ -1,4 +1,4 @@
--- The numbers of what an image has.
+-- What an image has, as numbers.
 use Rattle.std.specs.Prelude.{ℕ, ◌-◌, ◌++◌, List, length, map, replicate}
 use Rattle.checkpoint.specs.declared.committed.Checkpoint.{Checkpoint}
 use Rattle.layout.specs.Superblock.{Plan, version_number}
@@ -21,7 +21,7 @@ no_range = record { first = 0; count = 0 }
 abbrev pub raw_ranges : List HomeRange → List RawRange
 raw_ranges ranges = map raw_range ranges ++ replicate (8 - length ranges) no_range
 
--- what the image of a plan has with a checkpoint, and as many objects of each role as a function says
+-- what the image of a plan has with a checkpoint; `count` says how many objects of each role it has
 abbrev pub info_with : Plan → Checkpoint → (Role → ℕ) → RawInfo
 info_with p saved count = record {
   layout = version_number p.version;
@@ -41,7 +41,7 @@ info_with p saved count = record {
   ranges = raw_ranges p.ranges;
 }
 
--- what the image of a plan has that saves this; a process is counted by its root
+-- what the image of a plan has if it saves this; a process is counted by its root
 abbrev pub info_of : Plan → Saved → RawInfo
 info_of p saved = info_with p
     (record { generation = saved.generation; age = saved.world.age; entries = saved.entries })

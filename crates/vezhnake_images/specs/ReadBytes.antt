@@ -16,7 +16,7 @@ use Rattle.vezhnake_images.specs.declared.image_status.ImageStatus.{ImageStatus}
 use Rattle.vezhnake_images.specs.declared.image_status.ImageStatus.TheVariants as status
 use Rattle.vezhnake_images.specs.declared.raw_info.RawInfo.{RawInfo}
 
--- what an image has that these bytes are
+-- what the image with these bytes has
 abbrev pub IsInfoOf : List ℕ → RawInfo → Type 0
 IsInfoOf bytes info = (s : SavedState) × SavesState bytes s × (info ≡ info_of s.plan (saved_of (kept_of s)))
 
@@ -29,17 +29,17 @@ ChecksBytes bytes before after refused = RefusesBytes bytes refused × (after �
 abbrev pub IsTextFor : List ℕ → List ℕ → Type 0
 IsTextFor bytes text = (s : SavedState) × SavesState bytes s × IsTextOf s.plan s.header.age s.frames text
 
--- it is copied out; or is longer than the buffer; or why there is none
+-- the text about an image is copied out; or is longer than the buffer; or the status says why there is none
 abbrev pub DescribesBytes : List ℕ → List ℕ → List ℕ → ℕ → ℕ → ImageStatus → Type 0
 DescribesBytes bytes old new size_old size =
     Answered (λ fits. (text : List ℕ) × IsTextFor bytes text × CopiesOut text old new size fits)
     (λ refused. RefusesBytes bytes refused × (new ≡ old) × (size ≡ size_old))
 
--- this is found of an image: a run opens it, or the fault's reason is the least one to refuse it
+-- what is found about an image: a run opens it, or this fault's reason is the least one to refuse it
 abbrev pub IsFound : List ℕ → Option ImageFault → Type 0
 IsFound bytes found = (d : ImageDevice) × IsOver bytes d × IsExplainedBy (image_disk d).sectors (image_disk d).seen found
 
--- the line about it is copied out; or is longer than the buffer; or why there is none
+-- the line about an image is copied out; or is longer than the buffer; or the status says why there is none
 abbrev pub ExplainsBytes : List ℕ → List ℕ → List ℕ → ℕ → ℕ → ImageStatus → Type 0
 ExplainsBytes bytes old new size_old size =
     Answered (λ fits. (found : Option ImageFault) × IsFound bytes found × CopiesOut (explanation_text found) old new size fits)
@@ -49,13 +49,13 @@ ExplainsBytes bytes old new size_old size =
 abbrev pub IsLineOf : List ℕ → List ℕ → Type 0
 IsLineOf text line = (is_accepted : Bool) × TellsOf text line is_accepted
 
--- why there is none: the text is no UTF-8, or memory ran out
+-- why there is no line about a text: it is no UTF-8, or memory ran out
 abbrev pub RefusesLine : List ℕ → ImageStatus → Type 0
 RefusesLine text status.NotToml = IsUtf8 text → ⊥
 RefusesLine text status.NoMemory = Unit {0}
 RefusesLine text _ = ⊥
 
--- it is copied out; or is longer than the buffer; or why there is none
+-- the line about a text is copied out; or is longer than the buffer; or the status says why there is none
 abbrev pub ExplainsText : List ℕ → List ℕ → List ℕ → ℕ → ℕ → ImageStatus → Type 0
 ExplainsText text old new size_old size =
     Answered (λ fits. (line : List ℕ) × IsLineOf text line × CopiesOut line old new size fits)

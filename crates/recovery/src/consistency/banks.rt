@@ -61,7 +61,7 @@ fn find_unowned<F: Frames>(store: &F) -> Option<Unbanked>
     None
 }
 
-// Which bank accounts for more than its limit, if one does.
+// Which bank's usage is above its limit, if there is such a bank.
 fn find_above_limit<F: Frames>(store: &F, usages: &[u64], limits: &[u64]) -> Option<Unbanked>
     requires usages { length usages.now ≡ length (F.parts store.now).headers }
     requires limits { length limits.now ≡ length (F.parts store.now).headers }
@@ -82,8 +82,8 @@ fn find_above_limit<F: Frames>(store: &F, usages: &[u64], limits: &[u64]) -> Opt
 }
 
 /// The first place where an object isn't owned by a bank, or a chain of at most 16 banks doesn't reach number 0;
-/// or else the first bank that accounts for more than its limit. Nothing where none of this is so. Banks are
-/// fetched one at a time for their limits.
+/// else the first bank whose usage is above its limit; else `None`. Banks are fetched one at a time for their
+/// limits.
 ///
 /// `NoMemory` if memory ran out, and `Fault` exactly if the device failed. No object changes.
 pub fn find_unbanked<F: Frames>(alloc: Global, store: &mut F) -> Result<Option<Unbanked>, Refusal>

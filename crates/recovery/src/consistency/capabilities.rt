@@ -1,4 +1,4 @@
-// Whether each held capability is none, stale, or names what it is for.
+// Whether each held capability names nothing, is stale, or names an object of its role.
 ghost use Rattle.std.specs.Prelude.{◌≡◌, ◌↔◌, ◌<◌, Some, false, [], length, IfOk, IsTrue};
 ghost use Rattle.std.specs.List.{All};
 ghost use Rattle.model.specs.Capability.{named};
@@ -32,7 +32,7 @@ fn role_for(capability: Capability) -> Role
     }
 }
 
-// Whether the object of this number, which a capability names, is what the capability is for.
+// Whether the object with this number, which a capability names, has the capability's role.
 #[inline(always)]
 fn is_for<F: Frames>(
     store: &F,
@@ -50,7 +50,7 @@ fn is_for<F: Frames>(
     has_role(store, number, role_for(capability))
 }
 
-/// Whether the object that a capability names is what the capability is for.
+/// Whether the object that a capability names has the capability's role.
 #[inline(always)]
 pub fn names_its_role<F: Frames>(store: &F, notes: &[Option<Noted>], capability: Capability) -> bool
     requires { AreNoted (frames_of (F.parts store.now)) notes.now }
@@ -62,8 +62,8 @@ pub fn names_its_role<F: Frames>(store: &F, notes: &[Option<Noted>], capability:
     }
 }
 
-/// Whether a held capability has no greater count than its object, and where the counts are the same
-/// names what it is for.
+/// Whether the count of a held capability is at most its object's and, if they are equal, the
+/// object has the capability's role.
 #[inline(always)]
 pub fn is_named<F: Frames>(store: &F, notes: &[Option<Noted>], held: Cap) -> bool
     requires { AreNoted (frames_of (F.parts store.now)) notes.now }
@@ -79,7 +79,7 @@ pub fn is_named<F: Frames>(store: &F, notes: &[Option<Noted>], held: Cap) -> boo
     held.count < current
 }
 
-// The same of each of some capabilities.
+// Whether this holds of all these capabilities.
 #[tactic(auto, using(crate::proofs::Named::named_more))]
 fn are_all_named<F: Frames>(store: &F, notes: &[Option<Noted>], held: &[Cap]) -> bool
     requires { AreNoted (frames_of (F.parts store.now)) notes.now }
@@ -93,7 +93,7 @@ fn are_all_named<F: Frames>(store: &F, notes: &[Option<Noted>], held: &[Cap]) ->
     true
 }
 
-// The same of each capability that an object holds, which is fetched.
+// Whether this holds of each capability of an object, which is fetched.
 #[tactic(auto, using(crate::proofs::Named::held_named, crate::proofs::Tables::content_read))]
 fn holds_named<F: Frames>(store: &F, notes: &[Option<Noted>], number: u64) -> bool
     requires fetched { F.IsFetched store.now number }
@@ -121,7 +121,7 @@ fn may_hold<F: Frames>(store: &F, number: u64) -> bool
     )
 }
 
-// The same of each capability that an object holds. It is fetched if it may hold some.
+// Whether this holds of each capability of an object, which is fetched if it may hold some.
 fn has_named<F: Frames>(
     store: &mut F,
     notes: &[Option<Noted>],
@@ -141,8 +141,8 @@ fn has_named<F: Frames>(
     Ok(holds_named(store, notes, number))
 }
 
-/// Whether each capability that an object holds has no greater count than the object that it names,
-/// and where the counts are the same names what it is for. Objects are fetched one at a time.
+/// Whether each held capability has a count of at most its object's and, if they are equal, its
+/// object has the capability's role. Objects are fetched one at a time.
 pub(crate) fn are_named<F: Frames>(store: &mut F, notes: &[Option<Noted>]) -> Result<bool, Refusal>
     requires may { MayFetch F.IsUsable F.parts store.old }
     requires notes { AreNoted (frames_of (F.parts store.old)) notes.now }

@@ -57,7 +57,7 @@ fn read_note<F: Frames>(store: &mut F, number: u64) -> Result<Option<Noted>, Ref
     Ok(note_there(store, number))
 }
 
-/// Notes of all objects by number, nothing of what is no root. Each root is fetched, one at a time.
+/// The notes of all roots, by number, and `None` for other objects. Each root is fetched, one at a time.
 #[tactic(auto, using(capability::proofs::FrameLists::length_in, crate::proofs::Notes::noted_whole))]
 pub fn read_notes<F: Frames>(alloc: Global, store: &mut F) -> Result<Vec<Option<Noted>>, Refusal>
     requires may { MayFetch F.IsUsable F.parts store.old }
@@ -90,7 +90,7 @@ pub fn is_annex_for<F: Frames>(store: &F, root: u64, annex: u64) -> bool
     has_role(store, annex, Role::Annex) && owner(store, annex) == owner(store, root)
 }
 
-// Takes the annex of a root, where it is one for it and no other root took it.
+// Takes the annex of a root, if it is one for this root and no other root took it.
 #[tactic(auto, using(crate::proofs::Tables::annex_known))]
 fn take_annex<F: Frames>(store: &F, taken: &mut [bool], root: u64, annex: u64) -> bool
     requires { length taken.old ≡ length (F.parts store.now).headers }
@@ -109,7 +109,7 @@ fn take_annex<F: Frames>(store: &F, taken: &mut [bool], root: u64, annex: u64) -
     true
 }
 
-// Takes the annexes of all roots, from none. Whether each is one for its root and is taken once.
+// Takes the annexes of all roots, where none was taken. Returns whether each is one for its root and is taken once.
 #[tactic(auto, using(capability::proofs::FrameLists::length_in))]
 fn take_annexes<F: Frames>(store: &F, notes: &[Option<Noted>], taken: &mut [bool]) -> bool
     requires size { length taken.old ≡ length (F.parts store.now).headers }

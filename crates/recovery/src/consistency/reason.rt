@@ -9,6 +9,6 @@ pub enum Unbanked {
     Owner { object: u64, owner: u64 },
     /// The chain of this bank, of at most 16 banks, doesn't reach number 0.
     Chain(u64),
-    /// A bank accounts for more objects than its limit.
+    /// The usage of a bank is above its limit.
     Limit { bank: u64, used: u64, limit: u64 },
 }

@@ -6,7 +6,7 @@ ghost use Rattle.capability.specs.Consistency.{owner_of, role_at};
 use capability::Frames;
 use model::Role;
 
-/// Whether an object has a role. What is no number is free.
+/// Whether an object has a role. A number that doesn't exist counts as free.
 #[tactic(auto, using(crate::proofs::Tables::header_read))]
 pub fn has_role<F: Frames>(store: &F, number: u64, role: Role) -> bool
     ensures { IsTrue result ↔ (role_at (frames_of (F.parts store.now)) number ≡ role) }
