@@ -1,13 +1,13 @@
 -- Places in a block.
 use Rattle.layout.proofs.Names.{ℕ, List, length, take, drop, inl, inr, sym, ap, refl, arith, true, false, nat_lt, nat_tests, drop_at, take_at, length-append}
 use Rattle.layout.proofs.Names.{length-replicate, length-take-le, length-drop, take-append-drop, take-append-le, drop-append-le, between, between_is}
-use Rattle.layout.proofs.Names.{drop-put_mid, drop-drop, drop-take, take-take, take-put_mid_below, append-nil, take_all, take_rest, append_assoc, take-replicate, drop-replicate}
-use Rattle.layout.proofs.Names.{Frame, Geometry, ObjectHeader, Shape, Image, replicate, replicate-append-replicate, zeros, front_bytes, slots_bytes, slots_of}
-use Rattle.layout.proofs.Names.{node_frame_bytes, page_frame_bytes, frame_bytes, frame_length, shape_bytes, shape_end, page_shape, AreBeside, IsBlankFrom, IsShapeFor}
-use Rattle.layout.proofs.Names.{number, words_bytes, page_words, IsFrameOf, BadImage, [], cases_lt, frame_from, HasZerosBeside, header_from, sectors_from, shaped_at, IsHeaderAt, Result, OnOk, subst}
+use Rattle.layout.proofs.Names.{drop-put_mid, drop-drop, drop-take, take-take, take-put_mid_below, append-nil, take_all, take_rest, append_assoc}
+use Rattle.layout.proofs.Names.{take-replicate, drop-replicate, Frame, Geometry, ObjectHeader, Shape, Image, replicate, replicate-append-replicate, zeros}
+use Rattle.layout.proofs.Names.{front_bytes, slots_bytes, slots_of, node_frame_bytes, page_frame_bytes, frame_bytes, frame_length, shape_bytes, shape_end}
+use Rattle.layout.proofs.Names.{page_shape, AreBeside, IsBlankFrom, IsShapeFor, number, words_bytes, page_words, IsFrameOf, BadImage, [], cases_lt, frame_from}
+use Rattle.layout.proofs.Names.{HasZerosBeside, header_from, sectors_from, shaped_at, IsHeaderAt, Result, OnOk, subst, IfOk, IfErr, BadFrame}
 use Rattle.std.proofs.Common.{◌≡◌, ◌+◌, ◌-◌, ◌*◌, ◌<◌, ◌≤◌, ◌++◌, ◌∙◌, ◌∷◌}
-use Rattle.std.specs.Prelude.{if◌then◌else◌, IfOk, IfErr}
-use Rattle.layout.specs.declared.bad_image.BadImage.TheVariants.{BadFrame}
+use Rattle.std.specs.Prelude.{if◌then◌else◌}
 use borrow.Rule.Slice.PartMut.{put_mid}
 use Rattle.layout.proofs.FrameReaders.{header_before, header_is}
 use Rattle.layout.proofs.Frames.{drop_zeros, mid_put}

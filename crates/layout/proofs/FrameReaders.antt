@@ -1,10 +1,10 @@
 -- Bytes that encode a frame are read as that frame.
 use Rattle.layout.proofs.Names.{nat_tests, [], ℕ, Bool, List, length, take, drop, refl, sym, ap, subst, append_assoc, inl, inr, arith, cases_lt, lt-ltb, le-ltb}
-use Rattle.layout.proofs.Names.{drop_at, take-append-le, drop-append-le, length-drop, All-head, All-tail, All, little_number, little_from-take, Cap}
-use Rattle.layout.proofs.Names.{Frame, ObjectHeader, Geometry, Content, Role, IsKeptCap, role_of, role_number, number, number_from, zeros, capability_bytes}
+use Rattle.layout.proofs.Names.{drop_at, take-append-le, drop-append-le, length-drop, All-head, All-tail, All, little_number, little_from-take, Cap, Frame}
+use Rattle.layout.proofs.Names.{ObjectHeader, Geometry, Content, Role, IsKeptCap, role_of, role_number, number, number_from, zeros, capability_bytes}
 use Rattle.layout.proofs.Names.{head_number, number_of, front_numbers, slots_of, slots_bytes, words_bytes, page_words, role_in, body_in, page_body_in}
-use Rattle.layout.proofs.Names.{content_of, IsNodeFrame, IsPageFrame, node_frame_bytes, page_frame_bytes, IsFront, IsFrameOf, cap_with, cap_from}
-use Rattle.layout.proofs.Names.{slots_from, words_from, header_from, node_from, page_from, frame_from}
+use Rattle.layout.proofs.Names.{content_of, IsNodeFrame, IsPageFrame, node_frame_bytes, page_frame_bytes, IsFront, IsFrameOf, cap_with, cap_from, slots_from}
+use Rattle.layout.proofs.Names.{words_from, header_from, node_from, page_from, frame_from}
 use Rattle.std.proofs.Common.{◌≡◌, ◌+◌, ◌^◌, ◌<◌, ◌≤◌, ◌∷◌, ◌++◌, ◌∙◌}
 use Rattle.std.specs.Prelude.{if◌then◌else◌, nat_lt}
 use Rattle.layout.proofs.Capabilities.{as_numbers, follows_fits, head_below, made_again, same_cap}

@@ -20,3 +20,13 @@ pub mod Denoted
 pub mod Shapes
 pub mod Blocks
 mod Runs
+pub mod GateCopies
+pub mod NumberedGates
+pub mod SealedSectors
+pub mod SealedHeaders
+pub mod SealedEntries
+pub mod SealedClusters
+pub mod SealedSpelling
+pub mod SealedSuperblocks
+pub mod Roots
+pub mod SealedZeros

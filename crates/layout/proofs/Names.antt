@@ -20,17 +20,27 @@ pub use Rattle.model.specs.declared.object.ContentRef.{ContentRef}
 pub use Rattle.model.specs.declared.object.Role.{Role}
 pub use Rattle.model.specs.declared.object.Root.{Root}
 pub use Rattle.model.specs.declared.object.State.{State}
+pub use Rattle.seal.proofs.Bursts.{are_bytes, few_differ, same_byte}
+pub use Rattle.seal.proofs.Damaged.{bursts_break, row_words, zeros_sealed}
+pub use Rattle.seal.proofs.Runs.{turned_round}
+pub use Rattle.seal.proofs.Spelled.{length_sums, one_spelling, zero_bytes}
+pub use Rattle.seal.proofs.Weights.{same_sums}
+pub use Rattle.seal.specs.Damage.{DifferInBurst, IsRow, differences}
+pub use Rattle.seal.specs.Seal.{IsSealed, body_of, seal_of}
+unfoldable pub use Rattle.seal.specs.Sums.{sums_bytes, sums_of}
+pub use Rattle.seal.specs.declared.sums.Sums.{Sums}
 pub use Rattle.std.proofs.Common.{Bool, Bor, List, None, Result, Some, [], ap, append_assoc, arith, cond, drop, false, get_or, inl, inr, length, nat_lt, refl}
 pub use Rattle.std.proofs.Common.{rules, set, subst, suc, sym, take, true, zero, ℕ, ⊎_elim}
-pub use Rattle.std.proofs.Math.Seq.{take-add}
+pub use Rattle.std.proofs.Math.Nat.{add-mul, mul-add, mul_assoc, mul_comm, pow-suc}
+pub use Rattle.std.proofs.Math.Seq.{drop-cons, take-add}
 pub use Rattle.std.proofs.lemmas.Bool.{cases_eq, cases_lt, eq-eqb, false≢true, le-ltb, lt-ltb, ne_eqb}
 pub use Rattle.std.proofs.lemmas.Bool.Decides.{nat_tests}
 pub use Rattle.std.proofs.lemmas.Grind.{common_steps}
 pub use Rattle.std.proofs.lemmas.List.{append-nil, drop-append-le, drop-drop, drop-replicate, drop-take, drop_all, drop_at, drop_more, get_or-append-add}
 pub use Rattle.std.proofs.lemmas.List.{get_or-append_right, get_or-drop, get_or-map, get_or-replicate, get_or-take, get_or_append_left, get_or_default}
 pub use Rattle.std.proofs.lemmas.List.{get_or_past, length-append, length-drop, length-map, length-replicate, length-set, length-take, length-take-le}
-pub use Rattle.std.proofs.lemmas.List.{replicate-append-replicate, same_lists, take-append-drop, take-append-le, take-replicate, take_all, take_at, take_more}
-pub use Rattle.std.proofs.lemmas.List.{take-take, take_more_set, take_rest}
+pub use Rattle.std.proofs.lemmas.List.{replicate-append-replicate, same_lists, take-append-drop, take-append-le, take-replicate, take-take, take_all, take_at}
+pub use Rattle.std.proofs.lemmas.List.{take_more, take_more_set, take_rest}
 pub use Rattle.std.proofs.lemmas.List.Concat.{flat_map-append}
 pub use Rattle.std.proofs.lemmas.List.Elements.{All-append, All-cons, All-from_recursion, All-head, All-map, All-nil, All-push, All-replicate, All-same}
 pub use Rattle.std.proofs.lemmas.List.Elements.{All-tail, All-weaker}
@@ -42,7 +52,7 @@ pub use Rattle.std.proofs.lemmas.Slice.{between_is, drop-put_mid, take-put_mid, 
 pub use Rattle.std.proofs.lemmas.Slice.Eq.{slice_eq-Decides}
 pub use Rattle.std.specs.Int.{from_le_bytes, w32, w64}
 pub use Rattle.std.specs.List.{All, between, flat_map}
-pub use Rattle.std.specs.Prelude.{IfNone, IfSome, IsTrue, OnOk, Option, bit_or, codes, map, nat_eq, replicate}
+pub use Rattle.std.specs.Prelude.{IfErr, IfNone, IfOk, IfSome, IsTrue, OnOk, Option, bit_or, codes, map, nat_eq, replicate}
 unfoldable pub use Rattle.layout.specs.Bytes.{half_number, number, number_from, short_number, zeros}
 pub use Rattle.layout.specs.Capability.{HeadFits, assembled, head_number, height_of, key_of, number_of}
 unfoldable pub use Rattle.layout.specs.Capability.{capability_bytes, head_bytes}
@@ -68,6 +78,7 @@ unfoldable pub use Rattle.layout.specs.Spelt.{frames_read}
 pub use Rattle.layout.specs.Superblock.{AreApart, Cover, HasMark, IsApart, IsInside, IsNext, IsPlan, IsWithin, Plan, RangeFits, extent_at, extents, half_extent}
 pub use Rattle.layout.specs.Superblock.{half_start, plan_of, range_bytes, range_extent, unused, version_number}
 unfoldable pub use Rattle.layout.specs.Superblock.{ranges_bytes, superblock_bytes}
+pub use Rattle.layout.specs.Version.{row}
 pub use Rattle.layout.specs.declared.bad_image.BadImage.{BadImage}
 pub use Rattle.layout.specs.declared.bad_image.BadImage.TheVariants.{BadFrame}
 pub use Rattle.layout.specs.declared.body.Body.{Body}
@@ -79,6 +90,27 @@ pub use Rattle.layout.specs.declared.gate.Gate.TheVariants.{Closed, Open}
 pub use Rattle.layout.specs.declared.half.Half.{Half}
 pub use Rattle.layout.specs.declared.half.Half.TheVariants.{First, Second}
 pub use Rattle.layout.specs.declared.header.CheckpointHeader.{CheckpointHeader}
+pub use Rattle.layout.specs.declared.sealed.header.SealedHeader.{SealedHeader}
+pub use Rattle.layout.specs.declared.sealed.page.PageHeader.{PageHeader}
+pub use Rattle.layout.specs.declared.sealed.superblock.SuperblockRow.{SuperblockRow}
 pub use Rattle.layout.specs.declared.shape.Shape.{Shape}
 pub use Rattle.layout.specs.declared.version.Version.{Version}
-pub use Rattle.layout.specs.Version.{row}
+pub use Rattle.layout.specs.sealed.Cluster.{IsCluster}
+pub use Rattle.layout.specs.sealed.Directory.{entry_numbers}
+unfoldable pub use Rattle.layout.specs.sealed.Directory.{entries_bytes}
+pub use Rattle.layout.specs.sealed.Gate.{HasNumber, copies}
+unfoldable pub use Rattle.layout.specs.sealed.Gate.{gate_numbers, numbered_gate_bytes}
+pub use Rattle.layout.specs.sealed.GateLaws.{BurstsKeepNumbers, ClosedGatesHaveNone, GatesHaveOneNumber, IsWhole, WrittenGatesHaveTheirNumber}
+pub use Rattle.layout.specs.sealed.Header.{header_numbers, sealed_header_from}
+unfoldable pub use Rattle.layout.specs.sealed.Header.{sealed_header_bytes}
+pub use Rattle.layout.specs.sealed.Laws.{ClustersShowBursts, SectorsShowBursts, SpellOnePageHeader, SpellOneSealedHeader, SpellOneSealedSuperblock}
+pub use Rattle.layout.specs.sealed.Laws.{SpellOneSector, ZerosAreFree}
+pub use Rattle.layout.specs.sealed.Page.{HasWords, IsPage, IsPageHeader, never_used, page_header_from, page_header_numbers}
+unfoldable pub use Rattle.layout.specs.sealed.Page.{page_header_bytes}
+pub use Rattle.layout.specs.sealed.Root.{Unit, seals_total, units_total, weighed}
+unfoldable pub use Rattle.layout.specs.sealed.Root.{directory_sums, root_of}
+pub use Rattle.layout.specs.sealed.RootLaws.{OneOldSectorIsSeen, OneOldUnitIsSeen, UnitsHaveNoOrder, unit_of}
+pub use Rattle.layout.specs.sealed.Sector.{AreWords}
+unfoldable pub use Rattle.layout.specs.sealed.Sector.{sector_bytes, with_seal}
+pub use Rattle.layout.specs.sealed.Superblock.{range_numbers, row_from, superblock_numbers}
+unfoldable pub use Rattle.layout.specs.sealed.Superblock.{sealed_superblock_bytes}

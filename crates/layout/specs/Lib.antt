@@ -19,3 +19,4 @@ pub mod Calls
 pub mod Fault
 pub mod Frames
 pub mod Reason
+pub mod sealed

@@ -22,6 +22,9 @@ pub use Rattle.model.specs.declared.object.Role.{Role}
 pub use Rattle.model.specs.declared.object.Root.{Root}
 pub use Rattle.model.specs.declared.object.State.{State}
 pub use Rattle.model.specs.declared.object.State.TheVariants.{Available, Running, Waiting}
+pub use Rattle.seal.specs.Sums.{Fit}
+unfoldable pub use Rattle.seal.specs.Sums.{sums_bytes, sums_of}
+pub use Rattle.seal.specs.declared.sums.Sums.{Sums}
 pub use Rattle.std.specs.List.{All, between, flat_map, range_with_len}
 pub use Rattle.std.specs.Prelude.{Bool, IsTrue, List, None, Option, Some, [], codes, drop, length, map, nat_le, nat_lt}
-pub use Rattle.std.specs.Prelude.{replicate, slice_index_or, suc, take, zero, ℕ, ⊤}
+pub use Rattle.std.specs.Prelude.{replicate, slice_index, slice_index_or, suc, take, zero, ℕ, ⊤}

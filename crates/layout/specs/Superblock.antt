@@ -120,10 +120,10 @@ pub record IsPlan (p : Plan) : Type 0 where
   pub apart : AreApart (extents p)
 
 -- why a sector is refused as a superblock
-abbrev pub IsRefused : List ℕ → BadImage → Type 0
-IsRefused bytes NotASuperblock = HasMark bytes → ⊥
-IsRefused bytes BadGeometry = HasMark bytes × ((p : Plan) → IsPlan p → bytes ≡ superblock_bytes p → ⊥)
-IsRefused bytes _ = ⊥
+abbrev pub IsPlanRefused : List ℕ → BadImage → Type 0
+IsPlanRefused bytes NotASuperblock = HasMark bytes → ⊥
+IsPlanRefused bytes BadGeometry = HasMark bytes × ((p : Plan) → IsPlan p → bytes ≡ superblock_bytes p → ⊥)
+IsPlanRefused bytes _ = ⊥
 
 -- the numbers of a range fit their bytes
 abbrev pub RangeFits : HomeRange → Type 0

@@ -21,6 +21,7 @@ mod laws;
 mod node_frame;
 mod open_fault;
 mod page_frame;
+mod sealed;
 mod shape;
 mod slots;
 mod superblock;
@@ -43,6 +44,14 @@ pub use laws::{denote_one_state, spell_one_value, what_is_spelt_is_read};
 pub use node_frame::NODE_FRAME_BYTES;
 pub use open_fault::OpenFault;
 pub use page_frame::{PAGE_FRAME_BYTES, encode_page};
+pub use sealed::{
+    PageHeader, SECTOR_ENTRIES, SealedHeader, SuperblockRow, add_sector, add_unit, damage_is_seen,
+    decode_entries, decode_numbered_gate, decode_page, decode_page_header, decode_sealed_header,
+    decode_sealed_superblock, encode_entries, encode_numbered_gate, encode_page_header,
+    encode_sealed_header, encode_sealed_superblock, gates_are_majorities, is_cluster,
+    is_within_limits, one_old_block_is_seen, remove_unit, seal_cluster, seal_page,
+    spell_one_sealed_value,
+};
 pub use shape::Shape;
 pub use superblock::{
     MAX_NODES, MAX_PAGES, MAX_RANGES, MIN_LOG, MIN_NODES, Superblock, decode_superblock,

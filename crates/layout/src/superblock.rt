@@ -6,7 +6,7 @@ ghost use Rattle.layout.specs.Bytes.{half_number};
 ghost use Rattle.layout.specs.Homes.{range_with, rank_in, shape_of};
 ghost use Rattle.layout.specs.Shape.{IsShapeFor};
 ghost use Rattle.layout.specs.Superblock.{Plan, version_number, superblock_bytes, ranges_bytes, unused, HasMark};
-ghost use Rattle.layout.specs.Superblock.{IsGeometry, IsNext, Cover, extents, IsPlan, IsRefused, RangeFits, plan_of};
+ghost use Rattle.layout.specs.Superblock.{IsGeometry, IsNext, Cover, extents, IsPlan, IsPlanRefused, RangeFits, plan_of};
 ghost use Rattle.layout.specs.Superblock.{half_start};
 ghost use Rattle.layout.specs.Version.{row};
 
@@ -392,7 +392,7 @@ pub fn decode_superblock(bytes: &[u8]) -> Result<Superblock, BadImage>
     requires { length bytes.now ≡ 512 }
     ensures found { IfOk result (λ s. bytes.now ≡ superblock_bytes s) }
     ensures fits { IfOk result (λ s. IsPlan s) }
-    ensures refused { IfErr result (λ e. IsRefused bytes.now e) }
+    ensures refused { IfErr result (λ e. IsPlanRefused bytes.now e) }
 {
     match version_in(bytes) {
         Some(version) => match read_plan(version, bytes) {

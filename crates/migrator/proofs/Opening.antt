@@ -12,7 +12,7 @@ use Rattle.migrator.proofs.Names.{total_reported, HasNoPlan, IsUnplanned, take, 
 use Rattle.migrator.proofs.Names.{OpensDurable, OnlyReads, first_books}
 use Rattle.std.specs.Prelude.{map}
 use Rattle.std.proofs.Common.{◌≡◌, ◌+◌, ◌<◌, ◌∷◌, ◌++◌, ◌∙◌, ◌≤◌}
-use Rattle.layout.specs.Superblock.{IsRefused as IsPlanRefused}
+use Rattle.layout.specs.Superblock.{IsPlanRefused}
 use Rattle.migrator.proofs.Putting.{put_is}
 use Rattle.migrator.proofs.Kept.{GoesOnSeen, goes_seen, holds}
 use Rattle.migrator.proofs.PlacesApart.{reads_mended}

@@ -8,10 +8,10 @@ use Rattle.device.proofs.Images.{agrees_is}
 use Rattle.device.proofs.Moments.{CountsNow, ends, leaves_on, leaves_weaker}
 use Rattle.header_slots.specs.Closing.{ClosesGateOf, TearsGateOf}
 use Rattle.header_slots.specs.Slots.{Opens, Slots}
-use Rattle.sealed_layout.specs.declared.header.SealedHeader.{SealedHeader}
-use Rattle.sealed_layout.specs.Gate.{HasNumber, gate_bytes}
-use Rattle.sealed_layout.specs.Header.{header_bytes}
-use Rattle.sealed_layout.proofs.Gates.{closed_has_none}
+use Rattle.layout.specs.declared.sealed.header.SealedHeader.{SealedHeader}
+use Rattle.layout.specs.sealed.Gate.{HasNumber, numbered_gate_bytes}
+use Rattle.layout.specs.sealed.Header.{sealed_header_bytes}
+use Rattle.layout.proofs.NumberedGates.{closed_has_none}
 use Rattle.sealed_log.specs.declared.closing.Order.{Order}
 use Rattle.sealed_log.specs.Closing.{AreClosed, CommitsNone, IsOrder, IsOrderOf, KeepsOrHasNone, WasKeptOrHasNone}
 use Rattle.sealed_log.specs.Opening.{Commits, gate_sector, header_sector}
@@ -34,18 +34,18 @@ no_number : (it : Option ℕ) → ((n : ℕ) → it ≡ Some n → ⊥) → it �
 no_number None none = refl
 no_number (Some n) none = absurd (none n refl)
 
-closed_gate : (j : ℕ) (c : Image) → c (gate_sector j) ≡ gate_bytes 0 → (slots_in c j).gate ≡ None
+closed_gate : (j : ℕ) (c : Image) → c (gate_sector j) ≡ numbered_gate_bytes 0 → (slots_in c j).gate ≡ None
 closed_gate j c zero_there =
     no_number (slots_in c j).gate
     (λ n is. closed_has_none n (subst (λ (row : List ℕ). HasNumber row n) zero_there (((are_slots c).gate j n).0 is)))
 
-closes : (j : ℕ) (d c : Image) → Elsewhere (gate_sector j) 1 d c → c (gate_sector j) ≡ gate_bytes 0 →
+closes : (j : ℕ) (d c : Image) → Elsewhere (gate_sector j) 1 d c → c (gate_sector j) ≡ numbered_gate_bytes 0 →
     ClosesGateOf j (slots_in d) (slots_in c)
 closes j d c torn zero_there = record { torn = tears j d c torn; closed = closed_gate j c zero_there }
 
 -- ---- the image while one gate after another is closed
 
-pub commits_by : (c : Image) (h : SealedHeader) → Opens (slots_in c) h.header.sequence (header_bytes h) → (d : Image) → Commits d h →
+pub commits_by : (c : Image) (h : SealedHeader) → Opens (slots_in c) h.header.sequence (sealed_header_bytes h) → (d : Image) → Commits d h →
     Commits c h
 commits_by c h opens d is = record { slots = slots_in c; are = are_slots c; opens = opens; fits = is.fits }
 
@@ -60,12 +60,12 @@ module _ (image : Image) (o : Order) (ordered : IsOrderOf image o) where
   first_keeps c torn = record {
     elsewhere = spared o.first order.first_low image c torn;
     committed = λ h is.
-        commits_by image h (first_opens (slots_in image) o order (slots_in c) h.header.sequence (header_bytes h)
+        commits_by image h (first_opens (slots_in image) o order (slots_in c) h.header.sequence (sealed_header_bytes h)
         (tears o.first image c torn) (opens_in c h is))
         c is;
   }
 
-  module _ (one : Image) (first : Elsewhere (gate_sector o.first) 1 image one) (first_closed : one (gate_sector o.first) ≡ gate_bytes 0)
+  module _ (one : Image) (first : Elsewhere (gate_sector o.first) 1 image one) (first_closed : one (gate_sector o.first) ≡ numbered_gate_bytes 0)
     where
       closes_first : ClosesGateOf o.first (slots_in image) (slots_in one)
       closes_first = closes o.first image one first first_closed
@@ -74,13 +74,13 @@ module _ (image : Image) (o : Order) (ordered : IsOrderOf image o) where
       second_keeps c torn = record {
         elsewhere = λ i other. spared o.second order.second_low one c torn i other ∙ spared o.first order.first_low image one first i other;
         committed = λ h is.
-            commits_by image h (second_opens (slots_in image) o order (slots_in one) (slots_in c) h.header.sequence (header_bytes h)
+            commits_by image h (second_opens (slots_in image) o order (slots_in one) (slots_in c) h.header.sequence (sealed_header_bytes h)
             closes_first
             (tears o.second one c torn) (opens_in c h is)) c is;
       }
 
       module _ (two : Image) (second : Elsewhere (gate_sector o.second) 1 one two)
-          (second_closed : two (gate_sector o.second) ≡ gate_bytes 0)
+          (second_closed : two (gate_sector o.second) ≡ numbered_gate_bytes 0)
         where
           closes_second : ClosesGateOf o.second (slots_in one) (slots_in two)
           closes_second = closes o.second one two second second_closed
@@ -96,7 +96,7 @@ module _ (image : Image) (o : Order) (ordered : IsOrderOf image o) where
                 (tears o.third two c torn) (opens_in c h is).committed);
           }
 
-          pub all_closed : (c : Image) → Elsewhere (gate_sector o.third) 1 two c → c (gate_sector o.third) ≡ gate_bytes 0 → AreClosed c
+          pub all_closed : (c : Image) → Elsewhere (gate_sector o.third) 1 two c → c (gate_sector o.third) ≡ numbered_gate_bytes 0 → AreClosed c
           all_closed c third third_closed = λ k low.
               elim (cases_eq k o.first) [
                 | inl e ↦

@@ -12,11 +12,11 @@ use Rattle.device.proofs.Moments.{leaves_on, leaves_weaker}
 use Rattle.header_slots.specs.Publish.{OthersStay, TearsGate, TearsHeader}
 use Rattle.header_slots.specs.Slots.{Opens}
 use Rattle.header_slots.proofs.Publishing.{gate_commits, header_commits_nothing, published_commits}
-use Rattle.sealed_layout.specs.declared.header.SealedHeader.{SealedHeader}
-use Rattle.sealed_layout.specs.Gate.{HasNumber, gate_bytes}
-use Rattle.sealed_layout.specs.Header.{header_bytes, header_numbers}
-use Rattle.sealed_layout.specs.Sector.{AreWords}
-use Rattle.sealed_layout.proofs.Gates.{written_has}
+use Rattle.layout.specs.declared.sealed.header.SealedHeader.{SealedHeader}
+use Rattle.layout.specs.sealed.Gate.{HasNumber, numbered_gate_bytes}
+use Rattle.layout.specs.sealed.Header.{sealed_header_bytes, header_numbers}
+use Rattle.layout.specs.sealed.Sector.{AreWords}
+use Rattle.layout.proofs.NumberedGates.{written_has}
 use Rattle.sealed_log.specs.Opening.{Commits, gate_sector, header_sector}
 use Rattle.sealed_log.specs.Publish.{CommitsOne, HasNew, IsInOrder, IsOld, IsOldOrNew, Precedes, SparesRest, StaysCommitted, gate_at, header_at}
 use Rattle.sealed_log.proofs.Slots.{are_slots, one_commits, opens_in, same_gate, same_slot, slots_in}
@@ -80,41 +80,41 @@ module _ (before h : SealedHeader) (next : before.header.sequence + 1 ≡ h.head
       record {
         slots = slots_in c;
         are = are_slots c;
-        opens = header_commits_nothing (slots_in d) (slots_in c) s (header_bytes before) (opens_in d before was) tears;
+        opens = header_commits_nothing (slots_in d) (slots_in c) s (sealed_header_bytes before) (opens_in d before was) tears;
         fits = was.fits;
       }
 
   -- while its gate is written
-  module _ (fits : AreWords (header_numbers h)) (m c : Image) (was : Commits m before) (written : m (header_at h) ≡ header_bytes h)
+  module _ (fits : AreWords (header_numbers h)) (m c : Image) (was : Commits m before) (written : m (header_at h) ≡ sealed_header_bytes h)
       (torn : Elsewhere (gate_at h) 1 m c) where
-    there : c (header_sector ((s + 1) % 3)) ≡ header_bytes h
+    there : c (header_sector ((s + 1) % 3)) ≡ sealed_header_bytes h
     there =
         ap (λ (k : ℕ). c (header_sector k)) (sym slot)
         ∙ beside (gate_at h) (header_at h) m c torn (no_gate (h.header.sequence % 3) (h.header.sequence % 3)) ∙ written
 
-    tears_gate : TearsGate s (header_bytes h) (slots_in m) (slots_in c)
+    tears_gate : TearsGate s (sealed_header_bytes h) (slots_in m) (slots_in c)
     tears_gate = record {
       others = others_by_gate ((s + 1) % 3) m c (subst (λ (k : ℕ). Elsewhere (gate_sector k) 1 m c) slot torn);
       header = ((are_slots c).header ((s + 1) % 3) (s + 1)).1 (h, fits, there, sym next);
       bytes = there;
     }
 
-    is_new : Opens (slots_in c) (s + 1) (header_bytes h) → Commits c h
+    is_new : Opens (slots_in c) (s + 1) (sealed_header_bytes h) → Commits c h
     is_new opens = record {
       slots = slots_in c;
       are = are_slots c;
-      opens = subst (λ (n : ℕ). Opens (slots_in c) n (header_bytes h)) next opens;
+      opens = subst (λ (n : ℕ). Opens (slots_in c) n (sealed_header_bytes h)) next opens;
       fits = fits;
     }
 
     pub gate_torn : Commits c before ⊎ Commits c h
     gate_torn =
-        elim (gate_commits (slots_in m) (slots_in c) s (header_bytes before) (header_bytes h) (opens_in m before was) tears_gate) [
+        elim (gate_commits (slots_in m) (slots_in c) s (sealed_header_bytes before) (sealed_header_bytes h) (opens_in m before was) tears_gate) [
           | inl opens ↦ inl (record { slots = slots_in c; are = are_slots c; opens = opens; fits = was.fits })
           | inr opens ↦ inr (is_new opens)
         ]
 
-    pub gate_written : c (gate_at h) ≡ gate_bytes h.header.sequence → Commits c h
+    pub gate_written : c (gate_at h) ≡ numbered_gate_bytes h.header.sequence → Commits c h
     gate_written gate =
         let small : h.header.sequence < 2 ^ 64 = fits 1 0 (omega arith) in
         let has : HasNumber (c (gate_at h)) h.header.sequence =
@@ -122,7 +122,7 @@ module _ (before h : SealedHeader) (next : before.header.sequence + 1 ≡ h.head
         in
         let here : HasNumber (c (gate_sector ((s + 1) % 3))) (s + 1) =
         subst (λ (k : ℕ). HasNumber (c (gate_sector k)) (s + 1)) slot (subst (HasNumber (c (gate_at h))) (sym next) has) in
-        is_new (published_commits (slots_in m) (slots_in c) s (header_bytes before) (header_bytes h) (opens_in m before was) (record {
+        is_new (published_commits (slots_in m) (slots_in c) s (sealed_header_bytes before) (sealed_header_bytes h) (opens_in m before was) (record {
           others = tears_gate.others;
           header = tears_gate.header;
           bytes = tears_gate.bytes;
@@ -164,19 +164,19 @@ pub record IsReady (h : SealedHeader) (old mid : Disk) : Type 0 where
   pub next : Precedes old.seen h
   pub left : old.may_leave old.seen
   pub elsewhere : Elsewhere (header_at h) 1 old.seen mid.seen
-  pub written : mid.seen (header_at h) ≡ header_bytes h
+  pub written : mid.seen (header_at h) ≡ sealed_header_bytes h
   pub durable : Only mid.seen mid
 
 pub make_ready : (h : SealedHeader) (at : ℕ) (row : List ℕ) (old mid : Disk) → at ≡ header_at h → AreWords (header_numbers h) →
     CommitsOne old → Precedes old.seen h → old.may_leave old.seen → Elsewhere at 1 old.seen mid.seen → mid.seen at ≡ row →
-    row ≡ header_bytes h → Only mid.seen mid → IsReady h old mid
+    row ≡ sealed_header_bytes h → Only mid.seen mid → IsReady h old mid
 make_ready h at row old mid place fits one next left torn written is durable = record {
   fits = fits;
   one = one;
   next = next;
   left = left;
   elsewhere = subst (λ (i : ℕ). Elsewhere i 1 old.seen mid.seen) place torn;
-  written = subst (λ (i : ℕ). mid.seen i ≡ header_bytes h) place (written ∙ is);
+  written = subst (λ (i : ℕ). mid.seen i ≡ sealed_header_bytes h) place (written ∙ is);
   durable = durable;
 }
 
@@ -193,7 +193,7 @@ module _ {h : SealedHeader} {old mid : Disk} (ready : IsReady h old mid) where
   spares {c} torn = λ i other gate. beside (gate_at h) i mid.seen c torn gate
       ∙ beside (header_at h) i old.seen mid.seen ready.elsewhere other
 
-  stands : {c : Image} → Elsewhere (gate_at h) 1 mid.seen c → c (header_at h) ≡ header_bytes h
+  stands : {c : Image} → Elsewhere (gate_at h) 1 mid.seen c → c (header_at h) ≡ sealed_header_bytes h
   stands {c} torn = beside (gate_at h) (header_at h) mid.seen c torn (no_gate (h.header.sequence % 3) (h.header.sequence % 3))
       ∙ ready.written
 
@@ -219,7 +219,7 @@ module _ {h : SealedHeader} {old mid : Disk} (ready : IsReady h old mid) where
       (leaves_weaker {old = mid} {new = new} {P = λ c. IsTorn at 1 mid c} (λ c. IsInOrder h old c)
       (λ c torn. let there = torn_there (subst (λ (i : ℕ). IsTorn i 1 mid c) place torn) in inr (stands there, spares there)) run)
 
-  pub has_new : {c : Image} → Elsewhere (gate_at h) 1 mid.seen c → c (gate_at h) ≡ gate_bytes h.header.sequence → HasNew h old.seen c
+  pub has_new : {c : Image} → Elsewhere (gate_at h) 1 mid.seen c → c (gate_at h) ≡ numbered_gate_bytes h.header.sequence → HasNew h old.seen c
   has_new {c} torn gate = record {
     written = stands torn;
     elsewhere = spares torn;

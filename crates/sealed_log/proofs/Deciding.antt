@@ -12,11 +12,11 @@ use Rattle.layout.specs.Bytes.{number, zeros}
 use Rattle.layout.specs.Frame.{words_bytes}
 use Rattle.layout.proofs.Numbers.{length-number}
 use Rattle.seal.specs.Sums.{sums_bytes, sums_of}
-use Rattle.sealed_layout.specs.declared.header.SealedHeader.{SealedHeader}
-use Rattle.sealed_layout.specs.Gate.{HasNumber, copies, gate_numbers}
-use Rattle.sealed_layout.specs.Header.{header_bytes, header_from, header_numbers}
-use Rattle.sealed_layout.specs.Sector.{AreWords, sealed, sector_bytes}
-use Rattle.sealed_layout.proofs.Copies.{no_majority}
+use Rattle.layout.specs.declared.sealed.header.SealedHeader.{SealedHeader}
+use Rattle.layout.specs.sealed.Gate.{HasNumber, copies, gate_numbers}
+use Rattle.layout.specs.sealed.Header.{sealed_header_bytes, sealed_header_from, header_numbers}
+use Rattle.layout.specs.sealed.Sector.{AreWords, with_seal, sector_bytes}
+use Rattle.layout.proofs.GateCopies.{no_majority}
 use Rattle.sealed_log.specs.Opening.{IsSound}
 
 -- ---- lists
@@ -78,7 +78,7 @@ abbrev pub eleven : List ℕ → List ℕ
 eleven bytes = map (λ k. little_number 8 (drop (8 * k) bytes)) (range_with_len 0 11)
 
 sector_known : (ns bytes : List ℕ) → length ns ≡ 11 → AreWords ns → bytes ≡ sector_bytes ns → eleven bytes ≡ ns
-unfolding sector_bytes sealed
+unfolding sector_bytes with_seal
 sector_known ns bytes count fits e =
     let blank : List ℕ = zeros (488 - 8 * length ns) in
     let seal : List ℕ = sums_bytes (sums_of (words_bytes ns ++ blank)) in
@@ -92,10 +92,10 @@ sector_known ns bytes count fits e =
     ∙ sym (get_or_default ns k d 0 there))
 
 -- the bytes of a header tell which it is
-pub header_known : (h : SealedHeader) (bytes : List ℕ) → AreWords (header_numbers h) → bytes ≡ header_bytes h →
-    header_from (eleven bytes) ≡ h
-unfolding header_bytes
-header_known h bytes fits e = ap header_from (sector_known (header_numbers h) bytes refl fits e)
+pub header_known : (h : SealedHeader) (bytes : List ℕ) → AreWords (header_numbers h) → bytes ≡ sealed_header_bytes h →
+    sealed_header_from (eleven bytes) ≡ h
+unfolding sealed_header_bytes
+header_known h bytes fits e = ap sealed_header_from (sector_known (header_numbers h) bytes refl fits e)
 
 pub one_number : (bytes : List ℕ) (s t : ℕ) → IsSound bytes s → IsSound bytes t → s ≡ t
 one_number bytes s t a b =
@@ -104,8 +104,8 @@ one_number bytes s t a b =
 
 pub sound_or_not : (bytes : List ℕ) → ((s : ℕ) × IsSound bytes s) ⊎ ((s : ℕ) → IsSound bytes s → ⊥)
 sound_or_not bytes =
-    let h : SealedHeader = header_from (eleven bytes) in
-    elim (same_or_not bytes (header_bytes h)) [
+    let h : SealedHeader = sealed_header_from (eleven bytes) in
+    elim (same_or_not bytes (sealed_header_bytes h)) [
       | inl e ↦
           elim (words_or_not (header_numbers h)) [
             | inl fits ↦ inl (h.header.sequence, (h, fits, e, refl))
@@ -113,7 +113,7 @@ sound_or_not bytes =
                 inr (λ s is. none (subst (λ (g : SealedHeader). AreWords (header_numbers g)) (sym (header_known is.0 bytes is.1 is.2))
                 is.1))
           ]
-      | inr other ↦ inr (λ s is. other (is.2 ∙ ap header_bytes (sym (header_known is.0 bytes is.1 is.2))))
+      | inr other ↦ inr (λ s is. other (is.2 ∙ ap sealed_header_bytes (sym (header_known is.0 bytes is.1 is.2))))
     ]
 
 -- ---- gates

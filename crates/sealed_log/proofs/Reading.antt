@@ -14,10 +14,10 @@ use Rattle.header_slots.specs.declared.deciding.SlotNumbers.{SlotNumbers}
 use Rattle.layout.specs.declared.bad_image.BadImage.{BadImage}
 use Rattle.layout.specs.declared.bad_image.BadImage.TheVariants as bad
 use Rattle.layout.specs.declared.open_fault.OpenFault.TheVariants as fault
-use Rattle.sealed_layout.specs.declared.header.SealedHeader.{SealedHeader}
-use Rattle.sealed_layout.specs.Gate.{HasNumber}
-use Rattle.sealed_layout.specs.Header.{IsWithinLimits}
-use Rattle.sealed_layout.proofs.Gates.{one_number as one_gate_number}
+use Rattle.layout.specs.declared.sealed.header.SealedHeader.{SealedHeader}
+use Rattle.layout.specs.sealed.Gate.{HasNumber}
+use Rattle.layout.specs.sealed.Header.{IsWithinLimits}
+use Rattle.layout.proofs.NumberedGates.{one_number as one_gate_number}
 use Rattle.sealed_log.specs.declared.opening.HeaderSlot.{HeaderSlot}
 use Rattle.sealed_log.specs.Closing.{GoesFirst, IsOrder, IsOrderOf}
 use Rattle.sealed_log.specs.declared.closing.Order.{Order}

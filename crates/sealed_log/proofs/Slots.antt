@@ -5,10 +5,10 @@ use Rattle.std.proofs.lemmas.Option.{same_Some}
 use Rattle.device.specs.Disk.{Image}
 use Rattle.header_slots.specs.Slots.{Opens, Slot, Slots}
 use Rattle.header_slots.proofs.Counting.{one_committed}
-use Rattle.sealed_layout.specs.declared.header.SealedHeader.{SealedHeader}
-use Rattle.sealed_layout.specs.Gate.{HasNumber}
-use Rattle.sealed_layout.specs.Header.{header_bytes, header_from}
-use Rattle.sealed_layout.proofs.Gates.{one_number as one_gate_number}
+use Rattle.layout.specs.declared.sealed.header.SealedHeader.{SealedHeader}
+use Rattle.layout.specs.sealed.Gate.{HasNumber}
+use Rattle.layout.specs.sealed.Header.{sealed_header_bytes, sealed_header_from}
+use Rattle.layout.proofs.NumberedGates.{one_number as one_gate_number}
 use Rattle.sealed_log.specs.Opening.{AreSlots, Commits, IsSound, gate_sector, header_sector}
 use Rattle.sealed_log.proofs.Deciding.{eleven, header_known, number_or_not, one_number, sound_or_not}
 
@@ -93,9 +93,9 @@ one_slots c a b ia ib = fun_ext (λ k. same_slot c c a b k ia ib refl refl)
 
 -- ---- what is committed
 
-pub opens_in : (image : Image) (h : SealedHeader) → Commits image h → Opens (slots_in image) h.header.sequence (header_bytes h)
+pub opens_in : (image : Image) (h : SealedHeader) → Commits image h → Opens (slots_in image) h.header.sequence (sealed_header_bytes h)
 opens_in image h is =
-    subst (λ (s : Slots). Opens s h.header.sequence (header_bytes h)) (one_slots image is.slots (slots_in image) is.are (are_slots image))
+    subst (λ (s : Slots). Opens s h.header.sequence (sealed_header_bytes h)) (one_slots image is.slots (slots_in image) is.are (are_slots image))
     is.opens
 
 -- an image has one committed header at most
@@ -105,7 +105,7 @@ one_commits image g h a b =
     let second = opens_in image h b in
     let number : g.header.sequence ≡ h.header.sequence =
     one_committed (slots_in image) g.header.sequence h.header.sequence first.committed second.committed in
-    let bytes : header_bytes g ≡ header_bytes h =
+    let bytes : sealed_header_bytes g ≡ sealed_header_bytes h =
     sym first.bytes ∙ ap (λ (s : ℕ). (slots_in image (s % 3)).bytes) number ∙ second.bytes in
-    sym (header_known g (header_bytes g) a.fits refl) ∙ ap (λ (row : List ℕ). header_from (eleven row)) bytes
-    ∙ header_known h (header_bytes h) b.fits refl
+    sym (header_known g (sealed_header_bytes g) a.fits refl) ∙ ap (λ (row : List ℕ). sealed_header_from (eleven row)) bytes
+    ∙ header_known h (sealed_header_bytes h) b.fits refl

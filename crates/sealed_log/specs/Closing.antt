@@ -2,14 +2,14 @@
 use Rattle.std.specs.Prelude.{◌≡◌, ℕ, ◌%◌, ◌<◌}
 use Rattle.device.specs.Disk.{Disk, Image}
 use Rattle.header_slots.specs.Slots.{Counts, Slots}
-use Rattle.sealed_layout.specs.declared.header.SealedHeader.{SealedHeader}
-use Rattle.sealed_layout.specs.Gate.{gate_bytes}
+use Rattle.layout.specs.declared.sealed.header.SealedHeader.{SealedHeader}
+use Rattle.layout.specs.sealed.Gate.{numbered_gate_bytes}
 use Rattle.sealed_log.specs.declared.closing.Order.{Order}
 use Rattle.sealed_log.specs.Opening.{AreSlots, Commits, gate_sector}
 
 -- each gate is closed: it is zeros
 abbrev pub AreClosed : Image → Type 0
-AreClosed image = (k : ℕ) → k < 3 → image (gate_sector k) ≡ gate_bytes 0
+AreClosed image = (k : ℕ) → k < 3 → image (gate_sector k) ≡ numbered_gate_bytes 0
 
 -- no header is committed
 abbrev pub CommitsNone : Image → Type 0

@@ -8,8 +8,8 @@ use Rattle.header_slots.specs.declared.deciding.NotCommitted.TheVariants.{NextGa
 use Rattle.layout.specs.declared.bad_image.BadImage.TheVariants as bad
 use Rattle.layout.specs.declared.open_fault.OpenFault.{OpenFault}
 use Rattle.layout.specs.declared.open_fault.OpenFault.TheVariants as fault
-use Rattle.sealed_layout.specs.declared.header.SealedHeader.{SealedHeader}
-use Rattle.sealed_layout.specs.Header.{IsWithinLimits}
+use Rattle.layout.specs.declared.sealed.header.SealedHeader.{SealedHeader}
+use Rattle.layout.specs.sealed.Header.{IsWithinLimits}
 use Rattle.sealed_log.specs.Opening.{AreSlots, Commits}
 
 -- the committed header is h, and within the limits of a log half with `room` slots

@@ -2,10 +2,10 @@
 use Rattle.std.specs.Prelude.{◌≡◌, ◌↔◌, ℕ, ◌+◌, ◌*◌, List, Some}
 use Rattle.device.specs.Disk.{Image}
 use Rattle.header_slots.specs.Slots.{Opens, Slots}
-use Rattle.sealed_layout.specs.declared.header.SealedHeader.{SealedHeader}
-use Rattle.sealed_layout.specs.Gate.{HasNumber}
-use Rattle.sealed_layout.specs.Header.{header_bytes, header_numbers}
-use Rattle.sealed_layout.specs.Sector.{AreWords}
+use Rattle.layout.specs.declared.sealed.header.SealedHeader.{SealedHeader}
+use Rattle.layout.specs.sealed.Gate.{HasNumber}
+use Rattle.layout.specs.sealed.Header.{sealed_header_bytes, header_numbers}
+use Rattle.layout.specs.sealed.Sector.{AreWords}
 
 -- the sectors of header slot k and of its gate
 abbrev pub header_sector : ℕ → ℕ
@@ -16,7 +16,7 @@ gate_sector k = 16 + 16 * k
 
 -- these bytes are a sound header with this sequence number
 abbrev pub IsSound : List ℕ → ℕ → Type 0
-IsSound bytes s = (h : SealedHeader) × AreWords (header_numbers h) × (bytes ≡ header_bytes h) × (h.header.sequence ≡ s)
+IsSound bytes s = (h : SealedHeader) × AreWords (header_numbers h) × (bytes ≡ sealed_header_bytes h) × (h.header.sequence ≡ s)
 
 -- the slots of an image have the numbers of its sound headers and of its gates
 pub record AreSlots (image : Image) (slots : Slots) : Type 0 where
@@ -28,5 +28,5 @@ pub record AreSlots (image : Image) (slots : Slots) : Type 0 where
 pub record Commits (image : Image) (h : SealedHeader) : Type 0 where
   pub slots : Slots
   pub are : AreSlots image slots
-  pub opens : Opens slots h.header.sequence (header_bytes h)
+  pub opens : Opens slots h.header.sequence (sealed_header_bytes h)
   pub fits : AreWords (header_numbers h)

@@ -2,8 +2,8 @@
 use Rattle.std.specs.Prelude.{◌≡◌, ◌⊎◌, ℕ, ◌+◌, ◌%◌}
 use Rattle.device.specs.Calls.{Elsewhere}
 use Rattle.device.specs.Disk.{Disk, Image}
-use Rattle.sealed_layout.specs.declared.header.SealedHeader.{SealedHeader}
-use Rattle.sealed_layout.specs.Header.{header_bytes}
+use Rattle.layout.specs.declared.sealed.header.SealedHeader.{SealedHeader}
+use Rattle.layout.specs.sealed.Header.{sealed_header_bytes}
 use Rattle.sealed_log.specs.Opening.{Commits, gate_sector, header_sector}
 
 -- the sector of a header and that of its gate, in the slot of its sequence number
@@ -36,7 +36,7 @@ pub record IsOld (h : SealedHeader) (disk : Disk) (c : Image) : Type 0 where
 
 -- only the slot of h is touched: it has h, and h is the committed header
 pub record HasNew (h : SealedHeader) (old new : Image) : Type 0 where
-  pub written : new (header_at h) ≡ header_bytes h
+  pub written : new (header_at h) ≡ sealed_header_bytes h
   pub elsewhere : SparesRest h old new
   pub committed : Commits new h
 
@@ -47,4 +47,4 @@ IsOldOrNew h disk c = IsOld h disk c ⊎ HasNew h disk.seen c
 abbrev pub IsInOrder : SealedHeader → Disk → Image → Type 0
 IsInOrder h disk c =
     ((d : Image) × disk.may_leave d × Elsewhere (header_at h) 1 d c)
-    ⊎ ((c (header_at h) ≡ header_bytes h) × SparesRest h disk.seen c)
+    ⊎ ((c (header_at h) ≡ sealed_header_bytes h) × SparesRest h disk.seen c)

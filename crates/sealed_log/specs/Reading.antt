@@ -8,17 +8,17 @@ use Rattle.header_slots.specs.declared.deciding.NotCommitted.TheVariants.{NextGa
 use Rattle.header_slots.specs.declared.deciding.SlotNumbers.{SlotNumbers}
 use Rattle.layout.specs.declared.bad_image.BadImage.{BadImage}
 use Rattle.layout.specs.declared.bad_image.BadImage.TheVariants as bad
-use Rattle.sealed_layout.specs.declared.header.SealedHeader.{SealedHeader}
-use Rattle.sealed_layout.specs.Gate.{HasNumber}
-use Rattle.sealed_layout.specs.Header.{IsWithinLimits, header_bytes, header_numbers}
-use Rattle.sealed_layout.specs.Sector.{AreWords}
+use Rattle.layout.specs.declared.sealed.header.SealedHeader.{SealedHeader}
+use Rattle.layout.specs.sealed.Gate.{HasNumber}
+use Rattle.layout.specs.sealed.Header.{IsWithinLimits, sealed_header_bytes, header_numbers}
+use Rattle.layout.specs.sealed.Sector.{AreWords}
 use Rattle.sealed_log.specs.Opening.{gate_sector, header_sector}
 use Rattle.sealed_log.specs.declared.opening.HeaderSlot.{HeaderSlot}
 
 -- these bytes encode this sound header, or no sound header
 abbrev pub IsHeaderIn : List ℕ → Option SealedHeader → Type 0
-IsHeaderIn bytes (Some h) = AreWords (header_numbers h) × (bytes ≡ header_bytes h)
-IsHeaderIn bytes None = (h : SealedHeader) → AreWords (header_numbers h) → bytes ≡ header_bytes h → ⊥
+IsHeaderIn bytes (Some h) = AreWords (header_numbers h) × (bytes ≡ sealed_header_bytes h)
+IsHeaderIn bytes None = (h : SealedHeader) → AreWords (header_numbers h) → bytes ≡ sealed_header_bytes h → ⊥
 
 -- these bytes are a gate with this number, or without one
 abbrev pub IsGateIn : List ℕ → Option ℕ → Type 0

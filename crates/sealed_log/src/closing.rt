@@ -4,7 +4,7 @@ ghost use Rattle.device.specs.Calls.{Counts, Elsewhere, IsTorn, Only};
 ghost use Rattle.device.specs.Moments.{LeavesOnly};
 ghost use Rattle.header_slots.specs.Committed.{slots_of};
 ghost use Rattle.layout.specs.Calls.{ReadsOnly};
-ghost use Rattle.sealed_layout.specs.Gate.{gate_bytes};
+ghost use Rattle.layout.specs.sealed.Gate.{numbered_gate_bytes};
 ghost use Rattle.sealed_log.specs.Closing.{AreClosed, CommitsNone, GoesFirst, IsOrder, IsOrderOf, KeepsOrHasNone};
 ghost use Rattle.sealed_log.specs.Closing.{WasKeptOrHasNone};
 ghost use Rattle.sealed_log.specs.Opening.{gate_sector};
@@ -14,7 +14,7 @@ use crate::opening::{gate_sector, read_slots};
 use crate::sector::put_sector;
 use device::{Device, Failed, SECTOR_SIZE};
 use header_slots::{SlotNumbers, counting_number};
-use sealed_layout::encode_gate;
+use layout::encode_numbered_gate;
 
 /// The header slots in the order in which their gates are closed.
 #[derive(Clone, Copy)]
@@ -101,7 +101,7 @@ fn read_order<D: Device>(device: &mut D) -> Result<Order, Failed>
 fn close_gate<D: Device>(device: &mut D, slot: u64) -> Result<(), Failed>
     requires slot { slot < 3 }
     requires inside { 56 ≤ (D.disk device.old).sectors }
-    ensures closed { OnOk result ((D.disk device.new).seen (gate_sector slot) ≡ gate_bytes 0) }
+    ensures closed { OnOk result ((D.disk device.new).seen (gate_sector slot) ≡ numbered_gate_bytes 0) }
     ensures durable { OnOk result (Only (D.disk device.new).seen (D.disk device.new)) }
     ensures size { (D.disk device.new).sectors ≡ (D.disk device.old).sectors }
     ensures elsewhere { Elsewhere (gate_sector slot) 1 (D.disk device.old).seen (D.disk device.new).seen }
@@ -110,7 +110,7 @@ fn close_gate<D: Device>(device: &mut D, slot: u64) -> Result<(), Failed>
     ensures cause { Counts (D.disk device.old) (D.disk device.new) result }
 {
     let mut gate = [0; SECTOR_SIZE];
-    encode_gate(0, &mut gate);
+    encode_numbered_gate(0, &mut gate);
     put_sector(device, gate_sector(slot), &gate)
 }
 

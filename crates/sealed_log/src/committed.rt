@@ -4,7 +4,7 @@ ghost use Rattle.header_slots.specs.Committed.{IsRefused};
 ghost use Rattle.header_slots.specs.Slots.{IsCommitted};
 ghost use Rattle.layout.specs.Calls.{ReadsOnly};
 ghost use Rattle.layout.specs.Fault.{CountsOpen};
-ghost use Rattle.sealed_layout.specs.Header.{IsWithinLimits};
+ghost use Rattle.layout.specs.sealed.Header.{IsWithinLimits};
 ghost use Rattle.sealed_log.specs.Committed.{HasHeader, HasNone};
 ghost use Rattle.sealed_log.specs.Reading.{HasNoneBy, IsChosen, number_of, numbered, numbers_of, reason_of};
 
@@ -12,7 +12,7 @@ use crate::opening::{HeaderSlot, read_slots};
 use device::Device;
 use header_slots::{NotCommitted, SlotNumbers, committed};
 use layout::{BadImage, OpenFault};
-use sealed_layout::{SealedHeader, is_within_limits};
+use layout::{SealedHeader, is_within_limits};
 
 // Returns the sequence number of a header.
 fn number_of(header: Option<SealedHeader>) -> Option<u64>

@@ -7,7 +7,7 @@ ghost use Rattle.sealed_log.specs.Opening.{gate_sector, header_sector};
 
 use crate::sector::read_sector;
 use device::{Device, Failed, SECTOR_SIZE};
-use sealed_layout::{SealedHeader, decode_gate, decode_header};
+use layout::{SealedHeader, decode_numbered_gate, decode_sealed_header};
 
 /// What a header slot holds.
 #[derive(Clone, Copy)]
@@ -49,8 +49,8 @@ fn read_slot<D: Device>(device: &mut D, slot: u64) -> Result<HeaderSlot, Failed>
     read_sector(device, header_sector(slot), &mut header)?;
     read_sector(device, gate_sector(slot), &mut gate)?;
     Ok(HeaderSlot {
-        header: decode_header(&header),
-        gate: decode_gate(&gate),
+        header: decode_sealed_header(&header),
+        gate: decode_numbered_gate(&gate),
     })
 }
 

@@ -2,15 +2,15 @@
 ghost use Rattle.std.specs.Prelude.{◌≡◌, ◌≤◌, ◌<◌, ◌%◌, OnOk};
 ghost use Rattle.device.specs.Calls.{Counts, Only};
 ghost use Rattle.device.specs.Moments.{LeavesOnly};
-ghost use Rattle.sealed_layout.specs.Gate.{gate_bytes};
-ghost use Rattle.sealed_layout.specs.Header.{header_numbers};
-ghost use Rattle.sealed_layout.specs.Sector.{AreWords};
+ghost use Rattle.layout.specs.sealed.Gate.{numbered_gate_bytes};
+ghost use Rattle.layout.specs.sealed.Header.{header_numbers};
+ghost use Rattle.layout.specs.sealed.Sector.{AreWords};
 ghost use Rattle.sealed_log.specs.Publish.{CommitsOne, HasNew, IsInOrder, IsOldOrNew, Precedes, SparesRest, gate_at};
 
 use crate::opening::{gate_sector, header_sector};
 use crate::sector::put_sector;
 use device::{Device, Failed, SECTOR_SIZE};
-use sealed_layout::{SealedHeader, encode_gate, encode_header};
+use layout::{SealedHeader, encode_numbered_gate, encode_sealed_header};
 
 // Returns the slot that a header belongs in.
 fn slot_of(header: SealedHeader) -> u64
@@ -36,7 +36,7 @@ pub fn publish<D: Device>(device: &mut D, header: SealedHeader) -> Result<(), Fa
     ensures committed { OnOk result
         (HasNew header (D.disk device.old).seen (D.disk device.new).seen) }
     ensures opened { OnOk result
-        ((D.disk device.new).seen (gate_at header) ≡ gate_bytes header.header.sequence) }
+        ((D.disk device.new).seen (gate_at header) ≡ numbered_gate_bytes header.header.sequence) }
     ensures durable { OnOk result (Only (D.disk device.new).seen (D.disk device.new)) }
     ensures one { OnOk result (CommitsOne (D.disk device.new)) }
     ensures size { (D.disk device.new).sectors ≡ (D.disk device.old).sectors }
@@ -54,8 +54,8 @@ pub fn publish<D: Device>(device: &mut D, header: SealedHeader) -> Result<(), Fa
 {
     let slot = slot_of(header);
     let mut sector = [0; SECTOR_SIZE];
-    encode_header(header, &mut sector);
+    encode_sealed_header(header, &mut sector);
     put_sector(device, header_sector(slot), &sector)?;
-    encode_gate(header.header.sequence, &mut sector);
+    encode_numbered_gate(header.header.sequence, &mut sector);
     put_sector(device, gate_sector(slot), &sector)
 }

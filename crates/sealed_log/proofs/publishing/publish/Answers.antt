@@ -1,7 +1,7 @@
 use Rattle.std.proofs.Common.{◌≡◌, ℕ, ap, subst, ◌∙◌}
 use Rattle.std.proofs.lemmas.Result.{on_ok_weaker}
 use Rattle.device.specs.Calls.{Elsewhere}
-use Rattle.sealed_layout.specs.Gate.{gate_bytes}
+use Rattle.layout.specs.sealed.Gate.{numbered_gate_bytes}
 use Rattle.sealed_log.specs.Opening.{gate_sector, header_sector}
 use Rattle.sealed_log.specs.Publish.{gate_at, header_at}
 use Rattle.sealed_log.proofs.Commits.{durable_one, gate_order, gate_run, has_new, header_order, header_run, make_ready}
@@ -21,19 +21,19 @@ returns-clause-committed g c =
     let gate_place : c.gate_sector.result ≡ gate_at c.args.header =
     c.gate_sector.ensures.value ∙ ap (λ (k : ℕ). gate_sector k) c.slot_of-slot.ensures.value in
     let ready =
-    make_ready c.args.header c.header_sector.result c.encode_header.new.into (g.D.Device.disk c.args.device.now)
+    make_ready c.args.header c.header_sector.result c.encode_sealed_header.new.into (g.D.Device.disk c.args.device.now)
     (g.D.Device.disk c.put_sector.new.device)
     place c.slot_of-slot.ensures.fits c.requires.one c.requires.next (g.met.D.Device.seen_left c.args.device.now)
     c.put_sector.ensures.elsewhere
-    c.in_ok-put_sector.ensures.written c.encode_header.ensures c.in_ok-put_sector.ensures.durable in
+    c.in_ok-put_sector.ensures.written c.encode_sealed_header.ensures c.in_ok-put_sector.ensures.durable in
     on_ok_weaker c.put_sector-2.result
     (λ written. has_new {h = c.args.header} {old = g.D.Device.disk c.args.device.now} {mid = g.D.Device.disk c.put_sector.new.device} ready
     {c = (g.D.Device.disk c.put_sector-2.new.device).seen}
     (subst (λ (i : ℕ). Elsewhere i 1 (g.D.Device.disk c.put_sector.new.device).seen (g.D.Device.disk c.put_sector-2.new.device).seen)
     gate_place
     c.put_sector-2.ensures.elsewhere)
-    (subst (λ (i : ℕ). (g.D.Device.disk c.put_sector-2.new.device).seen i ≡ gate_bytes c.args.header.header.sequence) gate_place
-    (written ∙ c.encode_gate.ensures)))
+    (subst (λ (i : ℕ). (g.D.Device.disk c.put_sector-2.new.device).seen i ≡ numbered_gate_bytes c.args.header.header.sequence) gate_place
+    (written ∙ c.encode_numbered_gate.ensures)))
     c.put_sector-2.ensures.written
 
 pub returns-clause-one : goal.returns-clause-one
@@ -47,11 +47,11 @@ returns-clause-any_moment g c =
     let gate_place : c.gate_sector.result ≡ gate_at c.args.header =
     c.gate_sector.ensures.value ∙ ap (λ (k : ℕ). gate_sector k) c.slot_of-slot.ensures.value in
     let ready =
-    make_ready c.args.header c.header_sector.result c.encode_header.new.into (g.D.Device.disk c.args.device.now)
+    make_ready c.args.header c.header_sector.result c.encode_sealed_header.new.into (g.D.Device.disk c.args.device.now)
     (g.D.Device.disk c.put_sector.new.device)
     place c.slot_of-slot.ensures.fits c.requires.one c.requires.next (g.met.D.Device.seen_left c.args.device.now)
     c.put_sector.ensures.elsewhere
-    c.in_ok-put_sector.ensures.written c.encode_header.ensures c.in_ok-put_sector.ensures.durable in
+    c.in_ok-put_sector.ensures.written c.encode_sealed_header.ensures c.in_ok-put_sector.ensures.durable in
     gate_run {h = c.args.header} {old = g.D.Device.disk c.args.device.now} {mid = g.D.Device.disk c.put_sector.new.device} ready
     {at = c.gate_sector.result} {new = g.D.Device.disk c.put_sector-2.new.device} gate_place
     (header_run {h = c.args.header} {at = c.header_sector.result} {old = g.D.Device.disk c.args.device.now}
@@ -65,11 +65,11 @@ returns-clause-in_order g c =
     let gate_place : c.gate_sector.result ≡ gate_at c.args.header =
     c.gate_sector.ensures.value ∙ ap (λ (k : ℕ). gate_sector k) c.slot_of-slot.ensures.value in
     let ready =
-    make_ready c.args.header c.header_sector.result c.encode_header.new.into (g.D.Device.disk c.args.device.now)
+    make_ready c.args.header c.header_sector.result c.encode_sealed_header.new.into (g.D.Device.disk c.args.device.now)
     (g.D.Device.disk c.put_sector.new.device)
     place c.slot_of-slot.ensures.fits c.requires.one c.requires.next (g.met.D.Device.seen_left c.args.device.now)
     c.put_sector.ensures.elsewhere
-    c.in_ok-put_sector.ensures.written c.encode_header.ensures c.in_ok-put_sector.ensures.durable in
+    c.in_ok-put_sector.ensures.written c.encode_sealed_header.ensures c.in_ok-put_sector.ensures.durable in
     gate_order {h = c.args.header} {old = g.D.Device.disk c.args.device.now} {mid = g.D.Device.disk c.put_sector.new.device} ready
     {at = c.gate_sector.result} {new = g.D.Device.disk c.put_sector-2.new.device} gate_place
     (header_order c.args.header {at = c.header_sector.result} {old = g.D.Device.disk c.args.device.now}

@@ -1,7 +1,0 @@
-use Rattle.sealed_layout.proofs.Names.{ap, entries_bytes, sector_bytes}
-use Rattle.std.proofs.Common.{◌∙◌}
-use Rattle.sealed_layout.proofs.directory.encode_entries.Goals as goal
-
-pub returns : goal.returns
-unfolding entries_bytes
-returns c = c.encode_sector.ensures ∙ ap sector_bytes c.put_entries.ensures

@@ -1,9 +1,0 @@
-use Rattle.std.proofs.Common.{rules}
-use Rattle.sealed_layout.proofs.Entries.{all_put, entry_taken}
-use Rattle.sealed_layout.proofs.directory.take_entries.Goals as goal
-
-pub loop-i-preserved : goal.loop-i-preserved
-loop-i-preserved c = search (rules, entry_taken)
-
-pub returns : goal.returns
-returns c = search (rules, all_put)
