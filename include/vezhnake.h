@@ -46,7 +46,7 @@ enum vezhnake_status {
     VEZHNAKE_ALREADY_OPEN = 14,     /* the handle is open already */
     VEZHNAKE_NOT_OPEN = 15,         /* the handle is not open */
     VEZHNAKE_SMALL_BUFFER = 16,     /* the buffer is too small: *size is the size that fits */
-    VEZHNAKE_CALLS_LOST = 17,       /* the calls are no longer kept: close the handle. Tests never see it */
+    VEZHNAKE_CALLS_LOST = 17,       /* the device lost calls that it made: close the handle. Tests never see it */
     VEZHNAKE_FAILED = 18,           /* memory ran out in opening */
     VEZHNAKE_BAD_COMMAND = 19,      /* a command's kind or register is out of range */
     /* A description is refused. 21 to 26 are `bad description` 1 to 6 of `eros build`. */
@@ -71,9 +71,12 @@ typedef struct vezhnake_machine {
  * most objects in memory, 8 to 8192. The handle is open after VEZHNAKE_OK, and unchanged after any other status. */
 uint32_t vezhnake_open(const uint8_t *image, size_t image_size, uint64_t cache, vezhnake_machine *handle);
 
+/* Each call that runs commands keeps their device calls in the handle, until vezhnake_calls has copied them. If memory
+ * for them runs out, its status is VEZHNAKE_NO_MEMORY: close the handle. */
+
 /* Runs the lines of a text, as `eros run` runs a script. The last line needs no newline. Copies the answers to the
  * buffer, and sets *size to their length. After VEZHNAKE_SMALL_BUFFER the lines were run: vezhnake_answer returns the
- * answers. After VEZHNAKE_NO_MEMORY only the first lines were run: close the handle. */
+ * answers. After VEZHNAKE_NO_MEMORY perhaps only the first lines were run: close the handle. */
 uint32_t vezhnake_step(vezhnake_machine *handle, const uint8_t *text, size_t text_size, uint8_t *buffer,
                        size_t buffer_size, size_t *size);
 

@@ -30,33 +30,35 @@ pub use Rattle.runs.specs.KernelRuns.{AreTurnsOf, IsConfined, IsCounted, IsLeftI
 pub use Rattle.runs.specs.Laws.{CrashesInRunsAreSurvived}
 pub use Rattle.script.specs.Writing.{Written}
 pub use Rattle.script.specs.declared.fault.RunFault.{RunFault}
-pub use Rattle.std.proofs.Common.{Bool, Err, Global, List, None, Ok, Option, Some, Vec, [], ap, append_assoc, arith, below_more, drop, false, inl, inr, length}
-pub use Rattle.std.proofs.Common.{length-append, map, refl, rules, slice_index_or, subst, suc, sym, take, true, zero, ℕ, ⊎_elim}
+pub use Rattle.std.proofs.Common.{Bool, Err, Global, List, None, Ok, Option, Some, Vec, [], ap, append-nil, append_assoc, arith, below_more, drop, false, inl}
+pub use Rattle.std.proofs.Common.{inr, length, length-append, map, refl, rules, slice_index_or, subst, suc, sym, take, true, zero, ℕ, ⊎_elim}
 pub use Rattle.std.proofs.Math.Seq.{take-append_seam}
 pub use Rattle.std.proofs.lemmas.Bool.Decides.{nat_tests}
-pub use Rattle.std.proofs.lemmas.List.{drop-drop, drop-set-lt, get_or-set_other, get_or-set_same, length-map, length-set, take-append-drop, take_more}
+pub use Rattle.std.proofs.lemmas.List.{drop-drop, drop-set-lt, drop_all, get_or-set_other, get_or-set_same, length-map, length-set, take-append-drop, take_more}
 pub use Rattle.std.proofs.lemmas.List.{take_more_set}
 pub use Rattle.std.proofs.lemmas.List.Concat.{flat_map-append}
 pub use Rattle.std.specs.List.{Contains}
-pub use Rattle.std.specs.Prelude.{IsErrOf, IsSome, Result, nat_lt, slice_set}
+pub use Rattle.std.specs.Prelude.{IfErr, IsErrOf, IsSome, Result, nat_lt, slice_set}
 pub use Rattle.std_alloc.proofs.BoxSteps.Form.{B, Bx, D, P, R, args, box_ty, box_typed, word, τ}
 pub use Rattle.std_alloc.proofs.BoxSteps.Steps.{box_in, box_out}
 pub use Rattle.std_alloc.proofs.ResultValues.{and_tt}
 pub use Rattle.std_alloc.specs.Box.Ownership.{box_owns}
 pub use Rattle.std_heap.specs.contracts.GlobalAllocator.TheImpl.{dict, ghosts}
-pub use Rattle.vezhnake.specs.HostCalls.{HostCall, StorageLeaves, events_by, events_of}
+pub use Rattle.vezhnake.specs.HostCalls.{HostCall, StorageLeaves, encoded, events_by, events_of}
 pub use Rattle.vezhnake.specs.Hosting.{HostDevice, IsFresh, RunsSurvive, RunsText, Survives, calls_beneath, host_disk, in_memory, start_beneath}
 pub use Rattle.vezhnake.specs.RawCommands.{command_of, save_stages}
 pub use Rattle.vezhnake.specs.RawObjects.{shown_object, shown_words}
 pub use Rattle.vezhnake.specs.RawReplies.{RepliesTellAnswers, ShowsNone, is_refused, reply_of}
 pub use Rattle.vezhnake.specs.Serving.{AreNumbered, EndsAt, ServesEach, ServesLine, numbers_of, refuses_at}
-pub use Rattle.vezhnake.specs.Sessions.{ClosesHandle, CopiesOut, IsCapacity, OnSession, OpensHandle, OpensKernel, OpensSession, RefusesFrom, RunsKernel}
-pub use Rattle.vezhnake.specs.Statuses.{status_by}
+pub use Rattle.vezhnake.specs.Sessions.{ClosesHandle, CollectsCalls, CopiesOut, IsCapacity, OnSession, OpensHandle, OpensKernel, OpensSession, RefusesFrom}
+pub use Rattle.vezhnake.specs.Sessions.{RunsKernel, RunsSession, StepsSession, calls_in}
+pub use Rattle.vezhnake.specs.Statuses.{kept_status, status_by, status_for}
 pub use Rattle.vezhnake.specs.Steps.{fresh, stepped}
-pub use Rattle.vezhnake.specs.TypedCalls.{SavesSession, ServesBatch, ServesEachOver, ServesFront, ServesLineOver, ShowsObject, ShowsPage}
+pub use Rattle.vezhnake.specs.TypedCalls.{SavesSession, ServesBatch, ServesEachOver, ServesFront, ServesLineOver, ShowsObject, ShowsPage, ShowsSession}
 pub use Rattle.vezhnake.specs.declared.host_kernel.HostKernel.{HostKernel}
 pub use Rattle.vezhnake.specs.declared.raw_command.RawCommand.{RawCommand}
 pub use Rattle.vezhnake.specs.declared.raw_object.RawObject.{RawObject}
 pub use Rattle.vezhnake.specs.declared.raw_reply.RawReply.{RawReply}
+pub use Rattle.vezhnake.specs.declared.session.CallsFault.{CallsFault}
 pub use Rattle.vezhnake.specs.declared.session.Session.{Session}
 pub use Rattle.vezhnake.specs.declared.status.Status.{Status}

@@ -1,7 +1,13 @@
--- Equal bytes are copied out in the same way.
-use Rattle.vezhnake.proofs.Names.{ℕ, Bool, List, subst, CopiesOut}
-use Rattle.std.proofs.Common.{◌≡◌}
+-- The device calls that wait for the host.
+use Rattle.vezhnake.proofs.Names.{ℕ, List, Ok, ap, append-nil, arith, drop, drop_all, length, sym, subst, HostCall, Session, encoded, CollectsCalls, calls_in}
+use Rattle.std.proofs.Common.{◌≡◌, ◌++◌, ◌∙◌}
 
-pub copies_same : (a b buffer copied : List ℕ) (size : ℕ) (fits : Bool) → a ≡ b → CopiesOut a buffer copied size fits →
-    CopiesOut b buffer copied size fits
-copies_same a b buffer copied size fits same copies = subst (λ (xs : List ℕ). CopiesOut xs buffer copied size fits) same copies
+-- if all of the device's calls were collected, none is added to those that wait
+pub none_new : (s : Session) (count : ℕ) → count ≡ length (calls_in s.kernel) → count ≡ s.collected → CollectsCalls s s (Ok tt)
+none_new s count counted all =
+    let none = drop_all s.collected (calls_in s.kernel) (omega (arith, counted, all)) in
+    let more = ap (λ (cs : List HostCall). s.waiting.items ++ encoded cs) none ∙ append-nil s.waiting.items in
+    (sym more, sym all ∙ counted)
+
+pub waits_after : (waiting items bytes due : List ℕ) → items ≡ waiting ++ bytes → bytes ≡ due → items ≡ waiting ++ due
+waits_after waiting items bytes due grown are = grown ∙ ap (λ (xs : List ℕ). waiting ++ xs) are

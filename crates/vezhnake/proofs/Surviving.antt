@@ -3,11 +3,10 @@ use Rattle.vezhnake.proofs.Names.{ℕ, List, length, take, drop, sym, ap, subst,
 use Rattle.vezhnake.proofs.Names.{flat_map-append, Image, image_of, Event, MayLeave, at_first, replay, Parts, View, Power, IsDeviceOf, Stands, disk_of}
 use Rattle.vezhnake.proofs.Names.{Geometry, Machine, Turn, IsConfined, IsRunOf, RunsOver, CrashesInRunsAreSurvived, RunFault, HostCall, StorageLeaves}
 use Rattle.vezhnake.proofs.Names.{events_by, events_of, HostDevice, RunsSurvive, RunsText, Survives, Written, calls_beneath, host_disk, in_memory}
-use Rattle.vezhnake.proofs.Names.{start_beneath, Result, IsCounted, IsErrOf}
-use Rattle.std.specs.Prelude.{◌≢◌, ◌<◌, Err, IfErr, Ok, Option, Some}
-use Rattle.std.proofs.Common.{refl}
-use Rattle.script.specs.declared.fault.RunFault.TheVariants as fault
+use Rattle.vezhnake.proofs.Names.{start_beneath, Result, IsCounted, IsErrOf, IfErr, refl}
+use Rattle.std.specs.Prelude.{◌≢◌, ◌<◌, Err, Ok, Option, Some}
 use Rattle.std.proofs.Common.{◌≡◌, ◌≤◌, ◌++◌, ◌∙◌}
+use Rattle.script.specs.declared.fault.RunFault.TheVariants as fault
 use Rattle.kernel.specs.Power as power
 
 -- the events of the first k calls are the first events

@@ -1,11 +1,7 @@
 -- The calls that a host carries out on its storage, their bytes, and what a crash of the storage may leave.
-use Rattle.std.specs.Prelude.{ℕ, ◌*◌, ◌-◌, ◌^◌, List, [], ◌∷◌, ◌++◌, length}
-use Rattle.std.specs.List.{flat_map}
-use Rattle.std.specs.Int.{w64, to_le_bytes}
-use Rattle.devices.specs.declared.record.Outcome.TheVariants.{Keep}
-use Rattle.devices.specs.Past.{Event, MayLeave, at_first, cut, replay, synced, writes_of}
-use Rattle.device.specs.Disk.{Image}
-use Rattle.device.specs.Calls.{image_of, sectors_of}
+use Rattle.vezhnake.specs.Names.{ℕ, List, [], length, flat_map, w64, to_le_bytes, Keep, Event, MayLeave, at_first, cut}
+use Rattle.vezhnake.specs.Names.{replay, synced, writes_of, Image, image_of, sectors_of}
+use Rattle.std.specs.Prelude.{◌*◌, ◌-◌, ◌^◌, ◌∷◌, ◌++◌}
 
 -- write these bytes from a sector on; make all earlier writes durable; or a power cut that keeps every byte, for which
 -- the host makes all earlier writes durable

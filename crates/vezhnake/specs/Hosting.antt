@@ -1,22 +1,9 @@
 -- A kernel over the host's storage: how it begins, what a text does, and what a crash of the storage leaves.
-use Rattle.std.specs.Prelude.{◌≡◌, ℕ, ◌*◌, ◌≤◌, List, [], length, take, Option, Some, Result}
-use Rattle.device.specs.Disk.{Disk, Image}
-use Rattle.device.specs.Calls.{Agrees, image_of}
-use Rattle.capability.specs.Parts.{Parts}
-use Rattle.checkpoint.specs.Store.{View}
-use Rattle.devices.specs.declared.file_device.CopiedFile.{CopiedFile}
-use Rattle.devices.specs.FileDevice.{file_disk}
-use Rattle.kernel.specs.Power.{Power}
+use Rattle.vezhnake.specs.Names.{ℕ, List, [], length, take, Option, Some, Result, Disk, Image, Agrees, image_of, Parts}
+use Rattle.vezhnake.specs.Names.{View, CopiedFile, file_disk, Power, Denotes, IsDeviceOf, Stands, disk_of, Geometry}
+use Rattle.vezhnake.specs.Names.{Machine, Saved, Turn, RunFault, Written, IsConfined, IsRunOf, RunsOver, MaySave}
+use Rattle.std.specs.Prelude.{◌≡◌, ◌*◌, ◌≤◌}
 use Rattle.kernel.specs.Power as power
-use Rattle.recovery.specs.Denotes.{Denotes}
-use Rattle.kernel.specs.Standing.{IsDeviceOf, Stands, disk_of}
-use Rattle.model.specs.declared.geometry.Geometry.{Geometry}
-use Rattle.model.specs.Machine.{Machine, Saved}
-use Rattle.model.specs.Run.{Turn}
-use Rattle.script.specs.declared.fault.RunFault.{RunFault}
-use Rattle.script.specs.Writing.{Written}
-use Rattle.runs.specs.KernelRuns.{IsConfined, IsRunOf, RunsOver}
-use Rattle.runs.specs.Laws.{MaySave}
 use Rattle.vezhnake.specs.declared.recorder.Recorder.{Recorder}
 use Rattle.vezhnake.specs.contracts.recorder.RecorderSectorFile.TheImpl.{ghosts}
 use Rattle.vezhnake.specs.HostCalls.{HostCall, StorageLeaves, events_of}

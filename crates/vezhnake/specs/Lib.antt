@@ -1,3 +1,4 @@
+pub mod Names
 pub mod HostCalls
 pub mod Codes
 pub mod Steps

@@ -9,7 +9,7 @@ pub record Keeps (p : Pending) (calls : List HostCall) : Type 0 where
   pub count : p.count ≡ length calls
   pub within : p.start ≤ length calls
 
--- if the host has taken all calls, their bytes are dropped; otherwise none are
+-- if all calls were taken, their bytes are dropped, and otherwise none are
 abbrev pub DropsTaken : Pending → Pending → ℕ → Type 0
 DropsTaken old new taken =
     ((taken ≡ old.count) × (new.start ≡ old.count)) ⊎ ((taken ≢ old.count) × (new.start ≡ old.start))

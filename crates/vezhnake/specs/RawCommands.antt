@@ -1,11 +1,8 @@
 -- The command that numbers stand for.
-use Rattle.std.specs.Prelude.{ℕ, Bool, true, Option, None, Some, List, [], ◌∷◌, nat_lt, slice_index, replicate}
-use Rattle.std.specs.Prelude.{◌-◌, ◌^◌}
-use Rattle.std.specs.Prelude.{◌==◌, ◌&&◌, if◌then◌else◌}
-use Rattle.model.specs.declared.command.Command.{Command}
+use Rattle.vezhnake.specs.Names.{ℕ, Bool, true, Option, None, Some, List, [], nat_lt, slice_index, replicate, Command}
+use Rattle.vezhnake.specs.Names.{Operation, Call, Return, Send}
+use Rattle.std.specs.Prelude.{◌∷◌, ◌-◌, ◌^◌, ◌==◌, ◌&&◌, if◌then◌else◌}
 use Rattle.model.specs.declared.command.Command.TheVariants as command
-use Rattle.model.specs.declared.command.Operation.{Operation}
-use Rattle.model.specs.declared.command.Operation.TheVariants.{Call, Return, Send}
 use Rattle.vezhnake.specs.declared.raw_command.RawCommand.{RawCommand}
 
 -- whether each is the number of a register

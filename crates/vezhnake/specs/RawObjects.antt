@@ -1,13 +1,8 @@
 -- The numbers of an object.
-use Rattle.std.specs.Prelude.{◌∷◌, ℕ, List, [], map, replicate, Option, None, Some}
-use Rattle.model.specs.Capability.{access_bits, tag_of}
-use Rattle.layout.specs.Capability.{height_of, key_of, number_of}
-use Rattle.model.specs.Object.{state_number}
-use Rattle.model.specs.declared.answer.Answer.{Answer}
+use Rattle.vezhnake.specs.Names.{ℕ, List, [], map, replicate, Option, None, Some, access_bits, tag_of, height_of}
+use Rattle.vezhnake.specs.Names.{key_of, number_of, state_number, Answer, Description, Capability, Void}
+use Rattle.std.specs.Prelude.{◌∷◌}
 use Rattle.model.specs.declared.answer.Answer.TheVariants as answer
-use Rattle.model.specs.declared.answer.Description.{Description}
-use Rattle.model.specs.declared.capability.Capability.{Capability}
-use Rattle.model.specs.declared.capability.Capability.TheVariants.{Void}
 use Rattle.model.specs.declared.object.Content.TheVariants as content
 use Rattle.vezhnake.specs.declared.raw_object.RawCapability.{RawCapability}
 use Rattle.vezhnake.specs.declared.raw_object.RawObject.{RawObject}

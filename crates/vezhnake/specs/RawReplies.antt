@@ -1,13 +1,9 @@
 -- The numbers of an answer.
-use Rattle.std.specs.Prelude.{ℕ, Bool, not, nat_lt, ◌-◌, ◌^◌, ◌≡◌, Option, None, Some}
-use Rattle.model.specs.Object.{role_number, role_of}
-use Rattle.model.specs.OrderOutcome.{code_number}
-use Rattle.model.specs.Text.{fault_number, unjournaled_number}
-use Rattle.model.specs.declared.answer.Answer.{Answer}
+use Rattle.vezhnake.specs.Names.{ℕ, Bool, not, nat_lt, Option, None, Some, role_number, role_of, code_number}
+use Rattle.vezhnake.specs.Names.{fault_number, unjournaled_number, Answer, Refusal, ResultCode}
+use Rattle.std.specs.Prelude.{◌-◌, ◌^◌, ◌≡◌}
 use Rattle.model.specs.declared.answer.Answer.TheVariants as answer
-use Rattle.model.specs.declared.answer.Refusal.{Refusal}
 use Rattle.model.specs.declared.answer.Refusal.TheVariants as refusal
-use Rattle.model.specs.declared.order.ResultCode.{ResultCode}
 use Rattle.vezhnake.specs.declared.raw_reply.RawReply.{RawReply}
 
 -- the number of a refusal, and the number that it has, or 0

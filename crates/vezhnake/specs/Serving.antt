@@ -1,21 +1,10 @@
 -- Commands that are served one after another, each as the line that spells it.
-use Rattle.std.specs.Prelude.{◌≡◌, ◌⊎◌, ◌+◌, ◌-◌, ◌<◌, ◌≤◌, ◌∷◌, ℕ, Bool, true, false, List, []}
-use Rattle.std.specs.Prelude.{length}
-use Rattle.std.specs.Prelude.{Option, Some, None, slice_index_or}
-use Rattle.capability.specs.Parts.{Parts}
-use Rattle.checkpoint.specs.Store.{View}
-use Rattle.kernel.specs.Power.{Power}
-use Rattle.kernel.specs.Standing.{Stands, reported_code}
-use Rattle.kernel.specs.declared.processes.served.Served.{Served}
-use Rattle.model.specs.Machine.{Machine}
-use Rattle.model.specs.Run.{Reported, Turn}
-use Rattle.model.specs.Step.{takes_memory}
-use Rattle.model.specs.Text.{spelling}
+use Rattle.vezhnake.specs.Names.{ℕ, Bool, true, false, List, [], length, Option, Some, None, slice_index_or, Parts}
+use Rattle.vezhnake.specs.Names.{View, Power, Stands, reported_code, Served, Machine, Reported, Turn, takes_memory}
+use Rattle.vezhnake.specs.Names.{spelling, Command, Geometry, IsRunOf}
+use Rattle.std.specs.Prelude.{◌≡◌, ◌⊎◌, ◌+◌, ◌-◌, ◌<◌, ◌≤◌, ◌∷◌}
 use Rattle.model.specs.declared.answer.Answer.TheVariants as answer
 use Rattle.model.specs.declared.answer.Refusal.TheVariants as refusal
-use Rattle.model.specs.declared.command.Command.{Command}
-use Rattle.model.specs.declared.geometry.Geometry.{Geometry}
-use Rattle.runs.specs.KernelRuns.{IsRunOf}
 use Rattle.vezhnake.specs.declared.raw_reply.RawReply.{RawReply}
 use Rattle.vezhnake.specs.Hosting.{HostDevice, RunsSurvive, host_disk}
 use Rattle.vezhnake.specs.RawReplies.{is_refused, reply_of}

@@ -1,14 +1,14 @@
 -- What the calls of the library do to a session, and what they copy out.
-use Rattle.std.specs.Prelude.{◌≡◌, ◌≢◌, ◌⊎◌, ℕ, ◌<◌, ◌≤◌, ◌%◌, ◌++◌, Bool, true, false, List, [], length, drop, Option}
-use Rattle.std.specs.Prelude.{None, Some, Result, Ok, Err}
+use Rattle.vezhnake.specs.Names.{ℕ, Bool, true, false, List, [], length, drop, Option, None, Some, Result, Ok, Err}
+use Rattle.vezhnake.specs.Names.{IsBad, IsWhy, Opens, RunFault}
+use Rattle.std.specs.Prelude.{◌≡◌, ◌≢◌, ◌⊎◌, ◌<◌, ◌≤◌, ◌%◌, ◌++◌}
 use Rattle.layout.specs.declared.open_fault.OpenFault.TheVariants as fault
-use Rattle.recovery.specs.Recovered.{IsBad, IsWhy}
-use Rattle.kernel.specs.Opening.{Opens}
 use Rattle.object_cache.specs.StoreState as objects
-use Rattle.script.specs.declared.fault.RunFault.{RunFault}
 use Rattle.script.specs.declared.fault.RunFault.TheVariants as run
 use Rattle.vezhnake.specs.declared.host_kernel.HostKernel.{HostKernel}
 use Rattle.vezhnake.specs.declared.host_kernel.HostKernel.TheVariants as store
+use Rattle.vezhnake.specs.declared.session.CallsFault.{CallsFault}
+use Rattle.vezhnake.specs.declared.session.CallsFault.TheVariants as lost
 use Rattle.vezhnake.specs.declared.session.Session.{Session}
 use Rattle.vezhnake.specs.declared.status.Status.{Status}
 use Rattle.vezhnake.specs.declared.status.Status.TheVariants as status
@@ -50,11 +50,12 @@ OpensKernel bytes cache (Err status.BadSize) = (length bytes % 512 ≢ 0) ⊎ (6
 OpensKernel bytes cache (Err status.BadCache) = (cache ≢ 0) × ((cache < 8) ⊎ (8192 < cache))
 OpensKernel bytes cache (Err _) = ⊥
 
--- a new session: no answers are kept, and the host has taken no calls
+-- a new session: no answers are kept, no calls wait for the host, and none was collected from the device
 pub record OpensSession (bytes : List ℕ) (cache : ℕ) (s : Session) : Type 0 where
   pub kernel : OpensKernel bytes cache (Ok s.kernel)
   pub answer : s.answer.items ≡ []
-  pub taken : s.taken ≡ 0
+  pub waiting : s.waiting.items ≡ []
+  pub collected : s.collected ≡ 0
 
 -- ---- what a kernel does and keeps
 
@@ -77,6 +78,21 @@ abbrev pub kept_from : HostKernel → ℕ
 kept_from (store.Plain k) = start_beneath (objects.view_of host_disk) k
 kept_from (store.Bounded k) = start_beneath (objects.view_of host_disk) k
 
+-- ---- device calls
+
+-- Where these calls waited for the host, they still wait. The device's calls that weren't collected wait after them, or
+-- memory for them ran out, or what the device keeps doesn't begin with them.
+abbrev pub CollectsAfter : List ℕ → ℕ → Session → Result (Unit {0}) CallsFault → Type 0
+CollectsAfter waiting collected new (Ok done) =
+    (new.waiting.items ≡ waiting ++ encoded (drop collected (calls_in new.kernel)))
+    × (new.collected ≡ length (calls_in new.kernel))
+CollectsAfter waiting collected new (Err lost.NoMemory) = (new.waiting.items ≡ waiting) × (new.collected ≡ collected)
+CollectsAfter waiting collected new (Err lost.CallsLost) = (new.waiting.items ≡ waiting) × (new.collected ≡ collected)
+    × (collected ≢ kept_from new.kernel) × (collected ≢ length (calls_in new.kernel))
+
+abbrev pub CollectsCalls : Session → Session → Result (Unit {0}) CallsFault → Type 0
+CollectsCalls old new kept = CollectsAfter old.waiting.items old.collected new kept
+
 -- ---- copying out
 
 -- whether bytes fit into a buffer: then they are at its front, and otherwise it is unchanged; `size` is their number
@@ -85,18 +101,24 @@ CopiesOut bytes old new size true =
     (size ≡ length bytes) × (length bytes ≤ length old) × (new ≡ bytes ++ drop (length bytes) old)
 CopiesOut bytes old new size false = (size ≡ length bytes) × (length old < length bytes) × (new ≡ old)
 
--- The lines of a text were served, and their answers are kept and copied out. If memory for the answers runs out, the
--- lines before that were served.
+-- a text was run and its answers are kept; its device calls wait for the host, or why not
+pub record RunsSession (old new : Session) (text : List ℕ) (ran : Result (Unit {0}) RunFault)
+    (kept : Result (Unit {0}) CallsFault) : Type 0 where
+  pub kernel : RunsKernel old.kernel new.kernel text [] new.answer.items ran
+  pub calls : CollectsCalls old new kept
+
+-- The lines of a text were served, their answers are kept and copied out, and their device calls wait. Without memory
+-- for the answers, the lines up to there were. Without memory for the calls, or if these are lost, nothing is copied.
 abbrev pub StepsSession : Session → Session → List ℕ → List ℕ → List ℕ → ℕ → Status → Type 0
 StepsSession old new text buffer copied size status.Done =
-    RunsKernel old.kernel new.kernel text [] new.answer.items (Ok tt) × (new.taken ≡ old.taken)
-    × CopiesOut new.answer.items buffer copied size true
+    RunsSession old new text (Ok tt) (Ok tt) × CopiesOut new.answer.items buffer copied size true
 StepsSession old new text buffer copied size status.SmallBuffer =
-    RunsKernel old.kernel new.kernel text [] new.answer.items (Ok tt) × (new.taken ≡ old.taken)
-    × CopiesOut new.answer.items buffer copied size false
+    RunsSession old new text (Ok tt) (Ok tt) × CopiesOut new.answer.items buffer copied size false
 StepsSession old new text buffer copied size status.NoMemory =
-    RunsKernel old.kernel new.kernel text [] new.answer.items (Err run.Write) × (new.taken ≡ old.taken)
-    × (copied ≡ buffer)
+    (RunsSession old new text (Err run.Write) (Ok tt)
+    ⊎ ((ran : Result (Unit {0}) RunFault) × RunsSession old new text ran (Err lost.NoMemory))) × (copied ≡ buffer)
+StepsSession old new text buffer copied size status.CallsLost =
+    ((ran : Result (Unit {0}) RunFault) × RunsSession old new text ran (Err lost.CallsLost)) × (copied ≡ buffer)
 StepsSession old new text buffer copied size _ = ⊥
 
 -- the answers to the last text are copied out
@@ -106,16 +128,12 @@ CopiesAnswer old new buffer copied size status.SmallBuffer =
     (new ≡ old) × CopiesOut old.answer.items buffer copied size false
 CopiesAnswer old new buffer copied size _ = ⊥
 
--- all calls that the host hasn't taken are copied out, and then count as taken; or none is. They are lost only if there
--- are some, and those that are kept don't begin with them.
+-- All calls that wait are copied out, and then none waits. If they don't fit, they still wait.
 abbrev pub TakesCalls : Session → Session → List ℕ → List ℕ → ℕ → Status → Type 0
-TakesCalls old new buffer copied size status.Done =
-    CopiesOut (encoded (drop old.taken (calls_in old.kernel))) buffer copied size true
-    × (new.kernel ≡ old.kernel) × (new.answer ≡ old.answer) × (new.taken ≡ length (calls_in old.kernel))
+TakesCalls old new buffer copied size status.Done = CopiesOut old.waiting.items buffer copied size true
+    × (new.waiting.items ≡ []) × (new.collected ≡ old.collected) × (new.kernel ≡ old.kernel) × (new.answer ≡ old.answer)
 TakesCalls old new buffer copied size status.SmallBuffer =
-    CopiesOut (encoded (drop old.taken (calls_in old.kernel))) buffer copied size false × (new ≡ old)
-TakesCalls old new buffer copied size status.CallsLost =
-    (new ≡ old) × (copied ≡ buffer) × (old.taken ≢ kept_from old.kernel) × (old.taken ≢ length (calls_in old.kernel))
+    CopiesOut old.waiting.items buffer copied size false × (new ≡ old)
 TakesCalls old new buffer copied size _ = ⊥
 
 -- ---- handles

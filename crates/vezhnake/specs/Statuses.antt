@@ -1,8 +1,8 @@
 -- The numbers that C gets.
-use Rattle.std.specs.Prelude.{ℕ}
-use Rattle.layout.specs.Reason.{reason_number}
-use Rattle.layout.specs.declared.open_fault.OpenFault.{OpenFault}
+use Rattle.vezhnake.specs.Names.{ℕ, Result, Ok, Err, reason_number, OpenFault}
 use Rattle.layout.specs.declared.open_fault.OpenFault.TheVariants as fault
+use Rattle.vezhnake.specs.declared.session.CallsFault.{CallsFault}
+use Rattle.vezhnake.specs.declared.session.CallsFault.TheVariants as lost
 use Rattle.vezhnake.specs.declared.status.Status.{Status}
 use Rattle.vezhnake.specs.declared.status.Status.TheVariants as status
 
@@ -11,6 +11,16 @@ abbrev pub status_by : OpenFault → Status
 status_by fault.Failed = status.Failed
 status_by fault.NoMemory = status.NoMemory
 status_by (fault.Bad reason) = status.Bad reason
+
+-- the status for the reason that device calls don't wait for the host
+abbrev pub status_for : CallsFault → Status
+status_for lost.NoMemory = status.NoMemory
+status_for lost.CallsLost = status.CallsLost
+
+-- the status of a call that did its work, if its device calls wait for the host
+abbrev pub kept_status : Result (Unit {0}) CallsFault → Status
+kept_status (Ok done) = status.Done
+kept_status (Err why) = status_for why
 
 -- the number of a status
 abbrev pub number_of : Status → ℕ

@@ -1,7 +1,7 @@
 -- What typed calls do to a session.
-use Rattle.std.specs.Prelude.{◌≡◌, ◌<◌, ℕ, true, List, map, take, drop, length, Option, None, slice_index_or}
-use Rattle.kernel.specs.declared.processes.served.Served.{Served}
-use Rattle.model.specs.declared.command.Command.{Command}
+use Rattle.vezhnake.specs.Names.{ℕ, true, false, List, map, take, drop, length, Option, None, slice_index_or, Result}
+use Rattle.vezhnake.specs.Names.{Ok, Err, Served, Command}
+use Rattle.std.specs.Prelude.{◌≡◌, ◌<◌}
 use Rattle.model.specs.declared.command.Command.TheVariants as command
 use Rattle.object_cache.specs.StoreState as objects
 use Rattle.vezhnake.specs.declared.host_kernel.HostKernel.{HostKernel}
@@ -9,6 +9,8 @@ use Rattle.vezhnake.specs.declared.host_kernel.HostKernel.TheVariants as store
 use Rattle.vezhnake.specs.declared.raw_command.RawCommand.{RawCommand}
 use Rattle.vezhnake.specs.declared.raw_object.RawObject.{RawObject}
 use Rattle.vezhnake.specs.declared.raw_reply.RawReply.{RawReply}
+use Rattle.vezhnake.specs.declared.session.CallsFault.{CallsFault}
+use Rattle.vezhnake.specs.declared.session.CallsFault.TheVariants as lost
 use Rattle.vezhnake.specs.declared.session.Session.{Session}
 use Rattle.vezhnake.specs.declared.status.Status.{Status}
 use Rattle.vezhnake.specs.declared.status.Status.TheVariants as status
@@ -16,6 +18,8 @@ use Rattle.vezhnake.specs.Hosting.{host_disk}
 use Rattle.vezhnake.specs.RawCommands.{command_of, save_stages}
 use Rattle.vezhnake.specs.RawObjects.{shown_object, shown_words}
 use Rattle.vezhnake.specs.Serving.{EndsAt, ServesEach, ServesLine, numbers_of}
+use Rattle.vezhnake.specs.Sessions.{CollectsCalls}
+use Rattle.vezhnake.specs.Statuses.{kept_status}
 
 -- commands were served, over the same kind of kernel
 abbrev pub ServesEachOver : HostKernel → HostKernel → List (Option Command) → List RawReply → Type 0
@@ -35,21 +39,28 @@ ServesLineOver (store.Bounded old) (store.Bounded new) =
 ServesLineOver (store.Plain old) (store.Bounded new) = λ command served. ⊥
 ServesLineOver (store.Bounded old) (store.Plain new) = λ command served. ⊥
 
--- the first n of these commands were served, and the numbers of their answers are the first of the replies
-pub record ServesFront (old new : Session) (commands : List (Option Command)) (before after : List RawReply) (n : ℕ) :
-    Type 0 where
+-- The first n of these commands were served, and the numbers of their answers are the first of the replies. Their device
+-- calls wait for the host, or why not.
+pub record ServesFront (old new : Session) (commands : List (Option Command)) (before after : List RawReply) (n : ℕ)
+    (kept : Result (Unit {0}) CallsFault) : Type 0 where
   pub kernel : ServesEachOver old.kernel new.kernel (take n commands) (take n after)
   pub rest : drop n after ≡ drop n before
   pub answer : new.answer ≡ old.answer
-  pub taken : new.taken ≡ old.taken
+  pub calls : CollectsCalls old new kept
 
 -- all commands of a batch were served, or those before the first that is invalid; or there are too few replies
 abbrev pub ServesBatch : Session → Session → List RawCommand → List RawReply → List RawReply → ℕ → Status → Type 0
 ServesBatch old new raws before after served status.Done =
-    ServesFront old new (map command_of raws) before after served × (served ≡ length raws)
+    ServesFront old new (map command_of raws) before after served (Ok tt) × (served ≡ length raws)
 ServesBatch old new raws before after served status.BadCommand =
-    ServesFront old new (map command_of raws) before after served × (served < length raws)
+    ServesFront old new (map command_of raws) before after served (Ok tt) × (served < length raws)
     × (slice_index_or (map command_of raws) served None ≡ None)
+ServesBatch old new raws before after served status.NoMemory =
+    ServesFront old new (map command_of raws) before after served (Err lost.NoMemory)
+    × EndsAt false (map command_of raws) after served
+ServesBatch old new raws before after served status.CallsLost =
+    ServesFront old new (map command_of raws) before after served (Err lost.CallsLost)
+    × EndsAt false (map command_of raws) after served
 ServesBatch old new raws before after served status.SmallBuffer =
     (new ≡ old) × (after ≡ before) × (served ≡ 0) × (length before < length raws)
 ServesBatch old new raws before after served _ = ⊥
@@ -57,23 +68,30 @@ ServesBatch old new raws before after served _ = ⊥
 -- the stages of a save were served, up to the first that was refused; or there are too few replies
 abbrev pub SavesSession : Session → Session → List RawReply → List RawReply → ℕ → Status → Type 0
 SavesSession old new before after served status.Done =
-    ServesFront old new save_stages before after served × EndsAt true save_stages after served
+    ServesFront old new save_stages before after served (Ok tt) × EndsAt true save_stages after served
+SavesSession old new before after served status.NoMemory =
+    ServesFront old new save_stages before after served (Err lost.NoMemory) × EndsAt true save_stages after served
+SavesSession old new before after served status.CallsLost =
+    ServesFront old new save_stages before after served (Err lost.CallsLost) × EndsAt true save_stages after served
 SavesSession old new before after served status.SmallBuffer =
     (new ≡ old) × (after ≡ before) × (served ≡ 0) × (length before < 5)
 SavesSession old new before after served _ = ⊥
 
--- an object was shown, and `reply` has the numbers of the answer
-pub record ShowsSession (old new : Session) (number : ℕ) (served : Served) (reply : RawReply) : Type 0 where
+-- an object was shown: the numbers of the answer; its device calls wait for the host, or the status says why not
+pub record ShowsSession (old new : Session) (number : ℕ) (served : Served) (reply : RawReply) (result : Status) :
+    Type 0 where
   pub kernel : ServesLineOver old.kernel new.kernel (command.Show number) served
   pub numbers : reply ≡ numbers_of served
   pub answer : new.answer ≡ old.answer
-  pub taken : new.taken ≡ old.taken
+  pub kept : Result (Unit {0}) CallsFault
+  pub calls : CollectsCalls old new kept
+  pub is : result ≡ kept_status kept
 
 -- an object was shown, and `after` has the words of a page; or the numbers of the object
 abbrev pub ShowsPage : Session → Session → ℕ → List ℕ → List ℕ → RawReply → Status → Type 0
-ShowsPage old new number before after reply result = (result ≡ status.Done)
-    × (served : Served) × ShowsSession old new number served reply × (after ≡ shown_words served.answer before)
+ShowsPage old new number before after reply result =
+    (served : Served) × ShowsSession old new number served reply result × (after ≡ shown_words served.answer before)
 
 abbrev pub ShowsObject : Session → Session → ℕ → RawObject → RawObject → RawReply → Status → Type 0
-ShowsObject old new number before after reply result = (result ≡ status.Done)
-    × (served : Served) × ShowsSession old new number served reply × (after ≡ shown_object served.answer before)
+ShowsObject old new number before after reply result =
+    (served : Served) × ShowsSession old new number served reply result × (after ≡ shown_object served.answer before)

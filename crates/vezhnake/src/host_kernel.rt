@@ -202,8 +202,15 @@ impl HostKernel {
         self.recorder().since(taken)
     }
 
-    /// Notes that the host has taken all calls of the device, as `Recorder::note_taken` does, and
-    /// returns their number.
+    /// The number of all calls of the device.
+    pub fn count(&self) -> u64
+        ensures { result ≡ length (calls_in self.now) }
+    {
+        self.recorder().count()
+    }
+
+    /// Notes that all calls of the device were taken, as `Recorder::note_taken` does, and returns their
+    /// number.
     pub fn note_taken(&self) -> u64
         ensures { result ≡ length (calls_in self.now) }
     {

@@ -1,4 +1,4 @@
-// The calls that are kept until the host takes them.
+// The calls that are kept until they are taken.
 ghost use Rattle.std.specs.Prelude.{◌≡◌, ◌≢◌, ◌∷◌, ◌++◌, [], List, IfSome, IfNone, take, drop, length, OnOk, OnErr};
 ghost use Rattle.vezhnake.specs.HostCalls.{HostCall, header_of, number_bytes, encoded, encoding};
 ghost use Rattle.vezhnake.specs.Pending.{DropsTaken, Keeps};
@@ -6,7 +6,7 @@ ghost use Rattle.vezhnake.specs.Pending.{DropsTaken, Keeps};
 use device::Failed;
 use std::alloc::{AllocError, Global};
 
-/// The encoded calls that the host may not have taken yet.
+/// The encoded calls that may not have been taken yet.
 #[derive(Drop)]
 pub struct Pending {
     pub bytes: Vec<u8>,
@@ -62,7 +62,7 @@ impl Pending {
         }
     }
 
-    // Drops the bytes if the host has taken all calls. It has taken the first `taken`.
+    // Drops the bytes if all calls were taken. The first `taken` were.
     fn drop_taken(&mut self, taken: u64)
         ensures kept { (calls : List HostCall) → Keeps self.old calls → Keeps self.new calls }
         ensures dropped { DropsTaken self.old self.new taken }
@@ -73,8 +73,8 @@ impl Pending {
         }
     }
 
-    /// Adds a call after the others: a header with this byte, and `from`. The host has taken the
-    /// first `taken` calls: if these are all, their bytes are dropped before.
+    /// Adds a call after the others: a header with this byte, and `from`. The first `taken` calls were
+    /// taken: if these are all, their bytes are dropped before.
     ///
     /// `Failed` if memory runs out: then no call is added.
     pub fn add(&mut self, taken: u64, byte: u64, from: &[u8]) -> Result<(), Failed>

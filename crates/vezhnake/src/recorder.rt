@@ -18,7 +18,7 @@ use std::cell::Cell;
 #[derive(Drop)]
 pub struct Recorder {
     pending: Pending,
-    // The number of calls that the host has taken. No contract sees what a cell holds.
+    // The number of calls that were taken from here. No contract sees what a cell holds.
     taken: Cell<u64>,
     // A call was not recorded.
     is_broken: bool,
@@ -50,8 +50,14 @@ impl Recorder {
         self.pending.since(taken)
     }
 
-    /// Notes that the host has taken all calls, so the next one may replace them, and returns their
-    /// number.
+    /// The number of all calls.
+    pub fn count(&self) -> u64
+        ensures { result ≡ length self.now.history.calls }
+    {
+        self.pending.count
+    }
+
+    /// Notes that all calls were taken, so the next one may replace them, and returns their number.
     pub fn note_taken(&self) -> u64
         ensures { result ≡ length self.now.history.calls }
     {

@@ -1,7 +1,9 @@
 // What an open handle owns.
 ghost use Rattle.std.specs.Prelude.{◌≡◌, IfOk, IfErr, IfSome, Err};
 ghost use Rattle.vezhnake.specs.TypedCalls.{SavesSession, ServesBatch, ShowsObject, ShowsPage};
-ghost use Rattle.vezhnake.specs.Sessions.{CopiesAnswer, CopiesOut, OpensKernel, OpensSession, StepsSession, TakesCalls};
+ghost use Rattle.vezhnake.specs.Sessions.{CollectsCalls, CopiesAnswer, CopiesOut, OpensKernel, OpensSession};
+ghost use Rattle.vezhnake.specs.Sessions.{StepsSession, TakesCalls};
+ghost use Rattle.vezhnake.specs.Statuses.{kept_status};
 
 use crate::host_kernel::HostKernel;
 use crate::raw_command::{RawCommand, save_stages};
@@ -12,15 +14,36 @@ use model::Command;
 use script::RunFault;
 use std::alloc::Global;
 
-/// A kernel over the host's storage, the last answers, and how many calls the host has taken.
+/// A kernel over the host's storage, the last answers, and the device calls that wait for the host.
 #[derive(Drop)]
 pub struct Session {
     alloc: Global,
     kernel: HostKernel,
     // The answers to the last text.
     answer: Vec<u8>,
-    // The number of calls that the host has taken.
-    taken: u64,
+    // The encoded calls that the host has not taken.
+    waiting: Vec<u8>,
+    // The number of the device's calls that were collected: the host has taken them, or they wait.
+    collected: u64,
+}
+
+/// Why device calls don't wait for the host.
+#[derive(Clone, Copy)]
+pub enum CallsFault {
+    /// Memory for them ran out.
+    NoMemory,
+    /// The device no longer keeps them.
+    CallsLost,
+}
+
+// The status of a call that did its work, if its device calls wait for the host.
+fn status_of(kept: Result<(), CallsFault>) -> Status
+    ensures { result ≡ kept_status kept }
+{
+    match kept {
+        Ok(()) => Status::Done,
+        Err(why) => Status::from(why),
+    }
 }
 
 /// Copies the bytes to the front of the buffer, if they fit, and returns whether they do. Sets `size` to their number in
@@ -58,7 +81,8 @@ impl Session {
                 alloc,
                 kernel,
                 answer: Vec::new(alloc),
-                taken: 0,
+                waiting: Vec::new(alloc),
+                collected: 0,
             }),
             Err(status) => Err(status),
         }
@@ -71,23 +95,56 @@ impl Session {
         boxed(self.alloc, self)
     }
 
-    /// Runs a text as a script, keeps the answers and copies them to the buffer.
+    // Collects the device calls since the last time: they wait for the host after the others.
+    //
+    // `NoMemory` if memory for them runs out, and `CallsLost` if the device no longer keeps them. The
+    // others still wait.
+    #[tactic(auto, using(crate::proofs::Sessions::none_new, crate::proofs::Sessions::waits_after))]
+    fn collect(&mut self) -> Result<(), CallsFault>
+        ensures calls { CollectsCalls self.old self.new result }
+        ensures kernel { self.new.kernel ≡ self.old.kernel }
+        ensures answer { self.new.answer ≡ self.old.answer }
+    {
+        if self.kernel.count() == self.collected {
+            return Ok(());
+        }
+        let Some(bytes) = self.kernel.since(self.collected) else {
+            return Err(CallsFault::CallsLost);
+        };
+        match self.waiting.extend_from_slice(bytes) {
+            Ok(()) => {
+                self.collected = self.kernel.note_taken();
+                Ok(())
+            }
+            Err(_) => Err(CallsFault::NoMemory),
+        }
+    }
+
+    /// Runs a text as a script, keeps the answers and copies them to the buffer. Keeps the device calls
+    /// for the host.
     ///
-    /// `SmallBuffer` if they don't fit; `NoMemory` if memory for the answers runs out: the lines up
-    /// to there were served.
+    /// `SmallBuffer` if the answers don't fit. `NoMemory` if memory runs out: for the answers, and the
+    /// lines up to there were served, or for the calls. `CallsLost` if the device doesn't keep the calls.
+    #[tactic(auto, using(crate::proofs::Saving::step_done, crate::proofs::Saving::step_small, crate::proofs::Saving::step_short, crate::proofs::Saving::step_kept))]
     pub fn step(&mut self, text: &[u8], buffer: &mut [u8], size: &mut usize) -> Status
         ensures { StepsSession self.old self.new text.now buffer.old buffer.new size.new result }
     {
         self.answer.clear();
         match self.kernel.run_text(self.alloc, text, &mut self.answer) {
             Ok(()) => {
+                if let Err(lost) = self.collect() {
+                    return Status::from(lost);
+                }
                 if copy_out(&self.answer, buffer, size) {
                     Status::Done
                 } else {
                     Status::SmallBuffer
                 }
             }
-            Err(RunFault::Write) => Status::NoMemory,
+            Err(RunFault::Write) => match self.collect() {
+                Ok(()) => Status::NoMemory,
+                Err(fault) => Status::from(fault),
+            },
             Err(RunFault::Read | RunFault::Stopped) => unreachable!(),
         }
     }
@@ -107,8 +164,9 @@ impl Session {
     /// their answers. `served` is how many it served.
     ///
     /// `BadCommand` if the next one's numbers are no command: those before it were served.
-    /// `SmallBuffer` if there are fewer replies than commands: none was served.
-    #[tactic(auto, using(crate::proofs::Saving::batch_done, crate::proofs::Saving::batch_bad))]
+    /// `SmallBuffer` if there are fewer replies than commands: none was served. `NoMemory` and
+    /// `CallsLost` as for `collect`.
+    #[tactic(auto, using(crate::proofs::Saving::batch_done, crate::proofs::Saving::batch_bad, crate::proofs::Saving::batch_kept))]
     pub fn serve(
         &mut self,
         commands: &[RawCommand],
@@ -122,6 +180,9 @@ impl Session {
             return Status::SmallBuffer;
         }
         *served = self.kernel.serve_each(commands, false, replies);
+        if let Err(why) = self.collect() {
+            return Status::from(why);
+        }
         if *served < commands.len() {
             Status::BadCommand
         } else {
@@ -132,7 +193,8 @@ impl Session {
     /// Saves the state: migrates what an earlier save left, freezes, stabilizes, commits and migrates,
     /// each as its line. The first of these five stages that is refused is the last one served.
     ///
-    /// `SmallBuffer` if there are fewer than five replies: none was served.
+    /// `SmallBuffer` if there are fewer than five replies: none was served. `NoMemory` and `CallsLost` as
+    /// for `collect`.
     #[tactic(auto, using(crate::proofs::Saving::saved))]
     pub fn save(&mut self, replies: &mut [RawReply], served: &mut usize) -> Status
         ensures { SavesSession self.old self.new replies.old replies.new served.new result }
@@ -143,10 +205,11 @@ impl Session {
             return Status::SmallBuffer;
         }
         *served = self.kernel.serve_each(&stages, true, replies);
-        Status::Done
+        status_of(self.collect())
     }
 
-    /// Shows an object as its line does. If it is a page, copies its words.
+    /// Shows an object as its line does. If it is a page, copies its words. `NoMemory` and `CallsLost` as
+    /// for `collect`.
     #[tactic(auto, using(crate::proofs::Saving::page_shown))]
     pub fn page(&mut self, number: u64, page: &mut RawPage, reply: &mut RawReply) -> Status
         ensures { ShowsPage self.old self.new number page.old.words page.new.words reply.new result }
@@ -155,10 +218,11 @@ impl Session {
         *reply = RawReply::of(&served.answer, served.code);
         copy_words(&served.answer, page);
         drop(served);
-        Status::Done
+        status_of(self.collect())
     }
 
-    /// Shows an object as its line does, and returns it as numbers.
+    /// Shows an object as its line does, and returns it as numbers. `NoMemory` and `CallsLost` as for
+    /// `collect`.
     #[tactic(auto, using(crate::proofs::Saving::object_shown))]
     pub fn show(&mut self, number: u64, object: &mut RawObject, reply: &mut RawReply) -> Status
         ensures { ShowsObject self.old self.new number object.old object.new reply.new result }
@@ -167,23 +231,18 @@ impl Session {
         *reply = RawReply::of(&served.answer, served.code);
         copy_object(&served.answer, object);
         drop(served);
-        Status::Done
+        status_of(self.collect())
     }
 
-    /// Copies the encoded calls that the host has not taken, which are then taken.
-    ///
-    /// `SmallBuffer` if they don't fit, and `CallsLost` if they are no longer kept: none is taken.
-    #[tactic(auto, using(crate::proofs::Sessions::copies_same))]
+    /// Copies the encoded calls that wait for the host, which are then taken. `SmallBuffer` if they don't
+    /// fit: none is taken.
     pub fn take_calls(&mut self, buffer: &mut [u8], size: &mut usize) -> Status
         ensures { TakesCalls self.old self.new buffer.old buffer.new size.new result }
     {
-        let Some(bytes) = self.kernel.since(self.taken) else {
-            return Status::CallsLost;
-        };
-        if !copy_out(bytes, buffer, size) {
+        if !copy_out(&self.waiting, buffer, size) {
             return Status::SmallBuffer;
         }
-        self.taken = self.kernel.note_taken();
+        self.waiting.clear();
         Status::Done
     }
 }

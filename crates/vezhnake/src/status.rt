@@ -1,6 +1,7 @@
 // The status that each call of the library returns.
 ghost use Rattle.std.specs.Prelude.{◌≡◌};
 
+use crate::session::CallsFault;
 use checkpoint::OpenFault;
 use layout::BadImage;
 
@@ -23,7 +24,7 @@ pub enum Status {
     NotOpen,
     /// The buffer is too small.
     SmallBuffer,
-    /// The calls that the host needs next are no longer kept.
+    /// The device no longer keeps the calls that it made.
     CallsLost,
     /// Memory ran out for the record of the sync with which opening begins.
     Failed,
@@ -64,6 +65,19 @@ impl From<OpenFault> for Status {
             OpenFault::Failed => Status::Failed,
             OpenFault::NoMemory => Status::NoMemory,
             OpenFault::Bad(reason) => Status::Bad(reason),
+        }
+    }
+}
+
+impl From<CallsFault> for Status {
+    ghost use Rattle.vezhnake.specs.Statuses.{status_for};
+
+    ghost from_gives = { λ fault s. s ≡ status_for fault };
+
+    fn from(fault: CallsFault) -> Status {
+        match fault {
+            CallsFault::NoMemory => Status::NoMemory,
+            CallsFault::CallsLost => Status::CallsLost,
         }
     }
 }
