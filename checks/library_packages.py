@@ -45,7 +45,7 @@ def done(*words, **how):
 
 
 def skipped(what, why):
-    print(f"library: skipped {what}: {why}")
+    print(f"skipped: {what}, because {why}")
 
 
 def try_pip(folder, image):

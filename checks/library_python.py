@@ -264,5 +264,5 @@ def try_module(folder, image):
         path.write_bytes(image)
         skipped = trying(path)
         if skipped:
-            print(f"library: skipped a block device: {skipped}")
+            print(f"skipped: a block device, because {skipped}")
     print("the module raises what its storage, its threads and the machine refuse, and loses nothing")

@@ -159,7 +159,7 @@ def try_postgresql(folder, image, chance):
     """SqlStorage over PostgreSQL. The server is killed too."""
     programs, python = find_programs(), find_python()
     if programs is None or python is None:
-        print(f"library: skipped PostgreSQL: {'its server' if programs is None else 'psycopg2'} is not here")
+        print(f"skipped: PostgreSQL, because {'its server' if programs is None else 'psycopg2'} is not here")
         return
     server = Server(programs, folder / "postgresql")
     try:

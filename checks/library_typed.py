@@ -94,7 +94,7 @@ def by_program(program, image, script, file):
 def by_rust(folder, archive):
     """The crate's example that runs a script by typed calls, or None where there is no cargo."""
     if shutil.which("cargo") is None:
-        print("library: skipped typed calls in Rust: cargo is not here")
+        print("skipped: typed calls in Rust, because cargo is not here")
         return None
     libraries = folder / "libraries"
     libraries.mkdir()
