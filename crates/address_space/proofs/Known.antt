@@ -16,7 +16,7 @@ page_known p n is = known_used p n (page_used (content_at (objects_in p) n) is)
 pub sound_keepable : (g : Geometry) (age : ℕ) (fs : List Frame) → IsSoundFrames g age fs → AreKeepable g (2 ^ 64 - 1) fs
 sound_keepable g age fs sound = keepable_later g age (2 ^ 64 - 1) fs (omega (arith, sound.sound.age)) sound.keepable
 
--- Parts that are the same after a read-only call: what stands there, and what is sound.
+-- Parts after a call that only reads, which are the same: their objects are, and they are as sound.
 module _ (p q : Parts) (same : q ≡ p) where
   pub space_held : {g : Geometry} {age : ℕ} → IsSoundFrames g age (frames_of p) → (n : ℕ) (c : Capability) →
       c ≡ (root_at (objects_in q) n).space → MayBeHeld (objects_in p) c
@@ -51,7 +51,7 @@ pub word_written : (p q : Parts) (written : List ℕ) → q ≡ touched_too writ
 word_written p q written is fs =
     subst (λ (r : Parts). (age : ℕ) → IsSoundFrames r.geometry age (frames_of r) → IsSoundFrames r.geometry age fs) is
 
--- from one tree to another on the way to the page with an index
+-- the walk went from one tree to another, on the way to the page with an index
 pub record HasDescended {S : Type 0} (parts : S → Parts) (Continues : S → S → Type 0) (index : ℕ) (tree : Tree) (old : S) (at : Tree)
     (now : S) : Type 0 where
   pub same : parts now ≡ parts old

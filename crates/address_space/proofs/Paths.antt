@@ -16,7 +16,7 @@ pub bits_power : (h : ℕ) → h ≤ 4 → 2 ^ (5 * h) ≡ 32 ^ h
 bits_power (suc (suc (suc (suc (suc h))))) le = absurd (omega (arith, le))
 bits_power other le = refl
 
--- A tree at least one high, and what its slot on the way holds.
+-- A tree of height at least one, and the slot on the way.
 module _ (os : List Object) (o h index : ℕ) (a : Access) (s : Capability) (some : 1 ≤ h)
     (there : s ≡ slot_at os o (index / 32 ^ (h - 1) % 32)) where
   abbrev k : ℕ
@@ -56,7 +56,7 @@ Merges x y z = bit_or x (bit_or y z) ≡ bit_or (bit_or x y) z
 merges : (x y z : ℕ) → IsSet x → IsSet y → IsSet z → Merges x y z
 merges x y z of_x of_y of_z = grind (arith, nat_tests, each)
 
--- what is reached has an access that a capability can have
+-- the access to the page that is reached is one that a capability may have
 abbrev HasAccess : Result (ℕ × Access) MemoryFault → Type 0
 HasAccess r = IfOk r (λ found. IsAccess found.1)
 

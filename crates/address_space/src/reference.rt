@@ -15,10 +15,10 @@ use capability::{Frames, PresentFrames, objects};
 use device::Failed;
 use model::{MemoryFault, Refusal, WORDS};
 
-/// Reads the word at an address in the address space of a running process, or returns the fault of
-/// the first place where the way to it stops, as `walk` does.
+/// Reads the word at an address in the address space of a running process. If the walk to its page stops, returns the
+/// fault of the first place where it does, as `walk` does.
 ///
-/// Nothing is changed. Fails exactly if the device fails.
+/// Changes nothing. Fails exactly if the device fails.
 #[tactic(auto, using(crate::proofs::Known::page_still_known))]
 pub fn load<F: Frames>(
     frames: &mut F,
@@ -41,13 +41,13 @@ pub fn load<F: Frames>(
     }
 }
 
-/// Writes a word at an address in the address space of a running process, or returns the fault of
-/// the first place where the way to it stops, as `walk` does for a store, and writes nothing.
+/// Writes a word at an address in the address space of a running process. If the walk to its page stops, returns the
+/// fault of the first place where it does, as `walk` does for a store, and writes nothing.
 ///
-/// The page alone is written, and announced only once it is reached, so a fault comes before a full
-/// log. `LogFull` comes if the numbers written since the last checkpoint with the page would be more
-/// than half of the log holds, and changes nothing. `Fault` comes exactly if the device failed, and
-/// nothing is said of the objects then. There is no other refusal.
+/// Only the page is written. It is announced only once the walk has reached it, so a memory fault comes before a full
+/// log. Returns `LogFull` if, with the page, more objects would be touched than a log half has slots; then nothing
+/// changes. Returns `Fault` exactly if the device failed; then nothing is promised about the objects. There is no
+/// other refusal.
 pub fn store<F: PresentFrames>(
     frames: &mut F,
     process: u64,
@@ -74,7 +74,7 @@ pub fn store<F: PresentFrames>(
     }
 }
 
-// The page that a reference of a process reaches.
+// Returns the page that a reference of a process reaches.
 fn reach<F: Frames>(
     frames: &mut F,
     process: u64,
@@ -94,7 +94,7 @@ fn reach<F: Frames>(
     walk(frames, space, address, for_write)
 }
 
-// Announces a page, and puts a word into it.
+// Announces a page, and writes a word into it.
 #[tactic(auto, using(crate::proofs::Known::page_known))]
 fn put<F: PresentFrames>(frames: &mut F, page: u64, index: usize, word: u64) -> Result<(), Refusal>
     requires usable { F.IsUsable frames.old }
@@ -117,7 +117,7 @@ fn put<F: PresentFrames>(frames: &mut F, page: u64, index: usize, word: u64) -> 
     Ok(())
 }
 
-// The index that a word has in its page.
+// Returns the index of a word in its page.
 fn word_index(address: u64) -> usize
     ensures { result ≡ address % 512 }
 {

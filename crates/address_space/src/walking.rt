@@ -19,13 +19,13 @@ use model::{MemoryFault, SLOTS, WORDS};
 pub struct Reached {
     /// The number of the page.
     pub page: u64,
-    /// The bits of the union of the accesses of all capabilities on the way to it. They take a whole
-    /// word, because copies of a struct with padding are slow.
+    /// The bits of the union of the accesses of all capabilities on the way to the page. They take a whole word,
+    /// because copies of a struct with padding are slow.
     pub access: u64,
 }
 
 impl Reached {
-    // A page that a capability with this access names.
+    // Returns the page that a capability with this access names.
     fn at(page: u64, access: Access) -> Reached
         ensures { result ≡ record { page = page; access = access.0 } }
     {
@@ -36,7 +36,7 @@ impl Reached {
     }
 }
 
-// A tree of nodes.
+// A tree of nodes, and the access with which it is reached.
 #[derive(Clone, Copy)]
 struct Tree {
     node: u64,
@@ -56,21 +56,21 @@ impl Tree {
     }
 }
 
-/// Walks through the address space that a capability is, to the page of an address, for a load or
-/// for a store (EROS: an address space is a page, or a tree of nodes 1 to 4 levels high).
+/// Walks through the address space that `capability` names, to the page with an address, for a load or for a store
+/// (EROS: an address space is a page, or a tree of nodes 1 to 4 levels high).
 ///
-/// An address counts words, and a page has 512 of them. A page alone is a space of one page. In a
-/// tree of height h the index of the page, as h digits to base 32, gives the slots on the way, the
-/// greatest digit first. What is read-only or weak on the way is so for all below it.
+/// An address counts words, and a page has 512 of them. A page alone is a space of one page. In a tree of height h
+/// the index of the page, written as h digits to base 32, gives the slots on the way, from the most significant digit
+/// on. If a capability on the way is read-only or weak, so is all below it.
 ///
-/// The fault is that of the first place where the way stops: `NoSpace` where the capability is
-/// void, `Malformed` where it is no address space, `Beyond` where the space has no page of that
-/// index, `Hole` at a void slot, and `Malformed` at a slot with anything else than the next level:
-/// a page at height 1, above it a tree that is one less high. A stale capability is void, so on the
-/// way it is a hole. A store to a page that is reached with any restriction is `ReadOnly`.
+/// A memory fault is that of the first place where the walk stops: `NoSpace` if the capability is void, `Malformed`
+/// if it is no address space, `Beyond` if the space has no page with that index, `Hole` at a void slot, and
+/// `Malformed` at a slot that doesn't hold the next level (at height 1 a page, above it a tree one level lower). A
+/// stale capability counts as void, so on the way it is a hole. A store to a page that is reached with any
+/// restriction is `ReadOnly`.
 ///
-/// At most four nodes are fetched, one after the other, and the page isn't. No object changes.
-/// Fails exactly if the device fails.
+/// Fetches at most four nodes, one after the other, but not the page. No object changes. Fails exactly if the device
+/// fails.
 pub fn walk<F: Frames>(
     frames: &mut F,
     capability: Capability,
@@ -91,7 +91,7 @@ pub fn walk<F: Frames>(
     }
 }
 
-// The page with an index in an address space.
+// Finds the page with an index in an address space.
 #[tactic(auto, unfolding(model::specs::Walk::walk))]
 fn find<F: Frames>(
     frames: &mut F,
@@ -128,7 +128,7 @@ fn find<F: Frames>(
     }
 }
 
-// The page with an index in a tree.
+// Finds the page with an index in a tree.
 #[tactic(auto, using(crate::proofs::Known::still_sound, crate::proofs::Known::still_held))]
 fn descend<F: Frames>(
     frames: &mut F,
@@ -168,7 +168,7 @@ fn descend<F: Frames>(
     }
 }
 
-// What the node of a tree holds on the way to the page with an index.
+// Returns the capability in the node of a tree that leads to the page with an index.
 fn next_slot<F: Frames>(frames: &mut F, tree: Tree, index: u64) -> Result<Capability, Failed>
     requires usable { F.IsUsable frames.old }
     requires sound { AreSound (F.parts frames.old) }
@@ -192,7 +192,7 @@ fn bits(levels: u8) -> u32
     5 * u32::from(levels)
 }
 
-// How many pages a tree of that height may have.
+// Returns how many pages a tree of this height may have.
 #[tactic(auto, using(crate::proofs::Paths::bits_power, crate::proofs::Paths::fits_64, crate::proofs::Paths::positive))]
 fn page_count(height: u8) -> u64
     requires { height ≤ 4 }
@@ -202,7 +202,7 @@ fn page_count(height: u8) -> u64
     1 << bits(height)
 }
 
-// The slot on the way to a page, in the nodes that have `level` levels below them.
+// Returns the slot that leads to a page, in a node that has `level` levels below it.
 #[tactic(auto, using(crate::proofs::Paths::bits_power))]
 fn digit(index: u64, level: u8) -> usize
     requires { level < 4 }

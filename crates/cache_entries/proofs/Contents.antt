@@ -19,7 +19,7 @@ read : (ks : List Kind) (ps : List (Option (List ℕ))) (ns : List (Option (List
 unfolding contents_in
 read ks ps ns k = grind (arith, nat_tests, get_or-map-range_with_len, get_or_past, length_contents)
 
--- what a body of a kind has
+-- a body of a kind has the words or slots of this kind
 word_room : (a : Kind) (w : List ℕ) (s : Option (List Cap)) → words_are_of a ≡ true → HasRoom a (Some w) s
 word_room a w s is = grind (arith, nat_tests)
 
@@ -56,7 +56,7 @@ module _ (slot : ℕ) (c : Cap) where
       with_slot_in (content_in a o s) slot c ≡ content_in a o s
   no_slot a o s none = grind (arith, nat_tests)
 
--- slots of a content from one on
+-- the slots of a content from an index on
 slots_in : (o : Option (List ℕ)) (s : List Cap) (i : ℕ) (cs : List Cap) (a : Kind) → slots_are_of a ≡ true →
     with_slots_in (content_in a o (Some s)) i cs ≡ content_in a o (Some (slots_from s i cs))
 slots_in o s i [] a is = refl

@@ -24,7 +24,7 @@ module _ {uses stamps : List ℕ} (are : AreStamped uses stamps) {us : List ℕ}
   pub number_known : n < length stamps
   number_known = are.known n was_used
 
-  -- and is used again after it, if its stamp is there
+  -- a use at an index is followed by another one of its number if the number's stamp is later
   pub used_behind : (j : ℕ) → j ≡ get_or stamps n j → i < j → is_member (drop (i + 1) us) (get_or us i 0) ≡ true
   used_behind j stamp after =
       let stamp_is : j ≡ get_or stamps n 0 = stamp ∙ get_or_default stamps n j 0 number_known in
@@ -93,7 +93,7 @@ module _ (l : LogState) (o : OrderState) (are : IsLogOf l o) where
   pub settled_members : (p : OrderState) → p ≡ used_all l.uses o → (n : ℕ) → is_member p.numbers n ≡ is_member o.numbers n
   settled_members p is n = ap (λ (q : OrderState). is_member q.numbers n) is ∙ member_in_turn l.uses o.numbers n are.listed
 
-  -- one use more
+  -- adding one use to a log
   pub logged : (m : LogState) (n : ℕ) → is_member o.numbers n ≡ true →
       m ≡ record { uses = l.uses ++ n ∷ []; count = l.count; most = l.most } → IsLogOf m o
   logged m n here is = rw is (record { listed = listed_end l.uses o.numbers n are.listed here; count = are.count; some = are.some })

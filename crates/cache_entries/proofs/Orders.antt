@@ -90,7 +90,7 @@ either_of m ms n is = elim (or_cases (nat_eq n m) (is_member ms n) is) [ inl sam
 pub not_here : (m : ℕ) (ms : List ℕ) (n : ℕ) → is_member (m ∷ ms) n ≡ false → (n ≢ m) × (is_member ms n ≡ false)
 not_here m ms n none = (λ same. true≢false (sym (member_head n m ms same) ∙ none), (or_parts (nat_eq n m) (is_member ms n) none).1)
 
--- what stands in a list is a member
+-- a number at an index of a list is a member
 pub listed_member : (ns : List ℕ) (i n : ℕ) → slice_get ns i ≡ Some n → is_member ns n ≡ true
 listed_member ns i n at = any_passes_from_place (nat_eq n) ns i n at (eq-eqb n n refl)
 
@@ -110,7 +110,7 @@ in_behind front ns n is = list_any-append (nat_eq n) front ns ∙ or_right (is_m
 pub in_front : (k : ℕ) (ns : List ℕ) (n : ℕ) → is_member (take k ns) n ≡ true → is_member ns n ≡ true
 in_front k ns n is = cc (take-append-drop k ns, list_any-append (nat_eq n) (take k ns) (drop k ns))
 
--- a list with a number at its end has the members of one with it in front
+-- adding a number at the end of a list gives the same members as adding it in front
 pub member_end : (ns : List ℕ) (n m : ℕ) → is_member (ns ++ n ∷ []) m ≡ is_member (n ∷ ns) m
 member_end [] n m = refl
 member_end (k ∷ ns) n m = ap (λ (t : Bool). nat_eq m k || t) (member_end ns n m) ∙ swapped (nat_eq m k) (nat_eq m n)
@@ -126,7 +126,7 @@ without_here n m ms same = ap (λ (t : Bool). cond t ms (m ∷ without n ms)) (e
 pub without_tail : (n m : ℕ) (ms : List ℕ) → n ≢ m → without n (m ∷ ms) ≡ m ∷ without n ms
 without_tail n m ms other = ap (λ (t : Bool). cond t ms (m ∷ without n ms)) (ne_eqb n m other)
 
--- a number more, and one less
+-- the length of a list with a number more or less
 pub length_without : (n : ℕ) (ns : List ℕ) → is_member ns n ≡ true → length (without n ns) + 1 ≡ length ns
 length_without n [] is = absurd (true≢false (sym is))
 length_without n (m ∷ ms) is = go (nat_eq n m) is (length_without n ms)
@@ -151,6 +151,6 @@ differ_without n (m ∷ ms) once = grind (arith, nat_tests, still, differ_withou
 pub not_yet : (keys : List ℕ) (k : ℕ) → ((p : ℕ) → is_member keys p ≡ true → p < k) → is_member keys k ≡ false
 not_yet keys k known = false_from_ne_true (is_member keys k) (λ is. omega (arith, known k is))
 
--- one more key, greater than all others
+-- one more key, which is greater than all others
 pub filled_more : (keys : List ℕ) (k : ℕ) → IsFilled keys k → IsFilled (k ∷ keys) (k + 1)
 filled_more keys k is = grind (arith, nat_tests, not_yet, member_tail)

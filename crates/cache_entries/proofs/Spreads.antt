@@ -13,7 +13,7 @@ use Rattle.cache_entries.proofs.Recent.{front_apart, front_stays}
 
 -- ---- the first members of a list
 
--- the first ones, once one of them is taken out
+-- the first numbers after one of them was removed
 front_used : (p : ℕ) (ns : List ℕ) (k : ℕ) → is_member (take (suc k) ns) p ≡ true → take k (without p ns) ≡ without p (take (suc k) ns)
 front_used p [] k is = absurd (true≢false (sym is))
 front_used p (m ∷ ms) zero is = sym (without_here p m [] (elim (either_of m [] p is)
@@ -151,7 +151,7 @@ module _ {keys numbers places : List ℕ} {count : ℕ} (are : ArePlaced keys nu
     apart = grind (arith, nat_tests, placed_at, place_of);
   }
 
-  -- the same of an order that is seen as a value
+  -- the same for an order that is given as a value
   module _ {s : OrderState} (view : order_of keys numbers places count ≡ s) where
     pub spread_is : AreSpread s
     spread_is = subst AreSpread view spread
@@ -199,7 +199,7 @@ module _ {keys numbers places : List ℕ} {count : ℕ} (are : ArePlaced keys nu
     pub known_place : (q : ℕ) → q ≡ get_or places n q → q ≡ place n
     known_place q is = is ∙ get_or_default places n q most (place_known n below)
 
-    -- it is used last
+    -- after its use the number is the last one used
     module _ {s : OrderState} (view : order_of keys numbers places count ≡ s) where
       pub promoted_last : (after : List ℕ) → after ≡ place n ∷ without (place n) keys → Spreads after numbers places count (used_last n s)
       promoted_last after is =
@@ -217,7 +217,7 @@ module _ {keys numbers places : List ℕ} {count : ℕ} (are : ArePlaced keys nu
                 ∙ ap (used_last n) view;
           }
 
-      -- its place is free
+      -- after a removal the place is free
       pub removed : (after : List ℕ) (c : ℕ) → after ≡ without (place n) keys ++ place n ∷ [] → c + 1 ≡ count →
           Spreads after numbers (set places n most) c (record {
             numbers = without n s.numbers;
@@ -341,7 +341,7 @@ module _ {keys numbers places : List ℕ} {count : ℕ} (are : ArePlaced keys nu
                 } in t) view;
           }
 
-  -- the number of the place that was used longest ago, where all have one
+  -- the number at the place used longest ago, if all places have a number
   pub least_number : {s : OrderState} → order_of keys numbers places count ≡ s → s.most ≤ length s.numbers → (p n : ℕ) →
       used_longest_ago keys ≡ Some p → n ≡ get_or numbers p n →
       Some n ≡ used_longest_ago s.numbers

@@ -61,7 +61,7 @@ module _ (o : OrderState) {ps ks : List (Content Cap)} {ms : List Bool} (are : A
         }
         in u) view
 
-    -- it holds something else now
+    -- the entry with another present body
     pub present_put : (change : Content Cap → Content Cap) → entries_of o (set ps p (change (held_at ps p))) ks ms
         ≡ with_entry_of (changing change) n s
     present_put change =
@@ -118,7 +118,7 @@ module _ (o : OrderState) {ps ks : List (Content Cap)} {ms : List Bool} (are : A
       ∙ sym (get_map (option_map entry) o.places m None None refl)))
       ∙ ap (with_new n c) view
 
-  -- a number loses its place
+  -- the entries after a number lost its place
   pub left : (n : ℕ) → is_some (entry_at s.at n) ≡ true →
       entries_of (record { numbers = without n o.numbers; places = set o.places n None; most = o.most }) ps ks ms ≡ without_entry n s
   left n some =

@@ -7,7 +7,7 @@ use Rattle.std.proofs.Common.{◌≡◌, ◌≢◌, ◌+◌, ◌-◌, ◌∷◌,
 use Rattle.cache_entries.proofs.Orders.{used_keys, unused_keys, differ_without, gone, length_without, member_head, member_tail, still, in_tail, either_of}
 use Rattle.cache_entries.proofs.Orders.{not_here, member_end, without_here, without_tail}
 
--- a number that is listed keeps its place among the members when it is used
+-- using a number of a list leaves the members of the list
 pub member_used : (n : ℕ) (ns : List ℕ) (m : ℕ) → is_member ns n ≡ true → is_member (n ∷ without n ns) m ≡ is_member ns m
 member_used n ns m is = grind (arith, nat_tests, member_head, member_tail, still)
 
@@ -45,7 +45,7 @@ pub used_at_end : (ns : List ℕ) (n : ℕ) (order : List ℕ) → used_in_turn 
 used_at_end [] n order = refl
 used_at_end (m ∷ ms) n order = used_at_end ms n (m ∷ without m order)
 
--- the uses of others leave it where it is
+-- using other numbers leaves this one where it is
 pub without_in_turn : (n : ℕ) (ns order : List ℕ) → is_member ns n ≡ false →
     without n (used_in_turn ns order) ≡ used_in_turn ns (without n order)
 without_in_turn n [] order none = refl
@@ -56,7 +56,7 @@ without_in_turn n (m ∷ ms) order none =
 
 -- ---- used again in the same turn
 
--- what is used later in turn needn't have been used before
+-- uses in turn don't depend on an earlier use of a number that is used again later
 used_later : (n : ℕ) (ns xs ys : List ℕ) → is_member ns n ≡ true → without n xs ≡ without n ys → used_in_turn ns xs ≡ used_in_turn ns ys
 used_later n [] xs ys is same = absurd (true≢false (sym is))
 used_later n (m ∷ ms) xs ys is same = elim (cases_eq n m) [
@@ -79,7 +79,7 @@ pub all_at_end : (ns : List ℕ) (n : ℕ) (s : OrderState) → used_all (ns ++ 
 all_at_end [] n s = refl
 all_at_end (m ∷ ms) n s = all_at_end ms n (used_last m s)
 
--- one more of a list is used
+-- using one more number of a list
 pub one_more : (s t : List ℕ) (ns : List ℕ) (i : ℕ) → i < length ns → t ≡ used_in_turn (take i ns) s →
     get_or ns i 0 ∷ without (get_or ns i 0) t ≡ used_in_turn (take (i + 1) ns) s
 one_more s t ns i below is = cc (used_at_end (take i ns) (get_or ns i 0) s, take_more ns i 0 below)
@@ -110,17 +110,17 @@ used_again n ns o later =
     ap (λ (xs : List ℕ). let p : OrderState = record { numbers = xs; places = o.places; most = o.most } in p)
     (used_later n ns (n ∷ without n o.numbers) o.numbers later (without_here n n (without n o.numbers) refl))
 
--- one use of a log moves to the order
+-- moving one use of a log to the order
 pub settles : (uses : List ℕ) (i : ℕ) (o : OrderState) → i < length uses →
     used_all (drop i uses) o ≡ used_all (drop (i + 1) uses) (used_last (get_or uses i 0) o)
 settles uses i o below = at_drop_more (λ (us : List ℕ). used_all us o) uses i 0 below
 
--- or is left out
+-- leaving out a use that is followed by another one of its number
 pub left_out : (uses : List ℕ) (i : ℕ) (o : OrderState) → i < length uses → is_member (drop (i + 1) uses) (get_or uses i 0) ≡ true →
     used_all (drop i uses) o ≡ used_all (drop (i + 1) uses) o
 left_out uses i o below later = settles uses i o below ∙ used_again (get_or uses i 0) (drop (i + 1) uses) o later
 
--- a number is new in the order, and used after those of the log
+-- a number that is new in the order, and is used after all those of the log
 pub new_last : (uses order : List ℕ) (n : ℕ) → is_member uses n ≡ false → used_in_turn (uses ++ n ∷ []) (n ∷ order)
     ≡ n ∷ used_in_turn uses order
 new_last uses order n none =

@@ -14,7 +14,7 @@ void_from_start slots are = (
       ∙ get_or-replicate 32 i void_held void_held within,
 )
 
--- slots are void that are so up to an index, and from one before it on
+-- slots are all void if those before an index are, and those from an earlier index on
 pub all_void : (slots : List Cap) (end index : ℕ) → length slots ≡ 32 → end ≤ index →
     ((i : ℕ) → i < index → get_or slots i void_held ≡ void_held) → AreVoidFrom end slots → slots ≡ replicate 32 void_held
 all_void slots end index count past before from =
@@ -60,7 +60,7 @@ module _ {ns : List (Option (List Cap))} {ends : List ℕ} (are : AreEnds ns end
   pub all_cleared : (k : ℕ) → k < length ns → AreEnds (set ns k (Some (replicate 32 void_held))) (set ends k 0)
   all_cleared k below = ends_put k 0 (replicate 32 void_held) below (void_from_start (replicate 32 void_held) refl)
 
-  -- one slot is set, and no other after the new end
+  -- setting one slot before the new end
   pub one_put : (k i e : ℕ) (c : Cap) → IsSome (item_at ns k) → i < 32 → get_or ends k 0 ≤ e → i < e → e ≤ 32 →
       AreEnds (set ns k (Some (set (slots_at ns k) i c))) (set ends k e)
   one_put k i e c there within old new few =

@@ -1,4 +1,4 @@
-// The bodies of objects by place, in reserved memory.
+// The bodies of objects, by place, in reserved memory.
 ghost use Rattle.std.specs.Prelude.{◌≡◌, ◌<◌, Some, None, length, replicate, slice_set, IfOk};
 ghost use Rattle.capability.specs.Objects.{changed_root, with_root_in, with_slots_in};
 ghost use Rattle.capability.specs.Parts.{fresh_content};
@@ -26,7 +26,7 @@ pub(crate) enum Kind {
     Bank { limit: u64 },
 }
 
-/// A body at each place, in memory reserved for any kind.
+/// A body at each place, in memory reserved for a body of any kind.
 #[derive(Drop)]
 pub(crate) struct Bodies {
     kinds: Vec<Kind>,
@@ -48,7 +48,7 @@ impl Model for Bodies {
     ghost invariant = { λ b. AreBodies b.kinds.items b.pages b.nodes };
 }
 
-// `most` free kinds. Fails only if memory runs out.
+// Returns `most` free kinds. Fails only if memory runs out.
 fn free_kinds(alloc: Global, most: usize) -> Result<Vec<Kind>, AllocError>
     ensures { IfOk result (λ kinds. kinds.items ≡ replicate most Kind.Free) }
 {
@@ -83,7 +83,7 @@ fn clear_page(pages: &mut SparseVec<Page>, place: usize)
     }
 }
 
-// The kind of a content.
+// Returns the kind of a content.
 fn kind_behind(content: ContentRef<'_>) -> Kind
     ensures { result ≡ kind_of (content_behind content.entry) }
 {
@@ -149,7 +149,7 @@ fn put_arrays(pages: &mut SparseVec<Page>, nodes: &mut Nodes, place: usize, cont
     }
 }
 
-// The kind of a new object.
+// Returns the kind of a new object.
 fn fresh_kind(fresh: Fresh) -> Kind
     ensures { result ≡ kind_of (fresh_content void_held fresh) }
 {
@@ -187,7 +187,7 @@ fn clear_arrays(pages: &mut SparseVec<Page>, nodes: &mut Nodes, place: usize, fr
 impl Bodies {
     ghost use Rattle.model.specs.declared.object.Content.TheVariants as content;
 
-    /// `most` free places, with memory for a body at each. Fails only if memory runs out.
+    /// Returns `most` free places, with memory for a body at each. Fails only if memory runs out.
     pub(crate) fn new(alloc: Global, most: usize) -> Result<Bodies, AllocError>
         ensures { IfOk result (λ bodies. bodies ≡ replicate most content.Free) }
     {
@@ -269,7 +269,7 @@ impl Bodies {
         change_kind(&mut self.kinds[place], change);
     }
 
-    /// Replaces the body at a place by a new object's.
+    /// Replaces the body at a place by that of a new object.
     #[tactic(auto, using(crate::proofs::Contents::places_within, crate::proofs::Contents::body_edits))]
     pub(crate) fn claim(&mut self, place: usize, fresh: Fresh)
         requires { place < length self.old }

@@ -1,4 +1,4 @@
-// Entries in the order of their last use.
+// Cache entries in the order of their last use.
 ghost use Rattle.std.specs.Prelude.{◌≡◌, ◌↔◌, ℕ, ◌<◌, ◌≤◌, [], Some, None, true, false, length, replicate, is_some};
 ghost use Rattle.std.specs.Prelude.{nat_le, option_map, take, IfOk, IsSome};
 ghost use Rattle.std.specs.List.{Contains};
@@ -20,14 +20,13 @@ use std::alloc::{AllocError, Global};
 use std::marker::Model;
 use std::num::NonZeroUsize;
 
-/// Entries by number, no more than a capacity, in the order of their last use. Only `new` and `renew`
-/// take memory.
+/// Cache entries by number, at most a capacity, in the order of their last use. Only `new` and `renew` take memory.
 #[derive(Drop)]
 pub struct Entries {
     order: UseOrder,
     presents: Bodies,
     kepts: Bodies,
-    /// By place: whether it has a frozen copy, in `kepts`.
+    /// By place: whether the entry there has a frozen copy, in `kepts`.
     marks: Vec<bool>,
 }
 
@@ -42,8 +41,8 @@ impl Model for Entries {
 }
 
 impl Entries {
-    /// An empty cache for numbers below `count`, with memory for `capacity` entries. No later call
-    /// takes memory. Fails only if memory runs out.
+    /// Returns an empty cache for numbers below `count`, with memory for `capacity` entries. Later calls on it take
+    /// no memory. Fails only if memory runs out.
     pub fn new(alloc: Global, capacity: Capacity, count: usize) -> Result<Entries, AllocError>
         ensures none { IfOk result (λ entries. entries
             ≡ record { at = replicate count None; order = []; most = capacity }) }
@@ -68,8 +67,8 @@ impl Entries {
         }
     }
 
-    /// The same as `new`, in the memory of `spare` if that is for as many entries and numbers. Takes
-    /// `spare`. Fails only if memory runs out.
+    /// Returns an empty cache, as `new` does, but in the memory of `spare` if that has the same capacity and count.
+    /// Leaves `None` in `spare`. Fails only if memory runs out.
     pub fn renew(
         alloc: Global,
         spare: &mut Option<Entries>,
@@ -89,7 +88,7 @@ impl Entries {
         Entries::new(alloc, capacity, count)
     }
 
-    /// Whether it is for `capacity` entries of the numbers below `count`.
+    /// Whether this cache has this capacity, for the numbers below `count`.
     pub fn fits(&self, capacity: Capacity, count: usize) -> bool
         ensures { result ≡ true ↔ ((self.now.most ≡ capacity) × (length self.now.at ≡ count)) }
     {
@@ -206,7 +205,7 @@ impl Entries {
         self.presents.put(at, content);
     }
 
-    /// Replaces the present body of an entry by a new object's.
+    /// Replaces the present body of an entry by that of a new object.
     #[tactic(auto, using(crate::proofs::Stored::present_put))]
     pub fn claim(&mut self, number: u64, fresh: Fresh)
         requires { IsSome (entry_at self.old.at number) }
@@ -248,8 +247,8 @@ impl Entries {
         self.marks[place] = false;
     }
 
-    /// Adds an entry with a copy of `content` and no frozen copy. Its number is then the one used
-    /// last. The number must have no entry, and the cache must not be full.
+    /// Adds an entry with a copy of `content` and no frozen copy. The entry becomes the most recently used. The
+    /// number must have no entry, and the cache must not be full.
     #[tactic(auto, using(crate::proofs::Stored::entered))]
     pub fn insert(&mut self, number: u64, content: ContentRef<'_>)
         requires known { number < length self.old.at }
@@ -301,7 +300,7 @@ impl Entries {
         true
     }
 
-    /// The number whose entry was used longest ago. The cache must be full.
+    /// Returns the number whose entry was used longest ago. The cache must be full.
     pub fn least(&mut self) -> Option<u64>
         requires { self.old.most ≤ length self.old.order }
         ensures least { result ≡ used_longest_ago self.old.order }

@@ -1,4 +1,4 @@
-//! Objects in memory, no more than a capacity, by number and in the order of their last use.
+//! Cache entries: objects in memory, at most a capacity, by number and in the order of their last use.
 #![tactic(auto)]
 
 mod bodies;

@@ -1,4 +1,4 @@
-// The slots of nodes and the registers of annexes by place, in reserved memory.
+// The slots of nodes and the registers of annexes, by place, in reserved memory.
 ghost use Rattle.std.specs.Prelude.{◌≡◌, ◌<◌, ◌≤◌, None, Some, length, replicate, slice_set, List, IfOk, IsSome};
 ghost use Rattle.model.specs.Frame.{void_held};
 ghost use Rattle.model.specs.declared.capability.Cap.{Cap as CapValue};
@@ -14,7 +14,7 @@ use std::marker::Model;
 #[derive(Drop)]
 pub(crate) struct Nodes {
     slots: SparseVec<[Cap; SLOTS]>,
-    /// By place: from which slot on all are void, so `clear` writes only those before it.
+    /// By place: an index from which on all slots are void. `clear` writes only the slots before it.
     ends: Vec<usize>,
 }
 
@@ -30,7 +30,7 @@ impl Model for Nodes {
     ghost invariant = { λ n. AreEnds n.slots n.ends.items };
 }
 
-// Makes the slots before `end` void. Those from `end` on are void already.
+// Makes the slots before `end` void. The others must be void already.
 fn clear_before(slots: &mut [Cap], end: usize)
     requires count { length slots.old ≡ 32 }
     requires void { AreVoidFrom end slots.old }
@@ -41,7 +41,7 @@ fn clear_before(slots: &mut [Cap], end: usize)
     }
 }
 
-// Sets the slots from 28 on, at most four.
+// Sets the slots from index 28 on; `held` has at most four.
 fn put_last(slots: &mut [Cap; SLOTS], held: &[Cap])
     requires { length held.now ≤ 4 }
     ensures { slots.new ≡ slots_from slots.old 28 held.now }
@@ -51,7 +51,7 @@ fn put_last(slots: &mut [Cap; SLOTS], held: &[Cap])
     }
 }
 
-// Makes all slots void.
+// Makes all slots void. Those from `end` on must be void already.
 fn clear_slots(slots: &mut [Cap; SLOTS], end: usize)
     requires { AreVoidFrom end slots.old }
     ensures { slots.new ≡ replicate 32 void_held }
@@ -59,7 +59,7 @@ fn clear_slots(slots: &mut [Cap; SLOTS], end: usize)
     clear_before(&mut slots[..], end);
 }
 
-// Makes all slots at a place void.
+// Makes all slots at a place void. Those from `end` on must be void already.
 fn clear_place(slots: &mut SparseVec<[Cap; SLOTS]>, place: usize, end: usize)
     requires within { place < length slots.old }
     requires void { (s : List CapValue) → item_at slots.old place ≡ Some s → AreVoidFrom end s }
@@ -95,7 +95,7 @@ fn set_place(slots: &mut SparseVec<[Cap; SLOTS]>, place: usize, index: usize, he
     slots[index] = held;
 }
 
-// Sets the last slots at a place, at most four.
+// Sets the slots from index 28 on at a place; `held` has at most four.
 #[tactic(auto, using(crate::proofs::Voids::slots_are))]
 fn set_place_last(slots: &mut SparseVec<[Cap; SLOTS]>, place: usize, held: &[Cap])
     requires there { IsSome (item_at slots.old place) }
@@ -106,7 +106,7 @@ fn set_place_last(slots: &mut SparseVec<[Cap; SLOTS]>, place: usize, held: &[Cap
 }
 
 impl Nodes {
-    /// `most` places without slots, and memory for 32 at each. Fails only if memory runs out.
+    /// Returns `most` places without slots, and memory for 32 slots at each. Fails only if memory runs out.
     #[tactic(auto, using(crate::proofs::Voids::no_ends, collections::proofs::Positions::filled))]
     pub(crate) fn new(alloc: Global, most: usize) -> Result<Nodes, AllocError>
         ensures { IfOk result (λ nodes. nodes ≡ replicate most None) }
@@ -117,7 +117,7 @@ impl Nodes {
         Ok(Nodes { slots, ends })
     }
 
-    /// The slots of a place that has some.
+    /// Returns the slots of a place that has some.
     pub(crate) fn item(&self, place: usize) -> &[Cap; SLOTS]
         requires { IsSome (item_at self.now place) }
         ensures { item_at self.now place ≡ Some result.now }
@@ -157,7 +157,7 @@ impl Nodes {
         self.ends[place] = self.ends[place].max(index + 1);
     }
 
-    /// Sets the last slots, at most four, at a place that has some.
+    /// Sets the slots from index 28 on at a place that has slots; `held` has at most four.
     #[tactic(auto, using(crate::proofs::Voids::all_put, crate::proofs::Voids::end_within))]
     pub(crate) fn set_last(&mut self, place: usize, held: &[Cap])
         requires there { IsSome (item_at self.old place) }

@@ -7,8 +7,8 @@ use std::hash::Hasher;
 // 2^64 over the golden ratio, and odd.
 const MULTIPLIER: u64 = 0x9e37_79b9_7f4a_7c15;
 
-/// Hashes 8 bytes, as one number, by one multiplication (Fibonacci hashing). Places are few and close
-/// together, so it spreads them well. If there aren't 8 bytes, it hashes their count.
+/// Hashes 8 bytes, as one number, by one multiplication (Fibonacci hashing). Places are few and close together, so
+/// this spreads them well. Of any other number of bytes only that number is hashed.
 #[derive(Clone, Copy)]
 pub struct NumberHasher {
     hash: u64,
@@ -38,7 +38,7 @@ impl Hasher for NumberHasher {
     }
 }
 
-// The number that is hashed by these bytes.
+// Returns the number that is hashed for these bytes.
 fn number_of(bytes: &[u8]) -> u64
     ensures { result ≡ number_in bytes.now }
 {

@@ -17,14 +17,13 @@ type UseList = LruCache<usize, (), BuildHasherDefault<NumberHasher>>;
 
 /// Numbers in the order of their last use, and a place for each.
 ///
-/// The order has all places from the start, so only `new` takes memory. Places without a number come
-/// last.
+/// The order contains all places from the start, so only `new` takes memory. Places without a number come last.
 #[derive(Drop)]
 pub(crate) struct Places {
     order: UseList,
-    /// By place: its number. For a place without one the value has no meaning.
+    /// By place: its number. For a place without a number the value has no meaning.
     numbers: Vec<u64>,
-    /// By number: its place, or `numbers.len()` if it has none.
+    /// By number: its place, or `numbers.len()` if it has no place.
     places: Vec<usize>,
     /// How many places have a number.
     count: usize,
@@ -41,7 +40,7 @@ impl Model for Places {
     ghost invariant = { λ p. ArePlaced (keys_of p.order.entries) p.numbers.items p.places.items p.count };
 }
 
-// All places below `most`, in some order. Fails only if memory runs out.
+// Returns a list of all places below `most`, in some order. Fails only if memory runs out.
 fn all_places(alloc: Global, most: NonZeroUsize) -> Result<UseList, AllocError>
     ensures { IfOk result (λ order. IsFilled (keys_of order.entries) (non_zero_usize_get most)) }
 {
@@ -55,7 +54,7 @@ fn all_places(alloc: Global, most: NonZeroUsize) -> Result<UseList, AllocError>
     Ok(order)
 }
 
-// Puts all places below `most` back into their first order: place 0 is the one used longest ago.
+// Puts all places below `most` back into their first order, in which place 0 was used longest ago.
 #[tactic(auto, using(crate::proofs::Turns::filled_used))]
 fn restore_order(order: &mut UseList, most: usize)
     ensures { (count : ℕ) → IsFilled (keys_of order.old.entries) count → IsFilled (keys_of order.new.entries) count }
@@ -65,7 +64,7 @@ fn restore_order(order: &mut UseList, most: usize)
     }
 }
 
-// The place used longest ago.
+// Returns the place used longest ago.
 fn last_place(order: &UseList) -> usize
     requires { 0 < length (keys_of order.now.entries) }
     ensures { used_longest_ago (keys_of order.now.entries) ≡ Some result }
@@ -77,7 +76,7 @@ fn last_place(order: &UseList) -> usize
 }
 
 impl Places {
-    /// An empty order for at most `most` of the numbers below `count`. Fails only if memory runs out.
+    /// Returns an empty order for at most `most` of the numbers below `count`. Fails only if memory runs out.
     pub(crate) fn new(alloc: Global, most: NonZeroUsize, count: usize) -> Result<Places, AllocError>
         ensures { IfOk result (λ places. places
             ≡ record { numbers = []; places = replicate count None; most = non_zero_usize_get most }) }
@@ -102,7 +101,7 @@ impl Places {
         self.numbers.len() == most && self.places.len() == count
     }
 
-    /// Frees all places. The places are then in their first order.
+    /// Frees all places, and puts them back into their first order.
     pub(crate) fn clear(&mut self)
         ensures { self.new ≡ record {
           numbers = [];
@@ -141,7 +140,7 @@ impl Places {
         self.places[number as usize] < self.numbers.len()
     }
 
-    /// Whether a number has a place. The number may be any.
+    /// Whether a number has a place. The number may be out of range.
     #[tactic(auto, using(crate::proofs::Spreads::known_is, crate::proofs::Logs::unlisted))]
     pub(crate) fn lists(&self, number: u64) -> bool
         ensures { result ≡ is_member self.now.numbers number }
@@ -169,8 +168,8 @@ impl Places {
         self.order.promote(&place);
     }
 
-    /// Gives the place used longest ago to a number that has none, and marks it as used last. Not all
-    /// places may have a number.
+    /// Gives the place used longest ago to a number that has none, and marks it as used last. Some place must be
+    /// free.
     pub(crate) fn insert(&mut self, number: u64) -> usize
         requires known { number < length self.old.places }
         requires absent { place_at self.old.places number ≡ None }
@@ -207,7 +206,7 @@ impl Places {
         self.count -= 1;
     }
 
-    /// The number used longest ago. All places must have a number.
+    /// Returns the number used longest ago. All places must have a number.
     #[tactic(auto, using(crate::proofs::Spreads::least_number, crate::proofs::Spreads::spread_is))]
     pub(crate) fn least(&self) -> u64
         requires { self.now.most ≤ length self.now.numbers }

@@ -1,4 +1,4 @@
-// The uses that an order doesn't have yet.
+// A log of uses that are not yet entered in an order.
 ghost use Rattle.std.specs.Prelude.{◌≡◌, ◌+◌, ◌<◌, [], ◌∷◌, ◌++◌, true, false, drop, length, slice_index, IfOk};
 ghost use Rattle.model.specs.Revoke.{is_member};
 
@@ -9,8 +9,7 @@ use std::marker::Model;
 #[derive(Drop)]
 pub(crate) struct UseLog {
     uses: Vec<u64>,
-    /// By number: the index of its last use. For a number that the log doesn't have the value has no
-    /// meaning.
+    /// By number: the index of its last use. For a number that isn't in the log the value has no meaning.
     stamps: Vec<usize>,
 }
 
@@ -30,7 +29,7 @@ impl Model for UseLog {
 }
 
 impl UseLog {
-    /// An empty log for at most `most` uses of the numbers below `count`. Fails only if memory runs out.
+    /// Returns an empty log for at most `most` uses of the numbers below `count`. Fails only if memory runs out.
     pub(crate) fn new(alloc: Global, most: usize, count: usize) -> Result<UseLog, AllocError>
         ensures { IfOk result (λ log. log ≡ record { uses = []; count = count; most = most }) }
     {
@@ -54,14 +53,14 @@ impl UseLog {
         self.uses.len()
     }
 
-    /// Whether there is no memory for one more use.
+    /// Whether the memory for uses is full.
     pub(crate) fn is_full(&self) -> bool
         ensures { result ≡ false → length self.now.uses < self.now.most }
     {
         self.uses.len() >= self.uses.capacity()
     }
 
-    /// Whether a number was used.
+    /// Whether the log has a use of a number.
     pub(crate) fn has(&self, number: u64) -> bool
         requires { number < self.now.count }
         ensures { result ≡ is_member self.now.uses number }
@@ -70,7 +69,7 @@ impl UseLog {
         stamp < self.uses.len() && self.uses[stamp] == number
     }
 
-    /// The number of a use.
+    /// Returns the number that was used at an index.
     pub(crate) fn number(&self, index: usize) -> u64
         requires { index < length self.now.uses }
         ensures { result ≡ slice_index self.now.uses index }
@@ -78,7 +77,7 @@ impl UseLog {
         self.uses[index]
     }
 
-    /// Whether the number of a use has a later one. Then the earlier doesn't matter.
+    /// Whether the log has a later use of the number at an index. Then the use at this index doesn't matter.
     pub(crate) fn is_outdated(&self, index: usize) -> bool
         requires { index < length self.now.uses }
         ensures { result ≡ true

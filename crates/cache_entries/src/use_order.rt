@@ -12,16 +12,16 @@ use std::alloc::{AllocError, Global};
 use std::marker::Model;
 use std::num::NonZeroUsize;
 
-// How many uses the log has memory for, by place.
+// For how many uses the log has memory, for each place.
 const USES_PER_PLACE: usize = 16;
 
-// How many uses move to the order before an eviction.
+// The most uses that `settle_few` moves to the order before an eviction.
 const FEW_USES: usize = 8;
 
 /// Numbers in the order of their last use, and a place for each.
 ///
-/// A use is only added to a log. The order takes them over when the log is full. To find the number
-/// used longest ago it takes over those of the numbers that it comes across.
+/// A use is only appended to a log. All uses move to the order once the log is full. A search for the number used
+/// longest ago moves only the uses of the numbers that it comes across.
 #[derive(Drop)]
 pub(crate) struct UseOrder {
     order: Places,
@@ -66,7 +66,7 @@ fn spare_use(order: &mut Places, log: &mut UseLog)
     }
 }
 
-// Leaves no use of a number in the log.
+// If the log has a use of a number, moves all uses from the log to the order.
 fn settle_if_used(order: &mut Places, log: &mut UseLog, number: u64)
     requires log { IsLogOf log.old order.old }
     requires known { number < log.old.count }
@@ -79,7 +79,7 @@ fn settle_if_used(order: &mut Places, log: &mut UseLog, number: u64)
     }
 }
 
-// Moves the uses to the order if they are so few that it is cheaper now than later.
+// Moves all uses from the log to the order if there are at most `FEW_USES`: then this is cheaper now than later.
 #[tactic(auto, using(crate::proofs::Logs::settled_full))]
 fn settle_few(order: &mut Places, log: &mut UseLog)
     requires log { IsLogOf log.old order.old }
@@ -93,8 +93,8 @@ fn settle_few(order: &mut Places, log: &mut UseLog)
     }
 }
 
-// The number used longest ago. All places must have a number. A number that the log has may stand
-// anywhere in the order: it moves on.
+// Returns the number used longest ago. All places must have a number. A number with a use in the log may come first
+// in the order too early: it is moved to the end, and the search goes on.
 fn find_least(order: &mut Places, log: &mut UseLog) -> u64
     requires log { IsLogOf log.old order.old }
     requires full { order.old.most ≤ length order.old.numbers }
@@ -118,7 +118,7 @@ fn find_least(order: &mut Places, log: &mut UseLog) -> u64
 impl UseOrder {
     ghost use Rattle.cache_entries.specs.contracts.use_order.UseOrder.{the_row};
 
-    /// An empty order for at most `most` of the numbers below `count`. Fails only if memory runs out.
+    /// Returns an empty order for at most `most` of the numbers below `count`. Fails only if memory runs out.
     pub(crate) fn new(
         alloc: Global,
         most: NonZeroUsize,
@@ -132,7 +132,7 @@ impl UseOrder {
         Ok(UseOrder { order, log })
     }
 
-    /// Whether it is for at most `most` of the numbers below `count`.
+    /// Whether this order is for at most `most` of the numbers below `count`.
     pub(crate) fn fits(&self, most: usize, count: usize) -> bool
         ensures { result ≡ true ↔ ((self.now.most ≡ most) × (length self.now.places ≡ count)) }
     {
@@ -234,8 +234,7 @@ impl UseOrder {
         true
     }
 
-    /// Gives a place to a number that has none, and marks it as used last. Not all places may have a
-    /// number.
+    /// Gives a place to a number that has none, and marks it as used last. Some place must be free.
     pub(crate) fn insert(&mut self, number: u64) -> usize
         requires known { number < length self.old.places }
         requires absent { place_at self.old.places number ≡ None }
@@ -269,7 +268,7 @@ impl UseOrder {
         self.order.remove(number);
     }
 
-    /// The number used longest ago. All places must have a number.
+    /// Returns the number used longest ago. All places must have a number.
     #[tactic(auto, using(crate::proofs::Turns::spread_in_turn))]
     pub(crate) fn least(&mut self) -> Option<u64>
         requires { self.old.most ≤ length self.old.numbers }

@@ -12,14 +12,14 @@ use Rattle.capability.proofs.Edits.{content_agree, current_from, current_held, f
 use Rattle.capability.proofs.FrameLists.{length_objects, object_in, objects_by}
 use Rattle.capability.proofs.Keeping.{frame_later, keepable_at, keepable_count, keepable_from, call_stays_keepable}
 
--- one more where it is raised
+-- a count, with 1 added if it is raised
 abbrev raised : Bool → ℕ → ℕ
 raised b n = if b then n + 1 else n
 
 void_either : (b : Bool) → Void ≡ (if b then Void else Void)
 void_either b = grind (arith, nat_tests)
 
--- two tables: the later one counts one more for the capabilities that go
+-- two tables of headers: the later one has counts raised for the capabilities that become void
 module _ (goes : Capability → Bool) (hs ks : List ObjectHeader) (raises : (w : Capability) →
     current_count ks w ≡ raised (goes w) (current_count hs w)) where
   stale : (c : Cap) → IsCurrent hs c → conveyed ks c ≡ void_where goes (conveyed hs c)
@@ -39,7 +39,7 @@ module _ (goes : Capability → Bool) (hs ks : List ObjectHeader) (raises : (w :
       ≡ map_content (λ d. void_where goes (conveyed hs d)) c
   content_twice c = grind (arith, nat_tests, twice)
 
-  -- what a content conveys later is what it conveyed, without what goes
+  -- the capabilities that a content conveys later are those that it conveyed before, some of them made void
   conveyed_without : (c : Content Cap) → All (IsCurrent hs) (caps_in c) →
       map_content (conveyed ks) c ≡ map_content (void_where goes) (map_content (conveyed hs) c)
   conveyed_without c all = search (content_agree, stale, content_twice)
@@ -90,7 +90,7 @@ module _ (set : List ℕ) (p q : Parts) (given : AreGivenUp set p q) where
   length_rescinded os = length-map (enumerate_from 0 os) (λ e. if is_member set e.0 then free else without (names_member set) e.1)
       ∙ length-enumerate_from 0 os
 
-  -- raising both counts of the members and freeing them is rescinding them
+  -- raising both counts of the members, and freeing them, rescinds them
   pub objects_given_up : AreCurrent (frames_of p) → objects_in q ≡ rescind set (objects_in p)
   objects_given_up current =
       let os = objects_in p in

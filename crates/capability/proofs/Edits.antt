@@ -13,7 +13,7 @@ use Rattle.model.specs.declared.object.Content.TheVariants as content
 use Rattle.capability.proofs.FrameLists.{at_set, content_there, frame_in, frame_past, headers_in, owner_in, set_in}
 use Rattle.capability.proofs.Keeping.{refilled, keepable_at, one_keepable, with_slot_keeps, with_word_keeps}
 
--- functions that agree on what a content holds make the same of it
+-- functions that agree on all items of a list map it to the same list
 pub map_agree : {A B : Type 0} (f g : A → B) (xs : List A) → All (λ x. f x ≡ g x) xs → map f xs ≡ map g xs
 map_agree f g [] each = refl
 map_agree f g (x ∷ xs) each = cc (each 0 x (omega arith), map_agree f g xs (λ k d inside. each (suc k) d (omega arith)))
@@ -21,11 +21,11 @@ map_agree f g (x ∷ xs) each = cc (each 0 x (omega arith), map_agree f g xs (λ
 pub content_agree : (f g : Cap → Capability) (c : Content Cap) → All (λ x. f x ≡ g x) (caps_in c) → map_content f c ≡ map_content g c
 content_agree f g x2 each = grind (arith, nat_tests, map_agree)
 
--- the same counts in another header
+-- two headers with the same counts
 abbrev pub HasCounts : ObjectHeader → ObjectHeader → Type 0
 HasCounts h k = (h.allocations ≡ k.allocations) × (h.calls ≡ k.calls)
 
--- a field that is as it was in the header that is set is as it was in each
+-- if the new header has the same field as the old one, the field is unchanged at each number
 pub field_same : (field : ObjectHeader → ℕ) (hs : List ObjectHeader) (n : ℕ) (h : ObjectHeader) → field h ≡ field (header_at hs n) →
     (m : ℕ) → field (header_at (slice_set hs n h) m) ≡ field (header_at hs m)
 field_same field hs n h same m =
@@ -48,7 +48,7 @@ module _ (hs : List ObjectHeader) (n : ℕ) (h : ObjectHeader) (same : HasCounts
   pub conveyed_same : (c : Cap) → conveyed (slice_set hs n h) c ≡ conveyed hs c
   conveyed_same c = ap (λ (m : ℕ). if nat_lt c.count m then Void else c.what) (current_same c.what)
 
--- what is read of parts that hold another content, and no other header
+-- changing only a content leaves all headers
 pub header_kept : (p : Parts) (n : ℕ) (c : Content Cap) → with_held p n c ≡ with_both p n (header_at p.headers n) c
 header_kept p n c = grind (arith, nat_tests, set-get_or)
 
@@ -95,7 +95,7 @@ module _ (p : Parts) (n : ℕ) (h : ObjectHeader) (c : Content Cap) (inside : n 
       ∙ ap (λ (ks : List ObjectHeader). slice_set (map (object_of ks) (frames_of p)) n (object_of p.headers frame))
       (sym (headers_in p.headers p.contents))
 
-  -- and capabilities that are live or stale stay so
+  -- capabilities stay live or stale
   pub current_set : All (IsCurrent p.headers) (caps_in c) → AreCurrent (frames_of p) → AreCurrent (frames_of (with_both p n h c))
   current_set new current =
       let hs = slice_set p.headers n h in
@@ -125,7 +125,7 @@ pub word_through_map : (f : Cap → Capability) (c : Content Cap) (i word : ℕ)
     map_content f (with_word_in c i word) ≡ with_word_in (map_content f c) i word
 word_through_map f c i word = grind (arith, nat_tests)
 
--- what a content holds after it is live or stale where what it held was
+-- the capabilities of a content after an edit are live or stale if the new one is
 pub slot_current : (hs : List ObjectHeader) (c : Content Cap) (i : ℕ) (held : Cap) → IsCurrent hs held → All (IsCurrent hs) (caps_in c) →
     All (IsCurrent hs) (caps_in (with_slot_in c i held))
 slot_current hs (content.Node slots) i held is all = All-set (IsCurrent hs) slots i held is all
@@ -136,7 +136,7 @@ pub word_current : (hs : List ObjectHeader) (c : Content Cap) (i word : ℕ) →
     All (IsCurrent hs) (caps_in (with_word_in c i word))
 word_current hs c i word all = grind (arith, nat_tests)
 
--- a capability that is given its object's count conveys itself
+-- a capability that gets its object's count conveys itself
 pub live : (hs : List ObjectHeader) (c : Capability) → conveyed hs (record { what = c; count = current_count hs c }) ≡ c
 live hs c = grind (arith, nat_tests)
 
@@ -183,7 +183,7 @@ pub root_keeps : (g : Geometry) (age n : ℕ) (h : ObjectHeader) (change : Root 
     IsKeepable g age n (record { header = h; content = c }) → IsKeepable g age n (record { header = h; content = with_root_in change c })
 root_keeps g age n h change stays c k = grind (arith, nat_tests, refilled)
 
--- another word, state or address space
+-- a root with another word, state or address space
 pub word_kept : (i word : ℕ) (ws : List ℕ) → word < 2 ^ 64 → AreKeptWords 4 ws → AreKeptWords 4 (slice_set ws i word)
 word_kept i word ws fits k = record { count_is = length-set ws i word ∙ k.count_is; each = All-set (λ w. w < 2 ^ 64) ws i word fits k.each }
 

@@ -10,7 +10,7 @@ use Rattle.model.specs.declared.object.Role.TheVariants as role
 use Rattle.capability.specs.declared.present.Fresh.TheVariants as fresh
 use Rattle.capability.proofs.FrameLists.{at_set, frame_in, length_in, pair_at, set_in}
 
--- what can be kept at an age can be at a later one
+-- a count that may be kept at an age may be kept at a later one
 count_later : (age later n : ℕ) → age ≤ later → IsCount age n → IsCount later n
 count_later age later n le c = (omega (arith, c.0), c.1)
 
@@ -23,11 +23,11 @@ slots_later g age later le slots s = grind (arith, nat_tests, All-weaker, follow
 pub frame_later : (g : Geometry) (age later n : ℕ) (f : Frame) → age ≤ later → IsKeepable g age n f → IsKeepable g later n f
 frame_later g age later n f le k = grind (arith, nat_tests, count_later, slots_later, follows_later)
 
--- frames that can be kept at an age can be at a later one
+-- frames that may be kept at an age may be kept at a later one
 pub keepable_later : (g : Geometry) (age later : ℕ) (fs : List Frame) → age ≤ later → AreKeepable g age fs → AreKeepable g later fs
 keepable_later g age later fs le k = grind (arith, nat_tests, frame_later)
 
--- what parts have at a number can be kept, where their frames can; and the other way round
+-- header and content at a number may be kept exactly if the frames may
 pub keepable_count : (g : Geometry) (age : ℕ) (p : Parts) → AreKeepable g age (frames_of p) → length p.headers ≡ object_count g
 keepable_count g age p k = sym (length_in p.headers p.contents) ∙ k.count
 
@@ -43,7 +43,7 @@ keepable_from g age p count each = grind (arith, nat_tests, length_in, frame_in)
 pub keepable_roles : (g : Geometry) (age : ℕ) (fs : List Frame) → AreKeepable g age fs → HaveTheirRoles fs
 keepable_roles g age fs k n = grind (arith, nat_tests, get_or_past)
 
--- one object changes to one that can be kept
+-- one object changes to one that may be kept
 module _ (g : Geometry) (age later : ℕ) (le : age ≤ later) (p q : Parts) (n : ℕ) (h : ObjectHeader) (c : Content Cap)
     (inside : n < length p.contents) where
   pub one_keepable : q ≡ with_both p n h c → IsKeepable g later n (record { header = h; content = c }) → AreKeepable g age (frames_of p) →
@@ -58,7 +58,7 @@ module _ (g : Geometry) (age later : ℕ) (le : age ≤ later) (p q : Parts) (n 
             (frame_later g age later m (frame_at (frames_of p) m) le (k.each m known));
       })
 
--- another content of its kind
+-- replacing a content by one of its kind
 pub refilled : (g : Geometry) (age n : ℕ) (h : ObjectHeader) (c d : Content Cap) → role_of d ≡ role_of c → IsOfKind g n d →
     MayBeKept g age d → IsKeepable g age n (record { header = h; content = c }) → IsKeepable g age n (record { header = h; content = d })
 refilled g age n h c d same kind may k = grind (arith, nat_tests)
@@ -91,7 +91,7 @@ with_word_keeps g age n h (content.Page words) i word fits k = search (refilled,
 with_word_keeps g age n h (content.Node slots) i word fits k = k
 with_word_keeps g age n h other i word fits k = k
 
--- one header changes, and what its object holds stays
+-- one header changes, and the content of its object stays
 module _ (g : Geometry) (age later : ℕ) (le : age ≤ later) (p q : Parts) (n : ℕ) (h : ObjectHeader) where
   header_keepable : q ≡ with_header p n h → IsKeepable g later n (record { header = h; content = held_at p.contents n }) →
       AreKeepable g age (frames_of p) → AreKeepable g later (frames_of q)
@@ -115,7 +115,7 @@ module _ (g : Geometry) (age : ℕ) (p q : Parts) (n : ℕ) (known : n < length 
         kept = grind (arith, nat_tests);
       }) k
 
-  -- one more call is counted, at the next age
+  -- raising a call count by one, at the next age
   pub call_stays_keepable : age + 1 < 2 ^ 64 → q ≡ with_header p n (called (header_at p.headers n)) →
       AreKeepable g age (frames_of p) → AreKeepable g (age + 1) (frames_of q)
   call_stays_keepable few is k =

@@ -4,7 +4,7 @@ use Rattle.std.proofs.Common.{◌≡◌}
 use Rattle.model.specs.declared.object.Content.TheVariants as content
 use Rattle.model.specs.declared.object.ContentRef.TheVariants as content_ref
 
--- what isn't behind a reference of another kind
+-- a reference of one kind doesn't refer to content of another
 pub not_page : (r : ContentRef) → ((x : Bor (List ℕ)) → r ≡ content_ref.Page x → ⊥) → (x : List ℕ) → content_behind r ≡ content.Page x → ⊥
 not_page r other x is = grind (arith, nat_tests)
 

@@ -35,7 +35,7 @@ role_there p n hs h same is = ap (λ (k : ObjectHeader). is_root_role k.role)
 pub no_root_role : (r : Role) → (r ≡ role.Root → ⊥) → is_root_role r ≡ false
 no_root_role r other = grind (arith, nat_tests)
 
--- a role decides what a content is, and whether it is free or a bank
+-- whether an object is free or a bank, and its kind, follow from its role
 pub role_read : (p : Parts) (hs : List ObjectHeader) (h : ObjectHeader) (n : ℕ) → HaveTheirRoles (frames_of p) → hs ≡ p.headers →
     h ≡ header_at hs n → h.role ≡ role_of (content_at (objects_in p) n)
 role_read p hs h n roles table is =

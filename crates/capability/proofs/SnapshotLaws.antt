@@ -8,14 +8,14 @@ use Rattle.model.specs.declared.answer.Refusal.TheVariants as refusal
 
 module _ {S : Type 0} (parts : S → Parts) (Fetched Announced : S → ℕ → Type 0) (Continues : S → S → Type 0)
     (twice : (s t u : S) → Continues s t → Continues t u → Continues s u) where
-  -- what two changes leave alone both leave
+  -- two changes, one after the other, keep what each of them keeps
   pub keeps_twice : (s t u : S) → KeepsRest parts Fetched Announced Continues s t → KeepsRest parts Fetched Announced Continues t u →
       KeepsRest parts Fetched Announced Continues s u
   keeps_twice s t u a b = grind (arith, nat_tests)
 
 module _ {S : Type 0} (parts : S → Parts) (Continues : S → S → Type 0) (twice : (s t u : S) → Continues s t → Continues t u → Continues s u)
   where
-    -- and two read-only calls
+    -- two calls that only read, one after the other
     pub only_reads_twice : (s t u : S) → OnlyFetches parts Continues s t → OnlyFetches parts Continues t u → OnlyFetches parts Continues s u
     only_reads_twice s t u a b = record {
       same = λ stayed. b.same (omega (arith, stayed, a.later, b.later)) ∙ a.same (omega (arith, stayed, a.later, b.later));
@@ -24,7 +24,7 @@ module _ {S : Type 0} (parts : S → Parts) (Continues : S → S → Type 0) (tw
       continues = twice s t u a.continues b.continues;
     }
 
--- from parts that are the same to what a call says that only reads, and one more call
+-- a call that only reads, after a step to the same parts
 module _ {S : Type 0} {parts : S → Parts} {Continues : S → S → Type 0} {s t : S} (is : parts t ≡ parts s) (continues : Continues s t) where
   pub only_fetched : OnlyFetches parts Continues s t
   only_fetched = record {

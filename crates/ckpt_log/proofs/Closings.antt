@@ -10,7 +10,7 @@ use Rattle.ckpt_log.proofs.Runs.{IsClosing}
 pub closing_first : (slot : HeaderSlot) {old c : Image} → IsLesser old slot → IsClosing (gate_at slot) old c → KeepsOrHasNone old c
 closing_first slot {old} {c} lesser is = grind (arith, nat_tests)
 
--- and while the second is closed, the first being closed
+-- a crash while the second gate is being closed, the first being closed
 pub closing_second : (slot : HeaderSlot) {old mid c : Image} → IsLesser old slot → Elsewhere (gate_at slot) 1 old mid →
     is_open (mid (gate_at slot)) ≡ false → IsClosing (gate_at (other_slot slot)) mid c → KeepsOrHasNone old c
 closing_second slot {old} {mid} {c} lesser first shut is = grind (arith, nat_tests)
@@ -32,7 +32,7 @@ pub first_run : (slot : HeaderSlot) {at : ℕ} {image : Image} {old new : Disk} 
     LeavesOnly old new (λ c. IsClosing at image c) → LeavesOnly old new (λ c. KeepsOrHasNone image c)
 first_run slot {at} {image} {old} {new} place lesser run = search (arith, leaves_weaker, closing_first)
 
--- and then the second
+-- the run that closes the second gate after the first
 pub second_run : (slot : HeaderSlot) {at next : ℕ} {image mid_image : Image} {old mid new : Disk} → at ≡ gate_at slot →
     next ≡ gate_at (other_slot slot) → IsLesser image slot → Elsewhere at 1 image mid_image → is_open (mid_image at) ≡ false →
     LeavesOnly old mid (λ c. KeepsOrHasNone image c) → LeavesOnly mid new (λ c. IsClosing next mid_image c) →
@@ -49,7 +49,7 @@ pub peek_run : {old new : Disk} → Peeks old new → LeavesOnly old new (λ c. 
 peek_run {old} {new} run = leaves_weaker {old = old} {new = new} {P = old.may_leave} (λ c. WasKeptOrHasNone old c)
     (λ c left. (c, left, untouched)) run
 
--- and what closes the gates after them
+-- a run after which the gates are closed
 pub closing_run : {old mid new : Disk} → old.may_leave old.seen → Agrees mid.seen old.seen
     → LeavesOnly old mid (λ c. WasKeptOrHasNone old c) → LeavesOnly mid new (λ c. KeepsOrHasNone mid.seen c) →
     LeavesOnly old new (λ c. WasKeptOrHasNone old c)

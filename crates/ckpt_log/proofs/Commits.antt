@@ -22,7 +22,7 @@ number_at image k = sequence_in (image (1 + 2 * k))
 
 -- ---- the committed one
 
--- it counts, and the other doesn't, or has a lesser number
+-- the header in slot k counts, and the other doesn't, or has a lesser number
 pub record Wins (image : Image) (k : ℕ) : Type 0 where
   pub low : k < 2
   pub counts : counts_at image k ≡ true
@@ -70,7 +70,7 @@ module _ {n : ℕ} {old new : Image} {b : List ℕ} (is : committed_bytes old �
   gate : new (2 + 2 * k) ≡ old (2 + 2 * k)
   gate = beside (2 + 2 * k) (omega arith) (omega arith)
 
-  -- and the next header is the committed one where its slot counts
+  -- the next header is the committed one if it counts
   pub new_at : {h : List ℕ} → new (1 + 2 * (n % 2)) ≡ h → sequence_in h ≡ n → is_open (new (2 + 2 * (n % 2))) ≡ true →
       committed_bytes new ≡ Some h
   new_at {h} written number open' = grind (arith, nat_tests)
@@ -100,7 +100,7 @@ pub gate_is : (h : CheckpointHeader) (slot : HeaderSlot) {at : ℕ} → slot_num
     at ≡ gate_sector h
 gate_is h slot number place = place ∙ ap (λ (n : ℕ). 2 + 2 * n) number
 
--- one sector of a slot is within it
+-- the gate sector of a slot lies within the slot
 gate_within : (r : ℕ) {old new : Image} → Elsewhere (2 + 2 * r) 1 old new → Elsewhere (1 + 2 * r) 2 old new
 gate_within r e = record { before = λ i lt. e.before i (omega (arith, lt)); after = λ i le. e.after i (omega (arith, le)) }
 
@@ -108,7 +108,7 @@ closing_by : (b : Bool) {h : CheckpointHeader} {old new : Image} → is_open (ol
     Elsewhere (gate_sector h) 1 old new → (is_open (old (gate_sector h)) ≡ false → Agrees new old) → KeepsHeader h old new
 closing_by b {h} {old} {new} is next e same = grind (arith, nat_tests)
 
--- a gate is closed where it was open
+-- closing the gate of a slot that isn't the committed one's
 pub closing_keeps : {h : CheckpointHeader} {old new : Image} → Precedes old h → Elsewhere (gate_sector h) 1 old new
     → (is_open (old (gate_sector h)) ≡ false → Agrees new old) → KeepsHeader h old new
 closing_keeps {h} {old} {new} next e same = closing_by (is_open (old (gate_sector h))) refl next e same
@@ -137,7 +137,7 @@ opening_by : (b : Bool) {h : CheckpointHeader} {old new : Image} → is_open (ne
     Precedes old h → old (header_sector h) ≡ header_bytes h → Elsewhere (gate_sector h) 1 old new → IsOldOrNew h old new
 opening_by b {h} {old} {new} is fits next written e = grind (arith, nat_tests)
 
--- the gate of a header that is written is torn: it is open or closed
+-- while the gate of a written header is being opened, it may be torn: open or closed
 pub opening : {h : CheckpointHeader} {old new : Image} → h.sequence < 2 ^ 64 → Precedes old h → old (header_sector h) ≡ header_bytes h →
     Elsewhere (gate_sector h) 1 old new → IsOldOrNew h old new
 opening {h} {old} {new} fits next written e = opening_by (is_open (new (gate_sector h))) refl fits next written e
@@ -151,11 +151,11 @@ pub opened_new : {h : CheckpointHeader} {old new : Image} → h.sequence < 2 ^ 6
     → Elsewhere (gate_sector h) 1 old new → new (gate_sector h) ≡ gate_bytes Open → HasNew h old new
 opened_new {h} {old} {new} fits next written e gate = open_new fits next written e (ap is_open gate)
 
--- there is a next sequence number
+-- the next sequence number fits
 pub next_fits : {room : ℕ} {h : CheckpointHeader} → IsHeader room h → h.sequence + 1 < 2 ^ 64
 next_fits {h} is = let more = one_more (h.entries == 0) in omega (arith, is.sequence, is.age, more)
 
--- the header with the next sequence number after the committed one
+-- the committed header precedes the one with the next sequence number
 pub precedes : (image : Image) (h next : CheckpointHeader) → committed_bytes image ≡ Some (header_bytes h) → h.sequence < 2 ^ 64 →
     h.sequence + 1 ≡ next.sequence → Precedes image next
 precedes image h next is fits after = (header_bytes h, is, ap (λ (n : ℕ). n + 1) (sequence_of h fits) ∙ after)

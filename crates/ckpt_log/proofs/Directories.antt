@@ -5,7 +5,7 @@ use Rattle.ckpt_log.proofs.Names.{one_directory, directory_fits, one_frame, Open
 use Rattle.ckpt_log.proofs.Names.{DirectoriesAreReadBack, take-append_seam, CheckpointHeader, HasHeader, HasCommitted, HasNoCommitted}
 use Rattle.std.proofs.Common.{◌≡◌, ◌+◌, ◌-◌, ◌*◌, ◌/◌, ◌≤◌, ◌∷◌, ◌++◌}
 
--- it is spelt by no bytes
+-- a directory without entries is encoded by no bytes
 pub no_entries : (p : Plan) (generation : ℕ) (image : Image) (es : List Entry) → length es ≡ 0 →
     IsDirectory p.geometry es × (directory_in image p generation (length es) ≡ directory_bytes es)
 unfolding directory_bytes
@@ -19,7 +19,7 @@ no_entries p generation image [] none = (
 )
 no_entries p generation image (e ∷ es) none = absurd (omega (arith, none))
 
--- a directory with no entries has no sectors, so nothing lies after it
+-- a directory without entries has no sectors, so nothing lies after it
 nothing_behind : (image : Image) (at : ℕ) → drop (16 * 0) (sectors_from image at (directory_length 0))
     ≡ replicate (512 * directory_length 0 - 16 * 0) 0
 unfolding sectors_from
@@ -29,7 +29,7 @@ pub none_behind : (image : Image) (at : ℕ) {n : ℕ} → n ≡ 0 → drop (16 
     (512 * directory_length n - 16 * n) 0
 none_behind image at none = rw none (nothing_behind image at)
 
--- after the entries of one that is written over zeros there are zeros
+-- if a directory is written over zeros, zeros follow its entries
 pub zeros_behind : (image : Image) (at n : ℕ) {most : ℕ} {run zeros : List ℕ} → 512 * directory_length n ≤ most → zeros ≡ replicate most 0
     → sectors_from image at ((n + 32 - 1) / 32) ≡ run → drop (16 * n) run ≡ drop (16 * n) (take (512 * ((n + 32 - 1) / 32)) zeros) →
     drop (16 * n) (sectors_from image at (directory_length n)) ≡ replicate (512 * directory_length n - 16 * n) 0

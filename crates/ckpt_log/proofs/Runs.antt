@@ -5,7 +5,7 @@ use Rattle.ckpt_log.proofs.Names.{Precedes, KeepsHeader, HasNew, IsOldOrNew, IsO
 use Rattle.std.proofs.Common.{◌≡◌, ◌<◌, ◌^◌, ◌⊎◌}
 use Rattle.ckpt_log.proofs.Commits.{closing_keeps, header_keeps, opening, precedes_on, keeps_on}
 
--- what a crash leaves while a gate is closed where it is open
+-- what a crash leaves while a gate is being closed that may be open
 abbrev pub IsClosing : ℕ → Image → Image → Type 0
 IsClosing at old c = Elsewhere at 1 old c × (is_open (old at) ≡ false → Agrees c old)
 
@@ -16,7 +16,7 @@ closing_run {h} {at} {image} {old} {new} place next run =
     (λ c is. let here : IsClosing (gate_sector h) image c = subst (λ (i : ℕ). IsClosing i image c) place is in
     closing_keeps next here.0 here.1) run
 
--- a header is written under a closed gate, after a run that keeps the committed one
+-- writing a header under a closed gate, after a run that keeps the committed header
 pub header_run : {h : CheckpointHeader} {at : ℕ} {image mid_image : Image} {old mid new : Disk} → at ≡ header_sector h → Precedes image h
     → KeepsHeader h image mid_image → is_open (mid_image (gate_sector h)) ≡ false
     → LeavesOnly old mid (λ c. KeepsHeader h image c) → LeavesOnly mid new (λ c. Elsewhere at 1 mid_image c) →
@@ -32,7 +32,7 @@ pub opening_run : {h : CheckpointHeader} {at : ℕ} {image : Image} {old new : D
     LeavesOnly old new (λ c. IsOldOrNew h image c)
 opening_run {h} {at} {image} {old} {new} place fits next written run = grind (arith, nat_tests, leaves_weaker, opening)
 
--- a header is written under a closed gate, and then its gate is opened
+-- writing a header under a closed gate, then opening its gate
 pub preparing_run : {h : CheckpointHeader} {image : Image} {old new : Disk} → LeavesOnly old new (λ c. KeepsHeader h image c) →
     LeavesOnly old new (λ c. IsOldOrNew h image c)
 preparing_run {h} {image} {old} {new} run = grind (arith, nat_tests)
@@ -76,7 +76,7 @@ pub commit_order : (h : CheckpointHeader) {old mid new : Disk} → old.may_leave
     LeavesOnly old new (λ c. IsInOrderAfter h old c)
 commit_order h {old} {mid} {new} left same first second = grind (arith, nat_tests)
 
--- the header stands while its gate is opened
+-- the header is on the device while its gate is being opened
 pub publishing_order : (h : CheckpointHeader) (image : Image) {old mid new : Disk} → LeavesOnly old mid (λ c. IsInOrder h image c) →
     LeavesOnly mid new (λ c. c (header_sector h) ≡ header_bytes h)
     → LeavesOnly old new (λ c. IsInOrder h image c)

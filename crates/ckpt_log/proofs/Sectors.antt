@@ -13,10 +13,10 @@ sector_is image {at} {bytes} size are =
     let place : at + 0 ≡ at = omega arith in
     sym (take_all 512 bytes (omega (arith, size))) ∙ first ∙ ap image place
 
--- what a read gives where a run ends has what a crash leaves
+-- after a run, a read returns an image with the property that each crash leaves
 pub seen_has : {old new : Disk} {P : Image → Type 0} → LeavesOnly old new P → CountsNow new → new.may_leave new.seen → P new.seen
 seen_has {old} {new} {P} run counts_now left = ends run counts_now new.seen left
 
--- the bytes of one sector, where a read leaves the image
+-- a sector's bytes don't change if only reads were made
 pub read_is : {old new : Image} {at : ℕ} (bytes : List ℕ) → Agrees new old → sectors_from new at 1 ≡ bytes → bytes ≡ old at
 read_is {new} {at} bytes same is = sym is ∙ one_from new at ∙ same at

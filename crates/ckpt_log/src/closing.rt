@@ -28,7 +28,7 @@ fn lesser_slot<D: Device>(device: &mut D) -> Result<HeaderSlot, Failed>
     Ok(HeaderSlot::Second)
 }
 
-// Closes the gate of a slot and then the other. All writes must be durable before.
+// Closes the gate of a slot, then that of the other slot. All earlier writes must be durable already.
 #[tactic(auto, using(crate::proofs::Sectors::seen_has))]
 fn close_in_turn<D: Device>(device: &mut D, slot: HeaderSlot) -> Result<(), Failed>
     requires inside { 5 ≤ (D.disk device.old).sectors }
@@ -50,9 +50,8 @@ fn close_in_turn<D: Device>(device: &mut D, slot: HeaderSlot) -> Result<(), Fail
 /// Closes the gates of both headers, so that no header is committed. Then this and all earlier writes
 /// are durable.
 ///
-/// A crash at any moment leaves the image that it could have left before, with the same committed
-/// header, or none. For that it closes the gate of the committed header last, and doesn't write a
-/// closed gate.
+/// A crash at any moment leaves the image that it could have left before the call, with the same committed header, or
+/// none. For that it closes the gate of the committed header last, and doesn't write a closed gate.
 ///
 /// It allocates nothing. Returns `Failed` exactly if the device failed.
 pub fn close_gates<D: Device>(device: &mut D) -> Result<(), Failed>

@@ -15,8 +15,8 @@ use layout::{
     BadImage, CheckpointHeader, Entry, Gate, OpenFault, decode_gate, decode_header, sequence_in,
 };
 
-// Reads the header of a slot into `into`. Returns whether it counts: its gate is open, and it belongs
-// in this slot.
+// Reads the header of a slot into `into`. Returns whether the header counts: its gate is open, and its sequence
+// number belongs in this slot.
 fn read_header<D: Device>(device: &mut D, slot: HeaderSlot, into: &mut [u8]) -> Result<bool, Failed>
     requires inside { 5 ≤ (D.disk device.old).sectors }
     requires one { length into.old ≡ 512 }
@@ -33,7 +33,7 @@ fn read_header<D: Device>(device: &mut D, slot: HeaderSlot, into: &mut [u8]) -> 
     Ok(decode_gate(&gate) == Gate::Open && sequence_in(into) % 2 == slot.number())
 }
 
-// Returns the slot of the committed header: if both count, of the one with the greater sequence number.
+// Returns the slot of the committed header: if both headers count, that with the greater sequence number.
 fn committed_of(first: bool, m: u64, second: bool, n: u64) -> Option<HeaderSlot>
     ensures { option_map slot_number result ≡ committed_of first m second n }
 {
@@ -45,8 +45,8 @@ fn committed_of(first: bool, m: u64, second: bool, n: u64) -> Option<HeaderSlot>
     }
 }
 
-// Returns the header of a slot from the bytes of both. If it is malformed, it doesn't take the other,
-// but returns `BadHeader`; without a slot it returns `NoHeader`.
+// Returns the header of a slot, from the bytes of both headers. If it is malformed, returns `BadHeader`, and doesn't
+// fall back to the other header. Returns `NoHeader` if there is no slot.
 fn choose(
     slot: Option<HeaderSlot>,
     first: &[u8],
@@ -66,7 +66,7 @@ fn choose(
 }
 
 impl<'a> Log<'a> {
-    // Returns the committed header, with the errors of `find_committed`.
+    // Returns the committed header. It has the errors of `find_committed`.
     fn find_header<D: Device>(&self, device: &mut D) -> Result<CheckpointHeader, OpenFault>
         requires inside { self.now.total ≤ (D.disk device.old).sectors }
         ensures found { IfOk result (λ h. HasHeader (D.disk device.old).seen self.now h) }
@@ -88,8 +88,8 @@ impl<'a> Log<'a> {
         Ok(choose(slot, &first, &second, room)?)
     }
 
-    /// Returns the committed header, and puts its directory into the first of the entries. It allocates
-    /// and writes nothing.
+    /// Returns the committed header, and puts its directory into the first entries of `directory`. It allocates and
+    /// writes nothing.
     ///
     /// Returns `Failed` exactly if the device failed, else:
     ///
@@ -97,7 +97,7 @@ impl<'a> Log<'a> {
     /// - `BadHeader` if the committed header is malformed, even if the other counts too
     /// - `BadDirectory` if its directory is malformed
     ///
-    /// After an error the entries may be any.
+    /// After an error `directory` may hold any entries.
     pub fn find_committed<D: Device>(
         &self,
         device: &mut D,

@@ -32,7 +32,7 @@ fn put_entries(entries: &[Entry], into: &mut [u8])
     encode_directory(entries, &mut into[..ENTRY_BYTES * entries.len()]);
 }
 
-// Writes a directory into the sectors from `at` on, through a buffer of zeros that has space for them.
+// Writes a directory into the sectors from `at` on, through a buffer of zeros that is large enough.
 fn write_entries<D: Device>(
     device: &mut D,
     at: u64,
@@ -59,7 +59,7 @@ fn write_entries<D: Device>(
     write_sectors(device, at, sectors, run)
 }
 
-// Reads a directory of `into.len()` entries from the first of the bytes. Returns `BadDirectory` if they spell none.
+// Reads a directory of `into.len()` entries from the first of the bytes. Returns `BadDirectory` if they encode none.
 fn entries_in(bytes: &[u8], geometry: Geometry, into: &mut [Entry]) -> Result<(), BadImage>
     requires room { 16 * length into.old ≤ length bytes.now }
     requires log { geometry.log ≤ 4096 }
@@ -73,12 +73,11 @@ fn entries_in(bytes: &[u8], geometry: Geometry, into: &mut [Entry]) -> Result<()
 }
 
 impl<'a> Log<'a> {
-    /// Writes the directory of the half of a generation. The bytes after the last entry of its last
-    /// sector are 0. For all other sectors it keeps their bytes and adds nothing to what a crash may leave in
-    /// them.
+    /// Writes the directory of the half of a generation. After its last entry, the rest of the last sector is 0. All
+    /// other sectors keep their bytes, and a crash may leave nothing new in them.
     ///
-    /// It allocates nothing, and without entries it doesn't call the device. Returns `Failed` exactly if
-    /// the device failed; then the sectors of the directory may hold any bytes.
+    /// It allocates nothing. If there are no entries it doesn't call the device. Returns `Failed` exactly if the
+    /// device failed; then the sectors of the directory may hold any bytes.
     pub fn write_directory<D: Device>(
         &self,
         device: &mut D,
@@ -109,11 +108,11 @@ impl<'a> Log<'a> {
         write_entries(device, at, entries, &mut [0; MAX_BYTES])
     }
 
-    /// Reads a directory of `into.len()` entries from the half of a generation. It allocates nothing, and
-    /// without entries it doesn't call the device.
+    /// Reads a directory of `into.len()` entries from the half of a generation. It allocates nothing. If there are no
+    /// entries it doesn't call the device.
     ///
-    /// Returns `Failed` exactly if the device failed, and `BadDirectory` exactly if the sectors spell no
-    /// directory of this length. After either, `into` may hold any entries.
+    /// Returns `Failed` exactly if the device failed, and `BadDirectory` exactly if the sectors encode no directory
+    /// of this length. After either, `into` may hold any entries.
     pub fn read_directory<D: Device>(
         &self,
         device: &mut D,

@@ -4,7 +4,7 @@ ghost use Rattle.ckpt_log.specs.HeaderSlot.{slot_number, other_slot, header_at, 
 
 use layout::CheckpointHeader;
 
-/// A place of a header, with its gate in the next sector. Headers use the two places in turn.
+/// A place of a header and, in the next sector, of its gate. Headers use the two places in turn.
 #[derive(Clone, Copy)]
 pub enum HeaderSlot {
     First,
@@ -24,7 +24,7 @@ impl HeaderSlot {
         }
     }
 
-    // Returns the other slot, where the headers before and after this one's belong.
+    // Returns the other slot: the one for the previous and the next header.
     pub(crate) fn other(self) -> HeaderSlot
         ensures { result ≡ other_slot self }
     {
@@ -34,7 +34,7 @@ impl HeaderSlot {
         }
     }
 
-    // Returns the remainder by 2 of the sequence numbers whose headers belong here.
+    // Returns the number of the slot, 0 or 1: the sequence numbers of its headers, modulo 2.
     pub(crate) fn number(self) -> u64
         ensures value { result ≡ slot_number self }
         ensures low { result < 2 }
@@ -53,7 +53,7 @@ impl HeaderSlot {
         1 + 2 * self.number()
     }
 
-    /// Returns the sector of its gate.
+    /// Returns the sector of the header's gate.
     pub fn gate(self) -> u64
         ensures value { result ≡ gate_at self }
         ensures inside { result < 5 }

@@ -7,10 +7,9 @@ ghost use Rattle.ckpt_log.specs.Places.{HalvesAreApart, SlotsAreApart, SlotsSpar
 ghost use Rattle.ckpt_log.specs.SavedSectors.{SameHeader, SameDirectory, SameFrames, SameSaved};
 ghost use Rattle.ckpt_log.specs.Slot.{SlotsAreReadBack, DirectoriesAreReadBack};
 
-/// The saved state depends only on the header slots and gates, the directory of the committed header,
-/// and the frames that it names. Images that agree there have the same header, directory and frames.
-/// So no write elsewhere changes the saved state, even with a crash. It does nothing: its contract is
-/// the law.
+/// The saved state depends only on the header slots and gates, the directory of the committed header, and the frames
+/// that this names. Images that agree in these have the same header, directory and frames. So no write of another
+/// sector changes the saved state, even with a crash. The function does nothing: its contract is the law.
 pub fn saved_is_read_from_its_sectors()
     ensures header { SameHeader }
     ensures directory { SameDirectory }
@@ -18,9 +17,9 @@ pub fn saved_is_read_from_its_sectors()
     ensures saved { SameSaved }
 {}
 
-/// The slots and the directory of a generation lie in its half of the log and apart from one another.
-/// A frame lies in its slot. The halves lie after the headers, before the end, and apart. So writes
-/// for the next generation touch no sector of the last one. It does nothing: its contract is the law.
+/// The slots and the directory of a generation lie in its half of the log and apart from one another. A frame lies in
+/// its slot. The halves lie after the headers, before the end, and apart. So writes for the next generation touch no
+/// sector of the last one. The function does nothing: its contract is the law.
 #[tactic(auto, using(crate::proofs::Places::place_laws))]
 pub fn keep_halves_apart()
     ensures slots { SlotsAreInside }
@@ -32,16 +31,16 @@ pub fn keep_halves_apart()
     ensures slots_spare_directories { SlotsSpareDirectories }
 {}
 
-/// A read of a slot gives the frame that was written there, if an image may hold it, or fails only if
-/// the device fails. The same holds for a directory. It does nothing: its contract is the law.
+/// A read of a slot returns the frame that was written there, if an image may hold it, or fails only if the device
+/// fails. The same holds for a directory. The function does nothing: its contract is the law.
 pub fn what_is_written_is_read()
     ensures slots { SlotsAreReadBack }
     ensures directories { DirectoriesAreReadBack }
 {}
 
-/// The bytes of a header have its sequence number, so `publish` may follow the committed header with
-/// the next number. A write of a header's slot changes neither the superblock nor what lies after the
-/// headers: frames and directories. It does nothing: its contract is the law.
+/// The bytes of a header have its sequence number, so `publish` may follow the committed header with the next number.
+/// A write of a header's slot changes neither the superblock nor the frames and directories after the headers. The
+/// function does nothing: its contract is the law.
 #[tactic(auto, using(crate::proofs::Places::header_laws))]
 pub fn headers_spare_the_rest()
     ensures sequences { SequencesAreReported }
@@ -52,9 +51,9 @@ pub fn headers_spare_the_rest()
     ensures directories { HeadersSpareDirectories }
 {}
 
-/// The saved states after a crash during `Log::publish`. If the crash leaves the old header, the image
-/// has the state saved before. If it leaves the new header, the image has the state written for it. It
-/// does nothing: its contract is the law.
+/// The saved states after a crash during `Log::publish`. If the crash leaves the old header, the image has the state
+/// saved before. If it leaves the new header, the image has the state written for it. The function does nothing: its
+/// contract is the law.
 pub fn a_commit_leaves_either_state()
     ensures behind { FramesAreBehind }
     ensures old { OldIsDenoted }

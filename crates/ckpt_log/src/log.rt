@@ -41,7 +41,7 @@ impl<'a> Log<'a> {
         self.superblock.geometry()
     }
 
-    // Returns where the frame of an object lies in its slot, which has space for each block.
+    // Returns where the frame of an object lies in its slot. A slot has space for any block.
     pub(crate) fn shape(&self, number: u64) -> Shape
         ensures value { result ≡ shape_of self.now number }
         ensures fits { IsShapeFor self.now.geometry number result }

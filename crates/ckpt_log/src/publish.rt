@@ -28,8 +28,7 @@ pub(crate) fn close_gate<D: Device>(device: &mut D, at: u64) -> Result<(), Faile
     ensures closed_before { is_open ((D.disk device.old).seen at) ≡ false
         → Agrees (D.disk device.new).seen (D.disk device.old).seen }
 
-    // A crash at any moment leaves every other sector as it was, and this one too where the gate
-    // was closed.
+    // A crash at any moment leaves every other sector as it was, and also this one if the gate was closed.
     ensures any_moment { LeavesOnly (D.disk device.old) (D.disk device.new)
         (λ c. Elsewhere at 1 (D.disk device.old).seen c
         × (is_open ((D.disk device.old).seen at) ≡ false → Agrees c (D.disk device.old).seen)) }
@@ -69,8 +68,8 @@ fn prepare<D: Device>(device: &mut D, header: CheckpointHeader) -> Result<(), Fa
     put_sector(device, slot.header(), &bytes)
 }
 
-// Opens the gate of a header that is written and durable. A crash at any moment leaves the old header
-// committed, or this one.
+// Opens the gate of a header that is written and durable. A crash at any moment leaves the old header committed, or
+// the new one.
 #[tactic(auto, using(crate::proofs::Commits::gate_is, crate::proofs::Commits::opened_new))]
 fn open_gate<D: Device>(device: &mut D, header: CheckpointHeader) -> Result<(), Failed>
     requires inside { 5 ≤ (D.disk device.old).sectors }
@@ -98,8 +97,8 @@ fn open_gate<D: Device>(device: &mut D, header: CheckpointHeader) -> Result<(), 
 }
 
 impl<'a> Log<'a> {
-    /// Commits a header. After `Ok` each crash leaves it committed, and all earlier writes are durable.
-    /// Returns `Failed` exactly if the device failed; then the old header is committed, or this one.
+    /// Commits a header. After `Ok` each crash leaves it committed, and all earlier writes are durable. Returns
+    /// `Failed` exactly if the device failed; then the old header is committed, or the new one.
     ///
     /// The header must be within its limits:
     ///
@@ -108,10 +107,10 @@ impl<'a> Log<'a> {
     /// - a generation of at most twice the age
     /// - a sequence number of at most twice the age, or one more for a header without entries
     ///
-    /// Its sequence number must be the next after that of the committed header, and each crash before
-    /// the call must leave that header.
+    /// The new sequence number must follow that of the committed header, and each crash before the call must leave
+    /// the old header committed.
     ///
-    /// It writes only the header's own slot: the gate with 0 and zeros if it is open, then the header,
+    /// It writes only the slot of the new header: first the gate with 0 and zeros, if it is open; then the header;
     /// then the gate with 1 and zeros. Each write is durable before the next.
     pub fn publish<D: Device>(&self, device: &mut D, header: CheckpointHeader) -> Result<(), Failed>
         requires spelt { IsHeader self.now.geometry.log header }
@@ -128,13 +127,13 @@ impl<'a> Log<'a> {
         ensures elsewhere { Elsewhere (header_sector header) 2
             (D.disk device.old).seen (D.disk device.new).seen }
 
-        // A crash at any moment leaves the old header committed, or this one. With this one it leaves
+        // A crash at any moment leaves the old header committed, or this one. If it leaves this one, it also leaves
         // all that was written before the call.
         ensures any_moment { LeavesOnly (D.disk device.old) (D.disk device.new)
             (λ c. IsOld header (D.disk device.old) c ⊎ HasNew header (D.disk device.old).seen c) }
 
-        // At each moment its slot has the old header, or a gate that was closed before the header
-        // was touched, or the new header.
+        // At each moment the slot has the old header, or a gate that was closed before the header was touched, or the
+        // new header.
         ensures in_order { LeavesOnly (D.disk device.old) (D.disk device.new)
             (λ c. IsInOrderAfter header (D.disk device.old) c) }
         ensures cause { Counts (D.disk device.old) (D.disk device.new) result }

@@ -20,8 +20,8 @@ impl<'a> Log<'a> {
     /// Reads the frame of an object in a slot of the half of a generation. It puts the slots of a node
     /// or an annex and the words of a page into `scratch`, and allocates nothing.
     ///
-    /// Returns `Failed` exactly if the device failed. Returns `BadFrame` exactly if the slot spells no
-    /// frame that an image of this age may hold. After either, `scratch` may hold any slots and words.
+    /// Returns `Failed` exactly if the device failed. Returns `BadFrame` exactly if the slot encodes no frame that an
+    /// image of this age may hold. After either, `scratch` may hold any slots and words.
     pub fn read_slot<D: Device>(
         &self,
         device: &mut D,
@@ -48,9 +48,8 @@ impl<'a> Log<'a> {
         read_frame(device, at, shape, self.geometry(), number, age, scratch)
     }
 
-    /// Writes the frame of an object into a slot of the half of a generation. It sets all bytes beside the
-    /// frame in its block to 0. For all other sectors it keeps their bytes and adds nothing to what a
-    /// crash may leave in them.
+    /// Writes the frame of an object into a slot of the half of a generation. All bytes beside the frame in its block
+    /// become 0. All other sectors keep their bytes, and a crash may leave nothing new in them.
     ///
     /// Returns `Failed` exactly if the device failed; then the sectors of the shape may hold any bytes.
     pub fn write_slot<D: Device>(
@@ -80,8 +79,8 @@ impl<'a> Log<'a> {
         write_frame(device, at, shape, self.geometry(), number, header, content)
     }
 
-    /// Writes the frame of a page with these words into a slot of the half of a generation. For all
-    /// other sectors it keeps their bytes and adds nothing to what a crash may leave in them.
+    /// Writes the frame of a page with these words into a slot of the half of a generation. All other sectors keep
+    /// their bytes, and a crash may leave nothing new in them.
     ///
     /// Returns `Failed` exactly if the device failed; then the 9 sectors may hold any bytes.
     pub fn write_page<D: Device>(

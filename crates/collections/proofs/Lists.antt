@@ -54,12 +54,12 @@ module _ {X : Type 0} where
       ∙ ap (λ (zs : List X). x ∷ zs) (changed_once xs ys n d v (omega (arith, size)) (omega (arith, within)) here
       (λ m other. others (suc m) (λ same. other (omega (arith, same)))))
 
-  -- one that is not counted is replaced by one that is
+  -- an item that isn't counted is replaced by one that is
   pub one_counted : (p : X → Bool) (xs : List X) (n : ℕ) (d y : X) → n < length xs → p (get_or xs n d) ≡ false → p y ≡ true →
       count_by p (set xs n y) ≡ count_by p xs + 1
   one_counted p xs n d y within was is = grind (arith, nat_tests, sum_by-set)
 
-  -- where one isn't counted, not all are
+  -- if some item isn't counted, the count is less than the length
   pub not_all_counted : (p : X → Bool) (xs : List X) (n : ℕ) (d y : X) → n < length xs → p (get_or xs n d) ≡ false → p y ≡ true →
       count_by p xs < length xs
   not_all_counted p xs n d y within was is = omega (
@@ -69,6 +69,6 @@ module _ {X : Type 0} where
     length-set xs n y,
   )
 
--- what is read after a map whose value at the default is the default
+-- reading from a mapped list, if the map takes the default to the default
 pub get_map : {X Y : Type 0} (f : X → Y) (xs : List X) (k : ℕ) (d : X) (e : Y) → f d ≡ e → get_or (map f xs) k e ≡ f (get_or xs k d)
 get_map f xs k d e is = grind (arith, nat_tests, get_or-map, get_or_past, length-map)

@@ -28,7 +28,7 @@ digit_some n = grind (arith, nat_tests, eqb-suc-zero)
 
 -- ---- the bits of one word
 
--- the bits of what is left of a word past its low bits
+-- the bits of a word after its low bits were shifted out
 bit_past : (word from k : ℕ) → bit_at (word / 2 ^ from) k ≡ bit_at word (from + k)
 bit_past word from k = ap (λ x. x % 2) (shr-shr word from k)
 
@@ -37,7 +37,7 @@ module _ (word from : ℕ) where
   pub none_from : word / 2 ^ from ≡ 0 → (other : ℕ) → from ≤ other → bit_at word other ≡ 0
   none_from rest other after = grind (arith, nat_tests, bit_past word from (other - from), bit_at-zero (other - from))
 
-  -- the lowest bit of what is left of a word
+  -- the lowest set bit of a word after its low bits were shifted out
   pub lowest_from : word < 2 ^ 64 → (word / 2 ^ from ≡ 0 → ⊥) → IsLowestFrom word from (from + trailing_zeros w64 (word / 2 ^ from))
   lowest_from fits rest =
       let left = word / 2 ^ from in
@@ -55,13 +55,13 @@ module _ (word from : ℕ) where
             sym (ap (bit_at word) split) ∙ sym (bit_past word from (other - from)) ∙ lowest.2 (other - from) (omega arith);
       }
 
--- one bit is set or cleared
+-- setting or clearing one bit
 module _ (word bit : ℕ) (set : Bool) (within : bit < 64) where
-  -- with a mask of one bit that bit is set
+  -- or-ing a mask of one bit sets this bit
   pub set_here : set ≡ true → bit_at (bit_or word (1 * 2 ^ bit % 2 ^ 64)) bit ≡ digit set
   set_here is_set = bit_at_set_same w64 word bit within ∙ ap digit (sym is_set)
 
-  -- and with its complement cleared
+  -- and-ing with the complement of the mask clears this bit
   pub clear_here : set ≡ false → bit_at (bit_and word (bit_not w64 (1 * 2 ^ bit % 2 ^ 64))) bit ≡ digit set
   clear_here is_clear = bit_at_clear_same w64 word bit within ∙ ap digit (sym is_clear)
 
@@ -78,12 +78,12 @@ module _ (words : List ℕ) where
   unfolding bit_of
   read_bit n = grind (arith, nat_tests, shr_and_one, digit_of_bit, bit_at-lt)
 
-  -- a word that is 0, or that isn't there, has no bit
+  -- a word that is 0, or past the end, has no set bit
   bit_of_zero : (n : ℕ) → slice_index words (n / 64) ≡ 0 → bit_of words n ≡ 0
   unfolding bit_of
   bit_of_zero n is_zero = ap (λ x. bit_at x (n % 64)) is_zero ∙ bit_at-zero (n % 64)
 
-  -- from past the last word on there is none
+  -- no bit is set from an index past the last word on
   pub none_past_words : (from : ℕ) → length words ≤ from / 64 → HasNoneSet words from
   none_past_words from past m after = bit_of_zero m (get_or_past words (m / 64) 0 (omega arith))
 
@@ -91,7 +91,7 @@ module _ (words : List ℕ) where
   pub none_past_all : (from w : ℕ) → length words ≤ w → ((m : ℕ) → from ≤ m → m < w * 64 → bit_of words m ≡ 0) → HasNoneSet words from
   none_past_all from w past_all before m past = grind (arith, nat_tests, bit_of_zero, get_or_past)
 
-  -- the first of a word is the first, if there is none before the word
+  -- the first set bit of a word is the first of all, if no word before it has one
   pub first_by_word : (from w low bit : ℕ) → low ≡ from - w * 64 → from / 64 ≤ w → ((m : ℕ) → from ≤ m → m < w * 64 → bit_of words m ≡ 0) →
       IsLowestFrom (slice_index words w) low bit → IsFirstSet words from (w * 64 + bit)
   first_by_word from w low bit is_low after before lowest = record {
@@ -113,14 +113,14 @@ module _ (words : List ℕ) where
       bit_of words m ≡ 0
   none_by_word from w low is_low after before none m past within = grind (arith, nat_tests, bit_in_word w (m - w * 64) (omega arith))
 
-  -- a word is written that has all other bits as they were
+  -- a word is replaced by one with the same bits except one
   pub bit_put : (n word bit : ℕ) → n / 64 < length words → bit_at word (n % 64) ≡ bit →
       ((other : ℕ) → other < 64 → other ≢ n % 64 → bit_at word other ≡ bit_at (slice_index words (n / 64)) other) →
       IsBitPut words n bit (slice_set words (n / 64) word)
   unfolding bit_of
   bit_put n word bit within here others = grind (arith, nat_tests, length-set, get_or-set_same, get_or-set_other)
 
--- a bit that is 0 in the complement of a word is 1 in it, and the other way round
+-- a bit is 0 in the complement of a word exactly if it is 1 in the word
 flipped_zero : (word i : ℕ) → word < 2 ^ 64 → i < 64 → bit_at (bit_not w64 word) i ≡ 0 → bit_at word i ≡ 1
 flipped_zero word i fits within none = omega (arith, bit_at_not w64 word i fits within, bit_at-lt word i, none)
 
@@ -133,7 +133,7 @@ module _ (words : List ℕ) (from w low : ℕ) (fits : slice_index words w < 2 ^
   here_is : (m : ℕ) → w * 64 ≤ m → m < (w + 1) * 64 → bit_of words m ≡ bit_at (slice_index words w) (m - w * 64)
   here_is m past within = grind (arith, nat_tests, bit_in_word words w (m - w * 64) (omega arith))
 
-  -- the first clear bit of a word is the first, if there is none before the word
+  -- the first clear bit of a word is the first of all, if no word before it has one
   pub clear_by_word : (bit : ℕ) → IsLowestFrom (bit_not w64 (slice_index words w)) low bit → IsFirstClear words from (w * 64 + bit)
   clear_by_word bit lowest = grind (arith, nat_tests, bit_in_word, flipped_one, here_is, flipped_zero)
 
@@ -145,11 +145,11 @@ module _ (words : List ℕ) (from w low : ℕ) (fits : slice_index words w < 2 ^
 -- ---- words with a summary
 
 module _ (words summary : List ℕ) (summed : SumsUp words summary) where
-  -- a word whose bit in the summary is set is there
+  -- a word whose bit in the summary is set is within the words
   later_within : (w : ℕ) → bit_of summary w ≡ 1 → w < length words
   later_within w is_set = grind (arith, nat_tests, get_or_past)
 
-  -- and its lowest bit is a machine number
+  -- the number of this word's lowest bit fits a machine number
   pub later_fits : (later : ℕ) → 64 * length words ≤ 2 ^ 64 → bit_of summary later ≡ 1 → slice_index words later < 2 ^ 64 →
       later * 64 + trailing_zeros w64 (slice_index words later) < 2 ^ 64
   later_fits later few is_set fits =
@@ -162,7 +162,7 @@ module _ (words summary : List ℕ) (summed : SumsUp words summary) where
     none_here : (m : ℕ) → from ≤ m → m < (from / 64 + 1) * 64 → bit_of words m ≡ 0
     none_here = none_by_word words from (from / 64) (from % 64) (omega arith) (omega arith) (λ m past before. absurd (omega arith)) none
 
-    -- so the first bit of the first word that is not 0 is the first
+    -- the first set bit of the first later word that is not 0 is the first of all
     pub first_later : (later : ℕ) → IsFirstSet summary (from / 64 + 1) later → slice_index words later < 2 ^ 64 →
         IsFirstSet words from (later * 64 + trailing_zeros w64 (slice_index words later))
     first_later later first fits =
@@ -176,7 +176,7 @@ module _ (words summary : List ℕ) (summed : SumsUp words summary) where
         first_by_word words from later 0 _ (omega (arith, first.past)) (omega (arith, first.past)) before
         (record { past = omega arith; inside = lowest.0; set = lowest.1; least = λ other _ lower. lowest.2 other lower })
 
-    -- and there is none if all later words are 0
+    -- no bit is set if all later words are 0
     pub none_later : HasNoneSet summary (from / 64 + 1) → HasNoneSet words from
     none_later none_summed m past = grind (arith, nat_tests, none_here, bit_of_zero)
 
@@ -188,7 +188,7 @@ module _ (count : ℕ) (words : List ℕ) where
   unfolding marks_of
   length_marks = length-map-range_with_len (λ n. nat_eq (bit_of words n) 1) 0 count
 
-  -- each is its bit
+  -- each mark is the bit of its number
   mark_within : (n : ℕ) → n < count → is_marked (marks_of count words) n ≡ nat_eq (bit_of words n) 1
   unfolding marks_of
   mark_within n within = get_or-map-range_with_len (λ k. nat_eq (bit_of words k) 1) 0 count n n false within (omega arith)
@@ -212,11 +212,11 @@ module _ (count : ℕ) (words : List ℕ) where
     next_by_bits : (from n : ℕ) → IsFirstSet words from n → IsNextMarked (marks_of count words) from n
     next_by_bits from n first = grind (arith, nat_tests, length_marks, mark_within, unmarked)
 
-    -- and with no bit no number is marked
+    -- if no bit is set, no number is marked
     none_by_bits : (from : ℕ) → HasNoneSet words from → HasNoneMarked (marks_of count words) from
     none_by_bits from none m past = unmarked m (none m past)
 
-    -- a number with its bit is marked
+    -- a number whose bit is set is marked
     marked : (n : ℕ) → n < count → bit_of words n ≡ 1 → is_marked (marks_of count words) n ≡ true
     marked n within is_one = mark_within n within ∙ ap (λ d. nat_eq d 1) is_one
 
@@ -229,7 +229,7 @@ module _ (count : ℕ) (words : List ℕ) where
       least = λ m past before. marked m (omega (arith, within, before)) (first.least m past before);
     }
 
--- the marks of the words with one bit put
+-- the marks after one bit of the words was set or cleared
 marks_put : (count n : ℕ) (b : Bool) (words new : List ℕ) → IsBitPut words n (digit b) new →
     marks_of count new ≡ slice_set (marks_of count words) n b
 marks_put count n b words new put =
@@ -249,7 +249,7 @@ module _ (count : ℕ) (words summary : List ℕ) (sums : IsSummed count words s
   count_is : length marks ≡ count
   count_is = sym (ap length is_marks) ∙ length_marks count words
 
-  -- there are no more marks than machine numbers
+  -- the number of marks fits a machine number
   pub few_marks : length marks < 2 ^ 64
   few_marks = omega (arith, count_is, sums.fits)
 
@@ -258,7 +258,7 @@ module _ (count : ℕ) (words summary : List ℕ) (sums : IsSummed count words s
     pub has_word : (n : ℕ) → n < length marks → n / 64 < length seen
     has_word n within = omega (arith, count_is, ap length is_seen, sums.words_each)
 
-    -- the same of what is seen
+    -- the bit of a number, as the code reads it, is its mark
     pub mark_read : (n : ℕ) (b : Bool) → n < length marks → bit_of seen n ≡ digit b → b ≡ is_marked marks n
     mark_read n b within is_bit = rw (← is_marks) (mark_is count words n b (omega (arith, count_is)) (rw is_seen at is_bit))
 
@@ -268,7 +268,7 @@ module _ (count : ℕ) (words summary : List ℕ) (sums : IsSummed count words s
     next_is_marked from None _ = tt
     next_is_marked from (Some n) first = rw (← is_marks) (next_by_bits count words sums.past from n (rw is_seen at first))
 
-    -- and where none is found, no number is marked
+    -- if no set bit is found, no number is marked
     pub none_is_marked : (from : ℕ) → HasNoneSet seen from → HasNoneMarked marks from
     none_is_marked from none = rw (← is_marks) (none_by_bits count words sums.past from (rw is_seen at none))
 
@@ -276,15 +276,15 @@ module _ (count : ℕ) (words summary : List ℕ) (sums : IsSummed count words s
     pub missing_is_unmarked : (from n : ℕ) → n < count → IsFirstClear seen from n → IsNextUnmarked marks from n
     missing_is_unmarked from n within first = rw (← is_marks) (next_clear_by_bits count words sums.past from n within (rw is_seen at first))
 
-    -- where all numbers below a number have their bits, all are marked
+    -- if the bits of all numbers from one on are set, all of these are marked
     pub all_are_marked : (from : ℕ) → ((m : ℕ) → from ≤ m → m < count → bit_of seen m ≡ 1) → HasAllMarked marks from
     all_are_marked from each = grind (arith, nat_tests, marked, count_is)
 
-    -- each number is in a word
+    -- each number has a word
     pub words_hold : (m : ℕ) → m < count → m < length seen * 64
     words_hold m within = omega (arith, ap length is_seen, sums.words_each, within)
 
-  -- the word that a number is in has its bit in the summary
+  -- the word of a number has a bit in the summary
   pub has_word_above : (seen : List ℕ) → seen ≡ summary → (n : ℕ) → n < length marks → n / 64 / 64 < length seen
   has_word_above seen is_seen n within = omega (arith, count_is, ap length is_seen, sums.summary_each, sums.words_each)
 
@@ -298,7 +298,7 @@ module _ (count : ℕ) (words summary : List ℕ) (sums : IsSummed count words s
     module _ (seen_summary new_summary : List ℕ) (word : ℕ) (is_seen_summary : seen_summary ≡ summary)
         (is_word : word ≡ slice_index new (n / 64))
         (put_above : IsBitPut seen_summary (n / 64) (digit (not (nat_eq word 0))) new_summary) where
-      -- the summary still sums up, once the word's bit is put in it
+      -- the summary stays right if the bit of the changed word is updated
       pub set_summed : (stored_summary : List ℕ) → stored_summary ≡ new_summary → IsSummed count stored stored_summary
       set_summed stored_summary is_stored_summary = grind (arith, nat_tests, count_is, digit_some)
 
@@ -322,7 +322,7 @@ module _ (count k : ℕ) (words : List ℕ) (are_zero : words ≡ replicate k 0)
   no_marks = sym (same_marks count words (replicate count false) (length-replicate count false)
       (λ n within. get_or-replicate count n false false within ∙ sym (ap (λ d. nat_eq d 1) (none_set n (omega arith)))))
 
-  -- and a summary of zeros sums up
+  -- a summary of zeros is right for words of zeros
   pub zeros_summed : (l : ℕ) (summary : List ℕ) → count < 2 ^ 64 → summary ≡ replicate l 0 → k ≡ div_ceil count 64 → l ≡ div_ceil k 64 →
       IsSummed count words summary
   zeros_summed l summary fits summary_zero is_k is_l = grind (arith, nat_tests, length-replicate, none_set, bit_of_zero, zeros)

@@ -80,7 +80,7 @@ module _ {X : Type 0} where
               ∙ sym (item_is items at few m))
               ∙ ap (λ (xs : List (Option X)). set xs k (Some x)) view
 
-      -- a place without an item gets one
+      -- adding an item at a place that has none
       module _ (within : k < length v) (none : is_some (item_at v k) ≡ false) where
         pub room : length items < length at
         room = omega (
@@ -109,7 +109,7 @@ module _ {X : Type 0} where
           still : (m : ℕ) → m ≢ k → position after m ≡ position at m
           still m other = get_or-set_other at k m (length items) (length after) other ∙ ap (get_or at m) same_length
 
-          -- the positions of others are those of items, or past all places
+          -- the position of another place is that of an item, or past all places
           elsewhere : (m : ℕ) → m ≢ k → position after m ≢ length items
           elsewhere m other same = omega (arith, is.known m (omega (arith, still m other, same, room)), still m other, same)
 
@@ -134,7 +134,7 @@ module _ {X : Type 0} where
               ∙ ap (λ (xs : List (Option X)). set xs k (Some x)) view
 
 module _ (n : ℕ) (at : List ℕ) (at_is : at ≡ replicate n n) where
-  -- no place has one at first
+  -- at first no place has an item
   pub none_in : {X : Type 0} → items_in {T = X} [] at ≡ replicate n None
   unfolding items_in
   none_in {X} = ap (map (slice_get [])) at_is ∙ go n

@@ -1,4 +1,4 @@
-// The bits of words of 64.
+// Bits in words of 64 bits. The bit of number n is bit n mod 64 of word n / 64.
 ghost use Rattle.std.specs.Prelude.{◌≡◌, ◌≢◌, ℕ, ◌*◌, ◌/◌, ◌^◌, ◌<◌, ◌≤◌, length, slice_index, IfSome, None};
 ghost use Rattle.std.specs.Int.{bit_at};
 ghost use Rattle.collections.specs.Bits.{IsLowestFrom, IsFirstSet, HasNoneSet, IsFirstClear, HasNoneClear, IsBitPut};
@@ -16,7 +16,7 @@ pub(crate) fn has_bit(words: &[u64], number: usize) -> bool
     words[number / WORD_BITS] >> (number % WORD_BITS) & 1 == 1
 }
 
-/// Sets or clears the bit of a number, and answers the word that it is in.
+/// Sets or clears the bit of a number, and returns the word with this bit.
 pub(crate) fn put_bit(words: &mut [u64], number: usize, set: bool) -> u64
     requires { number / 64 < length words.old }
     ensures put { IsBitPut words.old number (digit set) words.new }
@@ -27,7 +27,7 @@ pub(crate) fn put_bit(words: &mut [u64], number: usize, set: bool) -> u64
     word
 }
 
-/// A word with one bit set or cleared.
+/// Returns a word with one bit set or cleared.
 #[tactic(auto, using(crate::proofs::Marks::set_here, crate::proofs::Marks::clear_here))]
 fn with_bit(word: u64, bit: usize, set: bool) -> u64
     requires { bit < 64 }
@@ -42,7 +42,7 @@ fn with_bit(word: u64, bit: usize, set: bool) -> u64
     }
 }
 
-/// The lowest bit of a word that is set, from a bit on.
+/// Returns the lowest set bit of a word that isn't below `from`, or `None`.
 #[tactic(auto, using(crate::proofs::Marks::none_from, crate::proofs::Marks::lowest_from))]
 fn first_bit(word: u64, from: usize) -> Option<usize>
     requires { from < 64 }
@@ -57,7 +57,7 @@ fn first_bit(word: u64, from: usize) -> Option<usize>
     Some(from + rest.trailing_zeros() as usize)
 }
 
-/// The least number from a number on whose bit is set, word by word.
+/// Returns the least number that isn't below `from` and whose bit is set, or `None`. Goes word by word.
 #[tactic(auto, using(crate::proofs::Marks::none_by_word, crate::proofs::Marks::none_past_all))]
 fn first_set(words: &[u64], from: usize) -> Option<usize>
     requires { 64 * length words.now ≤ 2 ^ 64 }
@@ -73,7 +73,8 @@ fn first_set(words: &[u64], from: usize) -> Option<usize>
     None
 }
 
-/// The least number from a number on whose bit is set, by a summary of the words that aren't 0.
+/// Returns the least number that isn't below `from` and whose bit is set, or `None`. Uses a summary, in which the
+/// bits of the words that aren't 0 are set.
 #[tactic(auto, using(crate::proofs::Marks::none_past_words, crate::proofs::Marks::later_fits))]
 pub(crate) fn first_summed(words: &[u64], summary: &[u64], from: usize) -> Option<usize>
     requires few { 64 * length words.now ≤ 2 ^ 64 }
@@ -93,7 +94,7 @@ pub(crate) fn first_summed(words: &[u64], summary: &[u64], from: usize) -> Optio
     Some(later * WORD_BITS + words[later].trailing_zeros() as usize)
 }
 
-/// The least number from a number on whose bit is clear, word by word.
+/// Returns the least number that isn't below `from` and whose bit is clear, or `None`. Goes word by word.
 #[tactic(auto, using(crate::proofs::Marks::full_by_word))]
 pub(crate) fn first_clear(words: &[u64], from: usize) -> Option<usize>
     requires { 64 * length words.now ≤ 2 ^ 64 }

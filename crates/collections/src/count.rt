@@ -4,8 +4,7 @@ ghost use Rattle.std.specs.Borrow.{ftrue};
 
 use std::marker::Model;
 
-/// How often something has happened. It takes no bytes and does nothing at run time, so it has no
-/// greatest value.
+/// How often something has happened. It takes no memory and does nothing at run time, so it has no greatest value.
 #[derive(Drop)]
 pub struct Tally {
     pub ghost number: { ℕ },
@@ -16,14 +15,14 @@ impl Model for Tally {
 }
 
 impl Tally {
-    /// It has not happened yet.
+    /// Returns a count of 0.
     pub fn new() -> Tally
         ensures { result.number ≡ 0 }
     {
         Tally {}
     }
 
-    /// Once more.
+    /// Returns a count greater by one.
     pub fn next(&self) -> Tally
         ensures { result.number ≡ self.now.number + 1 }
     {

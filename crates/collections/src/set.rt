@@ -1,4 +1,4 @@
-// A set of numbers, as bits with a summary.
+// A set of numbers, as a bit for each number, with a summary of the bits.
 ghost use Rattle.std.specs.Prelude.{◌≡◌, ◌<◌, ◌^◌, length, replicate, slice_index_or, slice_set, false, IfSome, IfOk};
 ghost use Rattle.std.specs.Prelude.{None};
 ghost use Rattle.collections.specs.Marks.{IsNextMarked, HasNoneMarked, IsNextUnmarked, HasAllMarked};
@@ -7,11 +7,10 @@ use crate::bits::{WORD_BITS, first_clear, first_summed, has_bit, put_bit};
 use std::alloc::{AllocError, Global};
 use std::marker::Model;
 
-/// A set of numbers from 0 up to a count.
+/// A set of numbers below a count.
 ///
-/// A number is in the set where its bit in `words` is set, and a word isn't 0 where its bit in
-/// `summary` is set. The next number of the set is found from one word and the summary, which has
-/// one word for each 4096 numbers.
+/// A number is in the set if its bit in `words` is set. A bit of `summary` is set if the word with this index isn't
+/// 0. So the next number of the set is found from one word and the summary, which has one word for each 4096 numbers.
 #[derive(Drop)]
 pub struct NumberSet {
     count: usize,
@@ -66,7 +65,7 @@ impl NumberSet {
         put_bit(&mut self.summary, number / WORD_BITS, word != 0);
     }
 
-    /// Takes all numbers out.
+    /// Removes all numbers from the set.
     #[tactic(auto, using(crate::proofs::Marks::cleared))]
     pub fn clear(&mut self)
         ensures { self.new ≡ replicate (length self.old) false }
@@ -75,7 +74,7 @@ impl NumberSet {
         self.summary.fill(0);
     }
 
-    /// The least number of the set from a number on.
+    /// Returns the least number of the set that isn't below `from`, or `None`.
     #[tactic(auto, using(crate::proofs::Marks::next_is_marked, crate::proofs::Marks::none_is_marked))]
     pub fn next(&self, from: usize) -> Option<usize>
         ensures some { IfSome result (λ number. IsNextMarked self.now from number) }
@@ -85,7 +84,7 @@ impl NumberSet {
         first_summed(&self.words, &self.summary, from)
     }
 
-    /// The least number from a number on that isn't in the set. Goes over words of 64 numbers.
+    /// Returns the least number that isn't in the set and isn't below `from`, or `None`. Checks 64 numbers at a time.
     #[tactic(auto, using(crate::proofs::Marks::all_are_marked, crate::proofs::Marks::words_hold))]
     pub fn next_missing(&self, from: usize) -> Option<usize>
         ensures some { IfSome result (λ number. IsNextUnmarked self.now from number) }

@@ -1,4 +1,4 @@
-// Items by place, in memory that was reserved for them.
+// Items by place, in reserved memory.
 ghost use Rattle.std.specs.Prelude.{◌≡◌, ◌<◌, Some, None, false, length, replicate, is_some, slice_set, IfOk, IsSome};
 ghost use Rattle.std.specs.Borrow.{Lends, sem};
 ghost use Rattle.collections.specs.SparseVec.{item_at};
@@ -6,15 +6,15 @@ ghost use Rattle.collections.specs.SparseVec.{item_at};
 use std::alloc::{AllocError, Global};
 use std::marker::Model;
 
-/// Items by place, in memory that was reserved for one at each. A place has no item at first, and
-/// keeps the one that it is given.
+/// Items by place, with memory reserved for one at each place. At first no place has an item; a place that was given
+/// one keeps it.
 ///
-/// The items stand without gaps in the order in which they were added, so a system that gives memory
-/// when it is first written gives none for places without an item.
+/// The items lie in memory without gaps, in the order in which they were added. So a system that provides memory only
+/// when it is first written provides none for places without an item.
 #[derive(Drop)]
 pub struct SparseVec<T> {
     items: Vec<T>,
-    /// By place, where in `items` its item is. A place without one has a position past all places.
+    /// By place: the index of its item in `items`. For a place without an item, a value past all indexes.
     at: Vec<usize>,
 }
 
@@ -33,7 +33,7 @@ impl<T> Model for SparseVec<T> {
 impl<T: Drop> SparseVec<T> {
     ghost use Rattle.collections.specs.contracts.sparse_vec.SparseVec.{the_row};
 
-    /// `most` places without an item, and memory for an item at each. Fails only if memory runs out.
+    /// Returns `most` places without an item, and memory for an item at each. Fails only if memory runs out.
     #[tactic(auto, using(crate::proofs::Positions::filled, crate::proofs::Positions::none_in))]
     pub fn new(alloc: Global, most: usize) -> Result<SparseVec<T>, AllocError>
         ensures { IfOk result (λ made. made ≡ replicate most None) }
@@ -71,7 +71,7 @@ impl<T: Drop> SparseVec<T> {
         &self.items[at]
     }
 
-    /// Lends the item of a place that has one.
+    /// Borrows the item of a place that has one, to change it.
     #[tactic(auto, using(crate::proofs::Positions::has_place, crate::proofs::Positions::inside_at))]
     pub fn item_mut(&mut self, place: usize) -> &mut T
         requires { IsSome (item_at self.old place) }
@@ -83,7 +83,7 @@ impl<T: Drop> SparseVec<T> {
         &mut self.items[at]
     }
 
-    /// Gives a place an item that has none.
+    /// Puts an item at a place that has none.
     #[tactic(auto, using(crate::proofs::Positions::placed, crate::proofs::Positions::room))]
     pub fn add(&mut self, place: usize, item: T)
         requires within { place < length self.old }

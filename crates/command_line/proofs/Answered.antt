@@ -10,7 +10,7 @@ use Rattle.clap.specs.Simple.{App, subcommand_rows_of}
 use Rattle.command_line.proofs.Lacking.{found}
 use Rattle.command_line.proofs.Taken.{StopsWell, is_no_help, is_plain, level_keeps}
 
--- the command as a parse builds it
+-- the command in the form that a parse builds
 abbrev whole : App
 whole = built eros_app
 
@@ -18,7 +18,7 @@ whole = built eros_app
 abbrev is_ready : Shape → Bool
 is_ready s = is_empty s.aliases && (bytes_eq s.name (codes "help") || (is_plain s.rules && not s.subcommand_negates_reqs))
 
--- a subcommand without other names answers to its name alone
+-- a subcommand without aliases has only its name
 its_name : (s : Shape) (name : Text) → is_empty s.aliases ≡ true → answers_to name (label_of s) ≡ true → s.name ≡ name
 its_name s name plain answers = go s.aliases plain (bytes_eq s.name name) refl answers
   where
@@ -68,7 +68,7 @@ entered_named (Some p) some well passes none = go (subcommand_named p.0) refl so
     go None is some level none = absurd (true≢false (sym some))
     go (Some s) is some level none = shape_named p well s is level none
 
--- words that the command takes name a job, unless they are an upgrade or a copy of one word to itself
+-- words that the command accepts name a job, unless they are an upgrade or a copy of one word to itself
 pub takes_named : (words : List Text) → takes eros_app words ≡ true → NamesNone (subcommand_of eros_app words) →
     AsksForSame (subcommand_of eros_app words)
 takes_named words taken none =
@@ -79,14 +79,14 @@ takes_named words taken none =
     let kept = level_keeps whole.top (names_of whole) given (is_some (entered whole stop)) refl refl passes.1 in
     entered_named stop kept.2 kept.1 passes.0 none
 
--- and so does a parse that gives matches of such words
+-- a parse that returns matches of such words names no job only in this case
 pub unnamed : (words : List Text) (command : Command) (m : ArgMatches) → app_of command ≡ eros_app → HasMatchesOf (app_of command) words m
     → NamesNone (subcommand_rows_of m) → takes eros_app words ≡ true → AsksForSame (subcommand_of eros_app words)
 unnamed words command m is has none taken =
     let same = (has (ap is_simple is)).1 ∙ ap (λ a. subcommand_of a words) is in
     takes_named words taken (subst NamesNone same none)
 
--- what matches request is what the words request
+-- the job that the matches name is the one that the words name
 pub named_by : (words : List Text) (command : Command) (m : ArgMatches) → app_of command ≡ eros_app → HasMatchesOf (app_of command) words m
     → (x : CommandLine) → NamesLine (subcommand_rows_of m) x → NamesLine (subcommand_of eros_app words) x
 named_by words command m is has x named =

@@ -6,12 +6,12 @@ use Rattle.command_line.proofs.Names.{IsGiven, All, IsUnsignedIn, greatest_numbe
 use Rattle.command_line.proofs.Names.{AreNumbersIfAny, GivesNoNumbers}
 use Rattle.std.proofs.Common.{◌≡◌, ◌∙◌}
 
--- the subcommand that was met is that of its name and its rows
+-- the subcommand in the matches is that of its name and its rows
 pub met : (m : ArgMatches) (name : Text) (rows : List Row) → Some name ≡ subcommand_name_of m
     → Some rows ≡ option_map (λ p. p.1) (subcommand_rows (out-ArgMatches m).subcommand) → subcommand_rows_of m ≡ Some (name, rows)
 met m name rows named rowed = grind (arith, nat_tests)
 
--- what a getter answers is what the rows give
+-- the value of a getter is that of the rows
 pub given : (f : Found) (id : Text) (o : Option (Bor Text)) (text : Bor Text) → option_map (λ s. s.now) o ≡ first_value f id → o ≡ Some text
     → IsGiven (rows_of f) id text.now
 given f id o text got is = sym (first_value-rows f id) ∙ (sym got ∙ ap (option_map (λ s. s.now)) is)
@@ -34,12 +34,12 @@ pub missing_all : (f : Found) (id : Text) (o : Option (Bor (List (Bor Text)))) �
     → o ≡ None → all_of id (rows_of f) ≡ None
 missing_all f id o got is = sym (raw_values-rows f id) ∙ (sym got ∙ ap (option_map (λ s. map (λ v. v.now) s.now)) is)
 
--- what holds of an answer, if any
+-- a property of the value of an option, if there is one
 pub held : {X : Type 0} (P : X → Type 0) (o : Option X) (x : X) → IfSome o P → o ≡ Some x → P x
 held P None x holds is = let bad : None ≡ Some x = is in cc
 held P (Some y) x holds is = let same : y ≡ x = ap (λ (o : Option _). unwrap_or o y) is in subst P same holds
 
--- a flag is given where its value is `true`
+-- a flag is given if its value is `true`
 pub flagged : (rows : List Row) (id word : Text) (b : Bool) → IsGiven rows id word → bytes_eq word (codes "true") ≡ b → IsFlag rows id b
 flagged rows id word b given e = grind (arith, nat_tests, bytes_eq-Decides)
 

@@ -9,7 +9,7 @@ use Rattle.std.proofs.Common.{◌≡◌, ◌≢◌, ◌<◌, ◌∙◌, ◌&&◌
 use Rattle.command_line.specs.declared.subcommands.Subcommand.TheVariants as sub
 use Rattle.command_line.proofs.Getters.{missing}
 
--- what is found passes its test, and each test that all pass
+-- an item that is found passes its test, and each test that all items pass
 pub found : {X : Type 0} (p q : X → Bool) (xs : List X) (x : X) → find p xs ≡ Some x → list_all q xs ≡ true → (p x ≡ true) × (q x ≡ true)
 found p q [] x is all = let bad : None ≡ Some x = is in cc
 found p q (y ∷ ys) x is all = grind (arith, nat_tests, found p q ys x)
@@ -96,7 +96,7 @@ pub same_twice : (command id : Text) (rows : List Row) (one other : Text) → fi
     first_of (codes "NEW") rows ≡ Some other → one ≡ other → IsSameOf command id command rows
 same_twice command id rows one other one_is other_is same = (refl, one, one_is, other_is ∙ ap Some (sym same))
 
--- the name is none of these
+-- the name is none of these names
 abbrev DiffersFrom : Text → List Shape → Type 0
 DiffersFrom name [] = ⊤
 DiffersFrom name (s ∷ rest) = (name ≡ s.name → ⊥) × DiffersFrom name rest

@@ -4,7 +4,7 @@ use Rattle.command_line.proofs.Names.{kind_of, Command, Error, OutOfMemory, Valu
 use Rattle.std.proofs.Common.{◌≡◌, ◌⊎◌}
 use Rattle.clap.specs.Words.{app_of, subcommand_of, takes}
 
--- words are refused as bad ones by an error that explains it
+-- words are refused with an error that explains why
 pub refused : (words : List Text) (e : Error) (f : JobFault) → IsFaultOf e f → (kind_of e ≡ OutOfMemory) ⊎ Explains words e →
     IsRefused words f
 refused words e f is reported = grind (arith, nat_tests)
@@ -19,7 +19,7 @@ parse_explains words e passes kinds = go (takes eros_app words) refl
     go true taken = inl (passes taken)
     go false not_taken = elim kinds [ inl memory ↦ inl memory | inr among ↦ inr (inl (not_taken, among)) ]
 
--- and so it does where the parse is of a command that is read as that of `eros`
+-- so are words whose parse fails, if the command is that of `eros`
 pub parse_refused : (words : List Text) (command : Command) (e : Error) → app_of command ≡ eros_app →
     (takes (app_of command) words ≡ true → kind_of e ≡ OutOfMemory)
     → (is_simple_and_free (app_of command) ≡ true → HasKind (fault_of (app_of command) words) e) →
@@ -28,12 +28,12 @@ parse_refused words command e is passes kinds =
     parse_explains words e (subst (λ (a : App). takes a words ≡ true → kind_of e ≡ OutOfMemory) is passes)
     (subst (λ (a : App). is_simple_and_free a ≡ true → HasKind (fault_of a words) e) is kinds refl)
 
--- clap has nothing against words whose matches it gave
+-- clap accepts the words for which it returned matches
 pub nothing_against : (words : List Text) (command : Command) → app_of command ≡ eros_app
     → (is_simple_and_free (app_of command) ≡ true → fault_of (app_of command) words ≡ []) → fault_of eros_app words ≡ []
 nothing_against words command is none = subst (λ (a : App). is_simple_and_free a ≡ true → fault_of a words ≡ []) is none refl
 
--- a bad value explains why words name no job that clap has nothing against, where these are an upgrade or a copy of one word to itself
+-- for an upgrade or a copy of one word to itself, which clap accepts, `ValueValidation` explains why it is refused
 pub value_refused : (words : List Text) (e : Error) → kind_of e ≡ ValueValidation → fault_of eros_app words ≡ []
     → (takes eros_app words ≡ true → AsksForSame (subcommand_of eros_app words)) → (kind_of e ≡ OutOfMemory) ⊎ Explains words e
 unfolding Explains

@@ -16,7 +16,7 @@ use Rattle.clap.specs.Walk.{Row, Rule, Text}
 abbrev pub suits : List Rule → Text → List Text → Bool
 suits c id values = option_map_or (λ a. values_pass a values) (arg_by_id c id) true
 
--- a row has a value, and its values suit its argument
+-- a row has a value, and its values are valid for its argument
 abbrev pub IsGood : List Rule → Row → Type 0
 IsGood c r = (0 < length r.values) × (suits c r.id r.values ≡ true)
 
@@ -25,16 +25,16 @@ abbrev pub Filled : List Rule → List Row → Type 0
 Filled c [] = ⊤
 Filled c (r ∷ rs) = IsGood c r × Filled c rs
 
--- a use of the argument leaves a value, unless it requests help or the version
+-- each use of the argument gives a value, unless it asks for help or the version
 abbrev pub gives_value : Rule → Bool
 gives_value a = is_request (action_of a) || (nat_lt 0 (unwrap_or_range a.range).start_inclusive || not (is_empty a.missing))
 
--- each use of these arguments leaves a value, and no two have one name
+-- each use of these arguments gives a value, and no two have the same name
 abbrev pub is_plain : List Rule → Bool
 is_plain [] = true
 is_plain (a ∷ c) = gives_value a && (not (list_any (λ b. bytes_eq b.id a.id) c) && is_plain c)
 
--- the argument leaves values, and is the one of its name
+-- the argument gives values, and is the only one of its name
 abbrev IsOwn : List Rule → Rule → Type 0
 IsOwn c a = (gives_value a ≡ true) × (arg_by_id c a.id ≡ Some a)
 
@@ -56,7 +56,7 @@ all_own (a ∷ c) simple =
     let rest = both (not (list_any (λ b. bytes_eq b.id a.id) c)) _ parts.1 in
     grind (arith, nat_tests, all_own c rest.1, bytes_eq-Decides, own_below)
 
--- the argument, if any, is the one of its name
+-- the argument, if there is one, is the only one of its name
 abbrev IsOwnIfAny : List Rule → Option Rule → Type 0
 IsOwnIfAny c None = ⊤
 IsOwnIfAny c (Some a) = IsOwn c a
@@ -88,7 +88,7 @@ module _ (c : List Rule) where
   without_keeps : (id : Text) (rows : List Row) → Filled c rows → Filled c (without id rows)
   without_keeps id rows f = changed id (λ _. []) [] rows (λ r is good. tt) tt f
 
-  -- values of a row of the argument's name suit it if they pass its parser
+  -- the values of a row are valid for the argument of its name if they pass its parser
   suits_own : (a : Rule) (id : Text) (values : List Text) → arg_by_id c a.id ≡ Some a → bytes_eq id a.id ≡ true →
       suits c id values ≡ values_pass a values
   suits_own a id values own same =
@@ -253,7 +253,8 @@ whole_from : (c xs : List Rule) (rows : List Row) → AllOwn c xs → Filled c r
 whole_from c [] rows own f given = refl
 whole_from c (a ∷ xs) rows own f given = grind (arith, nat_tests, whole_from c xs rows own.1 f, rule_filled)
 
--- what holds of a level that passes: each argument has the values that it takes, no help is entered, and a required subcommand is there
+-- a level that is accepted: each argument has valid values, no help is asked for, and a required subcommand is
+-- present
 pub level_keeps : (s : Shape) (names : Names) (words : List Text) (has_subcommand : Bool) → is_plain s.rules ≡ true →
     s.subcommand_negates_reqs ≡ false → level_passes s names nothing_held words has_subcommand ≡ true
     → (is_whole s.rules (finished s.rules (walk s.rules names nothing_held words).held) ≡ true)

@@ -1,4 +1,4 @@
-// Why words name no job.
+// Why the words of a command line name no job.
 ghost use Rattle.std.specs.Prelude.{◌≡◌, IfOk};
 ghost use Rattle.clap.specs.Words.{kind_of};
 ghost use Rattle.clap.specs.declared.error.kind.ErrorKind.TheVariants.{InvalidValue};
@@ -9,10 +9,11 @@ use clap::Error;
 use clap::error::ErrorKind;
 use std::alloc::{AllocError, Global};
 
-/// Why words name no job.
+/// Why the words of a command line name no job.
 #[derive(Drop)]
 pub enum JobFault {
-    /// The command doesn't take them, they ask for help, or an upgrade or a copy has one word twice. This is clap's message.
+    /// With clap's message: the words are wrong for the command, they ask for help, or both files of an upgrade or a
+    /// copy are the same.
     BadWords(Error),
     /// Memory ran out.
     NoMemory,
@@ -29,7 +30,7 @@ impl From<AllocError> for JobFault {
 impl JobFault {
     ghost use Rattle.command_line.specs.Refusals.{IsFaultOf};
 
-    // The fault for an error of clap.
+    // Returns the fault for an error of clap.
     pub(crate) fn of(error: Error) -> JobFault
         ensures { IsFaultOf error result }
     {
@@ -41,7 +42,7 @@ impl JobFault {
     }
 }
 
-// Clap's message for a word that isn't text.
+// Returns clap's message for a word that isn't text.
 fn text_error(alloc: Global) -> Result<Error, AllocError>
     ensures { IfOk result (λ e. kind_of e ≡ InvalidValue) }
 {
@@ -54,7 +55,7 @@ fn text_error(alloc: Global) -> Result<Error, AllocError>
 impl JobFault {
     ghost use Rattle.command_line.specs.Refusals.{IsReportedAs};
 
-    /// Why words name no job if one of them isn't text: they are bad ones, or memory ran out.
+    /// Returns the fault for words of which one isn't text: bad words, or `NoMemory` if memory ran out.
     pub fn not_text(alloc: Global) -> JobFault
         ensures { IsReportedAs InvalidValue result }
     {

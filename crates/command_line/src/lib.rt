@@ -1,4 +1,4 @@
-//! The command line of `eros`: which job the words name.
+//! The command line of `eros`: reading from its words which job to do.
 #![tactic(auto)]
 
 mod arguments;

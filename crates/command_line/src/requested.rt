@@ -1,4 +1,4 @@
-// Which job the words name.
+// The jobs of `eros`, and reading them from clap's matches.
 ghost use Rattle.std.specs.Prelude.{◌≡◌, ◌⊎◌, IfErr, IfOk, IfSome, IsNone, codes, map};
 ghost use Rattle.clap.specs.Words.{found_of, kind_of, rows_of, subcommand_of, subcommand_rows_of};
 ghost use Rattle.clap.specs.declared.error.kind.ErrorKind.TheVariants.{OutOfMemory};
@@ -43,16 +43,15 @@ pub struct Sizes {
 pub struct Run<'a> {
     pub image: &'a str,
     pub script: Script<'a>,
-    /// The most objects kept in memory; `None` keeps all.
+    /// The most objects kept in memory. `None`: all.
     pub cache: Option<Capacity>,
-    /// Whether the result of each line is written to standard error.
+    /// Whether a line about each line of the script is written to standard error.
     pub trace: bool,
-    /// Whether the run stops at the first line that is bad or refused, or whose invocation of a kernel
-    /// object fails.
+    /// Whether the run stops at the first line that is bad or refused, or whose invocation of a kernel object fails.
     pub strict: bool,
-    /// Whether all is saved after the last line.
+    /// Whether the present state is saved after the last line.
     pub saves: bool,
-    /// How many reads, writes and syncs the device answers before it fails each; `None` where it answers all.
+    /// The number of reads, writes and syncs after which the device fails every call. `None`: it never does.
     pub stop_after: Option<u64>,
 }
 
@@ -60,28 +59,28 @@ pub struct Run<'a> {
 #[derive(Drop)]
 pub struct Reach<'a> {
     pub image: &'a str,
-    /// The numbers of the processes, in the order of the words; none stands for all processes.
+    /// The numbers of the processes, in the order of the words; if there are none, all processes.
     pub processes: Vec<u64>,
-    /// Whether it is what they can ever read instead.
+    /// Whether the question is what they can ever read, instead of change.
     pub reads: bool,
-    /// The object to which a shortest chain of capabilities is shown.
+    /// The object to which a shortest chain of capabilities is printed.
     pub shows: Option<u64>,
-    /// The object whose changers are printed: the processes that can change it.
+    /// The object for which all processes are printed that can change it.
     pub to: Option<u64>,
-    /// The processes that are trusted, in the order of the words.
+    /// The numbers of the trusted processes, in the order of the words.
     pub trusted: Vec<u64>,
     /// Whether the answer is JSON.
     pub json: bool,
 }
 
-/// What `eros` does, with the names of the files.
+/// A job of `eros`, with the names of its files.
 #[derive(Drop)]
 pub enum Job<'a> {
     /// Builds an image.
     Build {
         description: &'a str,
         image: &'a str,
-        /// Whether the build is refused if there is a file, and leaves none after a fault.
+        /// Whether an existing file is refused. Then no file is left after a fault.
         is_new: bool,
     },
     /// Runs a script over an image.
@@ -89,7 +88,7 @@ pub enum Job<'a> {
     /// Reads commands from a terminal and runs them over an image.
     Shell {
         image: &'a str,
-        /// The most objects kept in memory; `None` keeps all.
+        /// The most objects kept in memory. `None`: all.
         cache: Option<Capacity>,
     },
     /// Checks an image.
@@ -98,7 +97,7 @@ pub enum Job<'a> {
         /// Whether the answer is JSON.
         json: bool,
     },
-    /// Says why a description or an image is refused.
+    /// Prints why a description or an image is refused.
     Explain {
         file: &'a str,
         /// Whether the answer is JSON.
@@ -110,47 +109,47 @@ pub enum Job<'a> {
         /// Whether the answer is JSON.
         json: bool,
     },
-    /// Prints what processes of an image can ever change.
+    /// Prints what processes of an image can ever change, or read.
     Reach(Reach<'a>),
-    /// Writes what an image saves to a new image, of version 2 of the layout. The two names differ.
+    /// Writes the saved state of an image to a new image, in version 2 of the layout. The two names differ.
     Upgrade {
         old: &'a str,
         new: &'a str,
     },
-    /// Writes what an image saves to a new image, of the same version of the layout. The two names differ.
+    /// Writes the saved state of an image to a new image, in the same version of the layout. The two names differ.
     Copy {
         image: &'a str,
         new: &'a str,
     },
-    /// Describes what an image saves.
+    /// Prints a description of the saved state of an image.
     Describe {
         image: &'a str,
         sizes: Sizes,
     },
-    /// Draws what an image saves.
+    /// Prints a graph of the saved state of an image.
     Draw {
         image: &'a str,
-        /// Draws only what this process reaches: the smallest closed set that contains it.
+        /// Draws only what this process reaches: the least closed set that contains it.
         from: Option<u64>,
         /// Whether that set is closed for reading.
         reads: bool,
-        /// Draws only this object and what holds a capability to it.
+        /// Draws only this object and the holders of capabilities to it.
         to: Option<u64>,
     },
 }
 
-/// What a command line requests.
+/// What a command line asks for.
 #[derive(Drop)]
 pub struct CommandLine<'a> {
     /// The job.
     pub job: Job<'a>,
-    /// Whether the cause of a fault is written to standard error in any case.
+    /// Whether the cause of a fault is always written to standard error.
     pub is_verbose: bool,
     /// The file that gives names to objects.
     pub names: Option<&'a str>,
 }
 
-// The script that a word names: a hyphen alone is standard input.
+// Returns the script that a word names. A single hyphen is standard input.
 fn script_of<'a>(word: &'a str) -> Script<'a>
     ensures { IsScript word.entry.now result }
 {
@@ -161,8 +160,8 @@ fn script_of<'a>(word: &'a str) -> Script<'a>
     }
 }
 
-// The capacity of the option `--cache`: `Some(None)` where it is left out, and `None` where it is no number
-// from 8 to 8192.
+// Returns the capacity of the option `--cache`: `Some(None)` if it is left out, and `None` if it isn't a number from
+// 8 to 8192.
 fn cache_of(inner: &ArgMatches<'_>) -> Option<Option<Capacity>>
     ensures named { IfSome result (IsCache (rows_of (found_of inner.now))) }
     ensures none { IsNone result → GivesNoNumber (rows_of (found_of inner.now)) (codes "cache") 8 8192 }
@@ -176,7 +175,7 @@ fn cache_of(inner: &ArgMatches<'_>) -> Option<Option<Capacity>>
     }
 }
 
-// The number of an option: `Some(None)` where it is left out, and `None` where its word writes no number.
+// Returns the number of an option: `Some(None)` if it is left out, and `None` if its word isn't a number.
 fn number_of(inner: &ArgMatches<'_>, name: &str) -> Option<Option<u64>>
     ensures named { IfSome result (IsNumberOption (rows_of (found_of inner.now)) name.now) }
     ensures none { IsNone result → GivesNoNumber (rows_of (found_of inner.now)) name.now 0 greatest_number }
@@ -184,7 +183,7 @@ fn number_of(inner: &ArgMatches<'_>, name: &str) -> Option<Option<u64>>
     option_of(inner, name, 0, u64::MAX)
 }
 
-// The build that the matches name, or `None` where a word is missing.
+// The `build` job for these matches, or `None` if a word is missing.
 fn build_of<'a>(inner: &ArgMatches<'a>) -> Option<Job<'a>>
     ensures named { IfSome result (IsJob (codes "build") (rows_of (found_of inner.now))) }
     ensures none { IsNone result → IsNoJob (codes "build") (rows_of (found_of inner.now)) }
@@ -199,7 +198,7 @@ fn build_of<'a>(inner: &ArgMatches<'a>) -> Option<Job<'a>>
     })
 }
 
-// The run that the matches name, or `None` where a word is missing or an option gives no number that it takes.
+// The `run` job for these matches, or `None` if a word is missing or an option has no valid number.
 fn run_of<'a>(inner: &ArgMatches<'a>) -> Option<Job<'a>>
     ensures named { IfSome result (IsJob (codes "run") (rows_of (found_of inner.now))) }
     ensures none { IsNone result → IsNoJob (codes "run") (rows_of (found_of inner.now)) }
@@ -223,7 +222,7 @@ fn run_of<'a>(inner: &ArgMatches<'a>) -> Option<Job<'a>>
     }))
 }
 
-// The shell that the matches name, or `None` where the image is missing or the capacity is none.
+// The `shell` job for these matches, or `None` if they have no image argument or no valid capacity.
 fn shell_of<'a>(inner: &ArgMatches<'a>) -> Option<Job<'a>>
     ensures named { IfSome result (IsJob (codes "shell") (rows_of (found_of inner.now))) }
     ensures none { IsNone result → IsNoJob (codes "shell") (rows_of (found_of inner.now)) }
@@ -233,7 +232,7 @@ fn shell_of<'a>(inner: &ArgMatches<'a>) -> Option<Job<'a>>
     Some(Job::Shell { image, cache })
 }
 
-// The check that the matches name, or `None` where the image is missing.
+// The `check` job for these matches, or `None` if they have no image argument.
 fn check_of<'a>(inner: &ArgMatches<'a>) -> Option<Job<'a>>
     ensures named { IfSome result (IsJob (codes "check") (rows_of (found_of inner.now))) }
     ensures none { IsNone result → IsNoJob (codes "check") (rows_of (found_of inner.now)) }
@@ -243,7 +242,7 @@ fn check_of<'a>(inner: &ArgMatches<'a>) -> Option<Job<'a>>
     Some(Job::Check { image, json })
 }
 
-// The explanation that the matches name, or `None` where the file is missing.
+// The `explain` job for these matches, or `None` if they have no file argument.
 fn explain_of<'a>(inner: &ArgMatches<'a>) -> Option<Job<'a>>
     ensures named { IfSome result (IsJob (codes "explain") (rows_of (found_of inner.now))) }
     ensures none { IsNone result → IsNoJob (codes "explain") (rows_of (found_of inner.now)) }
@@ -253,7 +252,7 @@ fn explain_of<'a>(inner: &ArgMatches<'a>) -> Option<Job<'a>>
     Some(Job::Explain { file, json })
 }
 
-// The account of an image that the matches name, or `None` where the image is missing.
+// The `info` job for these matches, or `None` if they have no image argument.
 fn info_of<'a>(inner: &ArgMatches<'a>) -> Option<Job<'a>>
     ensures named { IfSome result (IsJob (codes "info") (rows_of (found_of inner.now))) }
     ensures none { IsNone result → IsNoJob (codes "info") (rows_of (found_of inner.now)) }
@@ -263,8 +262,8 @@ fn info_of<'a>(inner: &ArgMatches<'a>) -> Option<Job<'a>>
     Some(Job::Info { image, json })
 }
 
-// The analysis of these processes, with these trusted, that the matches name, or `None` where the image is missing or an option
-// gives no number.
+// The `reach` job for these matches, processes and trusted processes, or `None` if there is no image argument or an
+// option has no valid number.
 fn reach_from<'a>(inner: &ArgMatches<'a>, processes: Vec<u64>, trusted: Vec<u64>) -> Option<Job<'a>>
     ensures named { AreNumbersIfAny (rows_of (found_of inner.now)) (codes "P") processes.items
         → AreNumbersIfAny (rows_of (found_of inner.now)) (codes "trust") trusted.items → IfSome result (IsJob (codes "reach") (rows_of (found_of inner.now))) }
@@ -285,8 +284,8 @@ fn reach_from<'a>(inner: &ArgMatches<'a>, processes: Vec<u64>, trusted: Vec<u64>
     }))
 }
 
-// The analysis of these processes that the matches name, or `None` where the image is missing or a word writes
-// no number. Fails where memory runs out.
+// The `reach` job for these matches and processes, or `None` if there is no image argument or a word isn't a number.
+// Fails if memory runs out.
 fn reach_with<'a>(
     alloc: Global,
     inner: &ArgMatches<'a>,
@@ -302,7 +301,7 @@ fn reach_with<'a>(
     }
 }
 
-// The analysis that the matches name, or `None` where the image is missing or a word writes no number. Fails where
+// The `reach` job for these matches, or `None` if there is no image argument or a word isn't a number. Fails if
 // memory runs out.
 fn reach_of<'a>(alloc: Global, inner: &ArgMatches<'a>) -> Result<Option<Job<'a>>, AllocError>
     ensures named { IfOk result (λ o. IfSome o (IsJob (codes "reach") (rows_of (found_of inner.now)))) }
@@ -314,7 +313,7 @@ fn reach_of<'a>(alloc: Global, inner: &ArgMatches<'a>) -> Result<Option<Job<'a>>
     }
 }
 
-// The upgrade that the matches name, or `None` where a word is missing or both are one.
+// The `upgrade` job for these matches, or `None` if a word is missing or both are the same.
 fn upgrade_of<'a>(inner: &ArgMatches<'a>) -> Option<Job<'a>>
     ensures named { IfSome result (IsJob (codes "upgrade") (rows_of (found_of inner.now))) }
     ensures none { IsNone result → IsNoJob (codes "upgrade") (rows_of (found_of inner.now)) }
@@ -327,7 +326,7 @@ fn upgrade_of<'a>(inner: &ArgMatches<'a>) -> Option<Job<'a>>
     Some(Job::Upgrade { old, new })
 }
 
-// The copy that the matches name, or `None` where a word is missing or both are one.
+// The `copy` job for these matches, or `None` if a word is missing or both are the same.
 fn copy_of<'a>(inner: &ArgMatches<'a>) -> Option<Job<'a>>
     ensures named { IfSome result (IsJob (codes "copy") (rows_of (found_of inner.now))) }
     ensures none { IsNone result → IsNoJob (codes "copy") (rows_of (found_of inner.now)) }
@@ -340,7 +339,7 @@ fn copy_of<'a>(inner: &ArgMatches<'a>) -> Option<Job<'a>>
     Some(Job::Copy { image, new })
 }
 
-// The sizes that the matches give, or `None` where one is no number.
+// The sizes in these matches, or `None` if a word isn't a number.
 fn sizes_of(inner: &ArgMatches<'_>) -> Option<Sizes>
     ensures named { IfSome result (AreSizes (rows_of (found_of inner.now))) }
     ensures none { IsNone result → IsNoJob (codes "describe") (rows_of (found_of inner.now)) }
@@ -352,7 +351,7 @@ fn sizes_of(inner: &ArgMatches<'_>) -> Option<Sizes>
     })
 }
 
-// The description that the matches name, or `None` where the image is missing or a size is no number.
+// The `describe` job for these matches, or `None` if they have no image argument or a size isn't a number.
 fn describe_of<'a>(inner: &ArgMatches<'a>) -> Option<Job<'a>>
     ensures named { IfSome result (IsJob (codes "describe") (rows_of (found_of inner.now))) }
     ensures none { IsNone result → IsNoJob (codes "describe") (rows_of (found_of inner.now)) }
@@ -362,7 +361,7 @@ fn describe_of<'a>(inner: &ArgMatches<'a>) -> Option<Job<'a>>
     Some(Job::Describe { image, sizes })
 }
 
-// The drawing that the matches name, or `None` where the image is missing or an option gives no number.
+// The `draw` job for these matches, or `None` if they have no image argument or an option has no valid number.
 fn draw_of<'a>(inner: &ArgMatches<'a>) -> Option<Job<'a>>
     ensures named { IfSome result (IsJob (codes "draw") (rows_of (found_of inner.now))) }
     ensures none { IsNone result → IsNoJob (codes "draw") (rows_of (found_of inner.now)) }
@@ -378,7 +377,7 @@ fn draw_of<'a>(inner: &ArgMatches<'a>) -> Option<Job<'a>>
     })
 }
 
-// The job of a subcommand with its matches, or `None`. Fails where memory runs out.
+// The job of a subcommand with these matches, or `None`. Fails if memory runs out.
 fn job_of<'a>(
     alloc: Global,
     subcommand: Subcommand,
@@ -402,7 +401,7 @@ fn job_of<'a>(
     }
 }
 
-// The job of a subcommand of this name, or `None`. Fails where memory runs out.
+// The job of the subcommand with this name, or `None`. Fails if memory runs out.
 fn job_named<'a>(
     alloc: Global,
     name: &str,
@@ -425,7 +424,7 @@ fn names_of<'a>(inner: &ArgMatches<'a>) -> Option<&'a str>
     inner.get_str(NAMES)
 }
 
-// What a subcommand of this name requests, or `None`. Fails where memory runs out.
+// What the subcommand with this name asks for, or `None`. Fails if memory runs out.
 fn line_named<'a>(
     alloc: Global,
     name: &str,
@@ -448,7 +447,7 @@ fn line_named<'a>(
     }
 }
 
-// What the matches request, or `None`. Fails where memory runs out.
+// What these matches ask for, or `None`. Fails if memory runs out.
 fn requested<'a>(
     alloc: Global,
     matches: ArgMatches<'a>,
@@ -462,9 +461,9 @@ fn requested<'a>(
     }
 }
 
-// What the words request. Fails with what clap says of words that the command doesn't take, also where
-// they ask for help, with a `ValueValidation` where an upgrade or a copy has one word twice, and with
-// `OutOfMemory` where memory runs out.
+// Reads a command line from its words. Fails with clap's error if the words are wrong for the command or ask for
+// help, with `ValueValidation` if both files of an upgrade or a copy are the same, and with `OutOfMemory` if memory
+// runs out.
 pub(crate) fn read_line<'a, S: AsStr>(
     alloc: Global,
     command: &mut Command<'a>,
@@ -478,7 +477,7 @@ pub(crate) fn read_line<'a, S: AsStr>(
     let matches = command.try_get_matches_from_mut(words)?;
     match requested(alloc, matches)? {
         Some(line) => Ok(line),
-        // The command takes such words only where an upgrade or a copy has one word twice.
+        // Clap accepts words that name no job only if both files of an upgrade or a copy are the same.
         None => Err(command.error(ErrorKind::ValueValidation, "both files are the same")?),
     }
 }

@@ -1,4 +1,4 @@
-// The command that clap takes the words by.
+// The commands and arguments of `eros`, as clap knows them.
 ghost use Rattle.std.specs.Prelude.{◌≡◌, ◌≢◌, IfOk, MatchOption, false, map};
 ghost use Rattle.std.specs.List.{All};
 ghost use Rattle.clap.specs.Words.{new_app, rule_of};
@@ -68,22 +68,21 @@ const VERSION: &str = "1.0.0\nlayouts 1 and 2\nproved with rattle-kit-13f logic 
 enum Argument<'a> {
     /// A required file: its name and its help.
     File(&'a str, &'a str),
-    /// How many objects a cache may hold, which may be left out.
+    /// The option for how many objects a cache may hold.
     Cache,
-    /// The processes of `reach`, which may be left out.
+    /// The optional processes of `reach`.
     Processes,
-    /// An option that gives a number, which may be left out: its name, the name of the number, and its help.
+    /// An option with a number: its name, the name of the number, and its help.
     Number(&'a str, &'a str, &'a str),
-    /// An option that gives a number and may be given several times: its name, the name of the number, and its
-    /// help.
+    /// An option with a number that may be given several times: its name, the name of the number, and its help.
     Numbers(&'a str, &'a str, &'a str),
-    /// An option that gives no value, and may be left out: its name and its help.
+    /// An option without a value: its name and its help.
     Flag(&'a str, &'a str),
-    /// The file that gives names to objects, which may be left out.
+    /// The option for a file that gives names to objects.
     Names,
 }
 
-// An option that gives a number from `least` to `most`.
+// Returns an option with a number from `least` to `most`.
 fn number_arg<'a>(
     alloc: Global,
     name: &'a str,
@@ -103,7 +102,7 @@ fn number_arg<'a>(
         .help(help)
 }
 
-// An option that gives a number and may be given several times.
+// Returns an option with a number that may be given several times.
 fn numbers_arg<'a>(alloc: Global, name: &'a str, value: &'a str, help: &'a str) -> Arg<'a>
     ensures rule { rule_of result ≡ numbers_rule name.now }
     ensures local { result.global ≡ false }
@@ -111,7 +110,7 @@ fn numbers_arg<'a>(alloc: Global, name: &'a str, value: &'a str, help: &'a str) 
     number_arg(alloc, name, value, help, 0, u64::MAX).action(ArgAction::Append)
 }
 
-// The file that gives names to objects, which may be left out.
+// Returns the option for a file that gives names to objects.
 fn names_arg<'a>(alloc: Global) -> Arg<'a>
     ensures rule { rule_of result ≡ names_rule }
     ensures local { result.global ≡ false }
@@ -121,7 +120,7 @@ fn names_arg<'a>(alloc: Global) -> Arg<'a>
     )
 }
 
-// The processes of `reach`, which may be left out.
+// Returns the optional processes of `reach`.
 fn processes_arg<'a>(alloc: Global) -> Arg<'a>
     ensures rule { rule_of result ≡ processes_rule }
     ensures local { result.global ≡ false }
@@ -159,16 +158,16 @@ impl<'a> Argument<'a> {
     }
 }
 
-// An image that is only read.
+// The image of a command that only reads it.
 const READ: Argument<'static> = Argument::File(IMAGE, "The image, which isn't changed");
 
-// Answers for programs.
+// The flag for answers in JSON.
 const AS_JSON: Argument<'static> = Argument::Flag(
     JSON,
     "Prints JSON, an object a line; a fault too, as {\"fault\": ..}",
 );
 
-// The cause of a fault.
+// The flag that asks for the cause of a fault.
 const CAUSE: Argument<'static> = Argument::Flag(
     VERBOSE,
     "Also writes the file and the cause of a fault, as is done on a terminal",
@@ -219,7 +218,7 @@ const SHELL: &[Argument<'static>] = &[
     CAUSE,
 ];
 
-// An image that is only read, and told about.
+// The arguments of `check` and `info`.
 const TOLD: &[Argument<'static>] = &[READ, AS_JSON, CAUSE];
 
 const EXPLAIN: &[Argument<'static>] = &[
@@ -325,7 +324,7 @@ pub(crate) enum Subcommand {
 }
 
 impl Subcommand {
-    /// The subcommand of this name, or `None`.
+    /// Returns the subcommand with this name, or `None`.
     pub(crate) fn of(name: &str) -> Option<Subcommand>
         ensures { MatchOption result (All (λ s. name.now ≢ subcommand_name s) subcommands)
             (λ s. name.now ≡ subcommand_name s) }
@@ -390,7 +389,7 @@ impl Subcommand {
         }
     }
 
-    // Its arguments and options, in order.
+    // Returns the arguments and options of the subcommand, in order.
     fn arguments<'a>(self) -> &'a [Argument<'a>]
         ensures { map argument_rule result.now ≡ rules_of self }
     {
@@ -420,7 +419,7 @@ impl Subcommand {
     }
 }
 
-// All subcommands, in the order of the help.
+// All subcommands, in the order in which the help lists them.
 const SUBCOMMANDS: &[Subcommand] = &[
     Subcommand::Build,
     Subcommand::Run,
@@ -435,7 +434,7 @@ const SUBCOMMANDS: &[Subcommand] = &[
     Subcommand::Draw,
 ];
 
-// The program, with no subcommand yet.
+// Returns clap's command for the program, without its subcommands.
 fn bare<'a>(alloc: Global) -> Result<Command<'a>, AllocError>
     ensures { IfOk result (IsCommand bare_app) }
 {
@@ -466,7 +465,7 @@ fn bare<'a>(alloc: Global) -> Result<Command<'a>, AllocError>
         .bin_name("eros")
 }
 
-/// The command line of `eros`. Fails where memory runs out.
+/// Returns clap's command for `eros`. Fails if memory runs out.
 pub(crate) fn command<'a>(alloc: Global) -> Result<Command<'a>, AllocError>
     ensures { IfOk result (IsCommand eros_app) }
 {

@@ -1,4 +1,4 @@
-// What a command line requests.
+// Reading a command line.
 ghost use Rattle.std.specs.Prelude.{IfErr, IfOk, map};
 ghost use Rattle.clap.specs.Words.{subcommand_of};
 ghost use Rattle.command_line.specs.Commands.{eros_app};
@@ -11,10 +11,10 @@ use crate::subcommands::command;
 use std::alloc::Global;
 use std::convert::AsStr;
 
-/// What the words request. The first word is the name of the program.
+/// Reads a command line from its words. The first word is the name of the program.
 ///
-/// `BadWords` with an error of clap if the command doesn't take the words, also if they request help.
-/// `BadWords` with a `ValueValidation` if an upgrade has one word twice. `NoMemory` if memory runs out.
+/// Returns `BadWords` with an error of clap if the words are wrong for the command or ask for help, `BadWords` with a
+/// `ValueValidation` if both files of an upgrade or a copy are the same, and `NoMemory` if memory runs out.
 #[tactic(auto, using(crate::proofs::Refused::refused))]
 pub fn command_line<'a, S: AsStr>(
     alloc: Global,

@@ -9,7 +9,7 @@ use Rattle.std.proofs.Common.{◌≡◌, ◌+◌, ◌||◌, if◌then◌else◌,
 use Rattle.confinement.proofs.Zones.{Encloses, IsReceiver, MayChange, Stays, StaysWithin, Zone}
 use Rattle.model.specs.declared.object.Content.TheVariants as content
 
--- a content that may stand at a number: it makes no bank of what was none, and frees no object but a member
+-- a content that may be put at a number: it is not a bank unless a bank was there, and free only at a member
 pub record MayStand (z : Zone) (os : List Object) (n : ℕ) (c : Content Capability) : Type 0 where
   pub free : is_free c ≡ true → IsTrue (z.members n)
   pub bank : is_bank c ≡ true → is_bank (content_at os n) ≡ true
@@ -27,7 +27,7 @@ map_same (c ∷ cs) = ap (λ ds. c ∷ ds) (map_same cs)
 content_same : (c : Content Capability) → c ≡ map_content (void_where (λ c. false)) c
 content_same c = grind (arith, nat_tests, map_same)
 
--- what goes first or second
+-- a test that either of two tests makes true
 abbrev either : (Capability → Bool) → (Capability → Bool) → Capability → Bool
 either first second c = first c || second c
 
@@ -60,14 +60,14 @@ kept_trans inside o p q a b = grind (arith, nat_tests, content_twice)
 pub stays_refl : (z : Zone) (os : List Object) → Encloses z os → StaysWithin z os os
 stays_refl z os h = record { encloses = h; kept = λ n out apart. kept_refl z.members (object_at os n) }
 
--- two changes within a set are one
+-- two changes within a set, one after the other, are a change within the set
 pub stays_trans : (z : Zone) (os us vs : List Object) → StaysWithin z os us → StaysWithin z us vs → StaysWithin z os vs
 stays_trans z os us vs a b = record {
   encloses = b.encloses;
   kept = λ n out apart. kept_trans z.members (object_at os n) (object_at us n) (object_at vs n) (a.kept n out apart) (b.kept n out apart);
 }
 
--- what a bank owns that is a member, is one, also where an object may change
+-- an object that a member bank owns is a member, also where objects may change
 owned_here : (z : Zone) (os : List Object) (n b : ℕ) → Encloses z os → IsTrue (z.members b) → IsTrue (is_bank (content_at os b)) →
     owner_at os n ≡ b → IsTrue (z.members n)
 owned_here z os n b h in_b bank own = go (is_free (content_at os n)) refl
@@ -85,7 +85,7 @@ owned_content z os n c h may b m in_b is =
     at_set (λ k (o : Object). is_free o.content ≡ false → o.owner ≡ b → IsTrue (z.members k)) os n m
     (record { owner = owner_at os n; content = c }) free (λ e own. owned_here z os n b h in_b was own) (h.closed.owned b m in_b was)
 
--- a number whose object may change isn't one of those that are kept
+-- a number whose object may change isn't one of the kept numbers
 changes : (z : Zone) (n : ℕ) → MayChange z n → z.members n ≡ false → z.ports n ≡ false → ⊥
 changes z n may out apart = grind (arith, nat_tests)
 
@@ -97,7 +97,7 @@ kept_content z os n c change m =
     (record { owner = owner_at os n; content = c }) free
     (λ out apart. absurd (changes z n change out apart)) (λ out apart. kept_refl z.members (object_at os m))
 
--- a content that may stand where an object may change
+-- putting such a content where an object may change keeps all other objects
 pub stays_content : (z : Zone) (os : List Object) (n : ℕ) (c : Content Capability) → Encloses z os → MayChange z n
     → MayStand z os n c → StaysWithin z os (with_content os n c)
 stays_content z os n c h change may = record {
@@ -121,7 +121,7 @@ stays_content z os n c h change may = record {
   kept = λ m out apart. kept_content z os n c change m out apart;
 }
 
--- what stands at a number may stand there
+-- the content at a number may be put back there
 may_stay : (z : Zone) (os : List Object) (n : ℕ) → Encloses z os → MayStand z os n (content_at os n)
 may_stay z os n h = record {
   free = h.free n;
@@ -177,7 +177,7 @@ stays_slots z os n i (c ∷ cs) h change stays =
     let one = stays_slot z os n i c h change (stays 0) in
     stays_trans z os us (with_slots_from us n (i + 1) cs) one (stays_slots z us n (i + 1) cs one.encloses change (λ j. stays (suc j)))
 
--- a root with the annex of what it replaces
+-- a root with the same annex as the root that it replaces
 pub stays_root : (z : Zone) (os : List Object) (p : ℕ) (r : Root Capability) → Encloses z os → MayChange z p → IsTrue (is_process os p)
     → r.annex ≡ annex_at os p → (IsTrue (z.members p) → Stays z r.space) → StaysWithin z os (with_root os p r)
 unfolding with_root
@@ -196,7 +196,7 @@ pub stays_state : (z : Zone) (os : List Object) (p : ℕ) (s : State) → Enclos
 unfolding with_state
 stays_state z os p s h in_p is = stays_root z os p (record (root_at os p) { state = s }) h (inl in_p) is refl (h.closed.spaces p)
 
--- what is put void
+-- making capabilities void
 
 stays_void : (z : Zone) (goes : Capability → Bool) (c : Capability) → Stays z c → Stays z (void_where goes c)
 stays_void z goes c stays = one_of (Stays z) (goes c) Void c (inl (inl tt)) stays

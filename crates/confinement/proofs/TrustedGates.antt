@@ -31,7 +31,7 @@ deliver_stays z os p m h receives root sent =
     stays_trans z os us (with_slots_from us old.annex 28 m.capabilities) first
     (stays_slots z us old.annex 28 m.capabilities first.encloses change.1 sent)
 
--- what an invocation sends
+-- the capabilities that an invocation sends
 
 map_stays : (z : Zone) (f : ℕ → Capability) (rs : List ℕ) (j : ℕ) → ((r : ℕ) → Stays z (f r))
     → Stays z (slice_index_or (map f rs) j Void)
@@ -127,7 +127,7 @@ replied_stays z i o h is given =
     deliver_stays z o.objects i.process (reply_of o) h (inl is)
     (and_parts (is_process o.objects i.process) (is_running (state_at o.objects i.process)) runs).0 (λ j. reply_stays z o j given))
 
--- what is held before the invoker's state changes is held after it
+-- a capability that may be held before the invoker's state changes may be held afterwards
 held_ready : (g : Geometry) (z : Zone) (os us : List Object) (c : Capability) → IsReady g z os us → IsHeld os (Waits os) c →
     IsHeld us (Waits us) c
 held_ready g z os us c ready held = held_on os us (Waits os) (Waits us) c ready.after.frame ready.after.waits held

@@ -25,7 +25,7 @@ refused_stays z os h = still z os Void h (void_stays z)
 
 -- accesses
 
--- what may be written through a capability that stays is a member
+-- an object that may be written through a capability that stays inside is a member
 writes : (z : Zone) (o : ℕ) (a : Access) → ((a.0 ≡ 3) ⊎ IsTrue (z.members o)) ⊎ ⊥ → not (a.0 == 0) ≡ false → IsTrue (z.members o)
 writes z o a is e = grind (arith, nat_tests)
 
@@ -92,7 +92,7 @@ process_stays z os p process.SetSpace args h is root sent =
     (λ _. refused_stays z os h)
 process_stays z os p which args h is root sent = grind (arith, nat_tests, chosen, still, refused_stays)
 
--- what can't be weak and stays inside names a member
+-- a capability that can't be weak and stays inside names a member
 pub strong : (z : Zone) (n : ℕ) → (⊥ ⊎ IsTrue (z.members n)) ⊎ ⊥ → IsTrue (z.members n)
 strong z n is = grind (arith, nat_tests)
 

@@ -39,7 +39,7 @@ content_alike f k (content.Root r) slots space = grind (arith, nat_tests)
 content_alike f k (content.Annex cs) slots space = ap content.Annex (map_alike f k cs slots)
 content_alike f k c slots space = refl
 
--- in a sound world no capability that goes names what was free
+-- in a sound world no capability that is made void names a number that was free
 kept_inside : (g : Geometry) (os : List Object) (age : ℕ) (inside : ℕ → Bool) (n : ℕ) (new : Object) →
     IsSound g (record { objects = os; age = age }) → IsKept (with_free os inside) (object_at os n) new → IsKept inside (object_at os n) new
 kept_inside g os age inside n new sound k = (
@@ -56,9 +56,9 @@ kept_inside g os age inside n new sound k = (
     alike : (c : Capability) → NamesItsKind os c → void_where k.0 c ≡ void_where goes c
     alike c kind = grind (arith, nat_tests)
 
--- what a store reaches
+-- the pages that stores reach
 
--- what is reached below a space, with the restrictions on the way
+-- a page reached below a space, with the restrictions on the way to it
 record IsBelow (a : Access) (rest : Result (ℕ × Access) MemoryFault) (found : ℕ × Access) : Type 0 where
   next : ℕ × Access
   is : rest ≡ Ok next
@@ -119,7 +119,7 @@ record IsWithin (g : Geometry) (z : Zone) (os : List Object) (s : Running) : Typ
   sound : IsSound g s.now
   stays : StaysWithin z os s.now.objects
 
--- the same of any machine; nothing is said of one that is down
+-- the same for any machine; a machine that is down has nothing to satisfy
 abbrev MachineWithin : Geometry → Zone → List Object → Machine → Type 0
 MachineWithin g z os (Up s) = IsWithin g z os s
 MachineWithin g z os (Down saved) = Unit {0}
@@ -174,14 +174,14 @@ store_keeps g z os s p address value (Err why) is in_p fits h = h
 abbrev IsTurnBy : (ℕ → Bool) → Turn → Type 0
 IsTurnBy inside t = (l : Line) → Says t.line l → IsLineBy inside l
 
--- what is answered, by the refusal
+-- the answer to a command, by the refusal if there is one
 abbrev IsAnswer : Geometry → Running → Command → Answer → Machine → Option Refusal → Type 0
 IsAnswer g s c a after refused = elim refused [
   | Some why ↦ (a ≡ answer.Refused why) × (after ≡ Up s)
   | None ↦ (a ≡ (carried_out g s c).answer) × (after ≡ Up (carried_out g s c).after)
 ]
 
--- so that one that is down stays so
+-- so a machine that is down stays so
 down_keeps : (g : Geometry) (z : Zone) (os : List Object) (saved : List Saved) (c : Command) (a : Answer) (after : Machine)
     → IsBy z.members c → Step g (Down saved) c a after → MachineWithin g z os after
 down_keeps g z os saved c a after by is = grind (arith, nat_tests)
@@ -244,7 +244,7 @@ turns_keep g z os m (t ∷ ts) last by h run =
 
 -- sets with numbers where messages may be delivered
 
--- anywhere, and anywhere but at one number
+-- zones in which messages may be received anywhere, or anywhere but at one number
 abbrev anywhere : (ℕ → Bool) → (ℕ → Bool) → Zone
 anywhere trusted inside = record { members = inside; trusted = trusted; ports = λ m. true }
 
@@ -284,7 +284,7 @@ with_free_closed os trusted inside h = grind (arith, nat_tests)
 has_free : (os : List Object) (inside : ℕ → Bool) → HasFree os (with_free os inside)
 has_free os inside n e = grind (arith, nat_tests)
 
--- from what holds of both kinds of sets
+-- a fact about both kinds of zones
 module _ (g : Geometry) (os us : List Object) (age : ℕ) (trusted inside : ℕ → Bool) (sound : IsSound g (record { objects = os; age = age }))
     (closed : IsClosedBut trusted os inside) where
   both : IsClosedBut trusted os (with_free os inside)
@@ -360,7 +360,7 @@ live_closed g w trusted inside sound h =
 
 -- stretches
 
--- what a stretch is premised to be
+-- the premises on a stretch of a run
 abbrev IsAllowed : Geometry → (ℕ → Bool) → (ℕ → Bool) → Running → Stretch → Bool → Type 0
 IsAllowed g trusted inside s x b = elim b [
   | true ↦ AreBy (with_free s.now.objects inside) x.turns

@@ -15,11 +15,11 @@ Stays z c = StaysBut z.trusted z.members c
 abbrev pub MayChange : Zone → ℕ → Type 0
 MayChange z n = IsTrue (z.members n) ⊎ IsTrue (z.ports n)
 
--- a process that is a member, or receives messages where it may
+-- a process that is a member, or whose root and annex may receive messages
 abbrev pub IsReceiver : Zone → ℕ → ℕ → Type 0
 IsReceiver z p annex = IsTrue (z.members p) ⊎ (IsTrue (z.ports p) × IsTrue (z.ports annex))
 
--- a closed set that has the free numbers too, and each trusted process receives where it may
+-- a closed set that contains all free numbers; the trusted processes may receive messages
 pub record Encloses (z : Zone) (os : List Object) : Type 0 where
   pub closed : IsClosedBut z.trusted os z.members
   pub free : (n : ℕ) → is_free (content_at os n) ≡ true → IsTrue (z.members n)

@@ -6,7 +6,7 @@ use Rattle.description.proofs.Names.{IsWithinLimits, Description, Limit, BreaksG
 use Rattle.std.proofs.Common.{◌≡◌, ◌+◌, ◌≤◌, ◌∷◌, ◌^◌}
 use Rattle.description.specs.declared.flaw.Limit.TheVariants as limit
 
--- ranges that cover all numbers go on from one to the next
+-- ranges that cover all numbers follow one another
 module _ (g : Geometry) where
   cover_count : (n : ℕ) (rs : List NumberRange) → Cover g n (map (placed 0) rs) → n + count_in rs ≡ object_count g
   cover_count n [] covers = omega (arith, covers)
@@ -56,7 +56,7 @@ ranges_broken d (limit.Range i n) geometry age layout broken = (geometry, age, l
 ranges_broken d (limit.RangesEnd n) geometry age layout broken = (geometry, age, layout, broken)
 ranges_broken d other geometry age layout broken = absurd broken
 
--- what the ranges decide where all else is within the limits
+-- whether the ranges are valid, if all else is within the limits
 pub ranges_decide : (d : Description) (rs : List NumberRange) (found : Option Limit) (v : Version) → IsGeometry d.geometry →
     rs ≡ d.ranges.items → d.layout ≡ version_number v → d.age ≤ 2 ^ 62 → MatchOption found (MayBeLaid d.geometry rs)
     (λ l. BreaksRanges d.geometry rs l) → MatchOption found (IsWithinLimits d) (λ l. BreaksLimit d l)

@@ -24,7 +24,7 @@ last_read P [] [] v x are is = (is, tt)
 last_read P (w ∷ ws) (y ∷ ys) v x are is = (are.0, last_read P ws ys v x are.1 is)
 last_read P vs xs v x are is = absurd are
 
--- one more is read
+-- one more value is read
 pub one_more : {A : Type 0} (P : Data → A → Type 0) (vs : List Value) (i : ℕ) (xs : List A) (v : Value) (x : A) → i < length vs →
     get_or vs i v ≡ v → AreItems P (items_view (take i vs)) xs → P (view v) x → AreItems P (items_view (take (i + 1) vs)) (xs ++ x ∷ [])
 one_more P vs i xs v x within at are is = rw (take_more vs i v within, at) (last_read P (take i vs) xs v x are is)
@@ -45,7 +45,7 @@ count_read P [] [] are = refl
 count_read P (v ∷ vs) (x ∷ xs) are = ap suc (count_read P vs xs are.1)
 count_read P vs xs are = absurd are
 
--- each value of a list that is read is one that can be
+-- if a list can be read, each of its values can be read
 pub each_read : {A : Type 0} (P : Data → A → Type 0) (d : Data) (vs : List Value) (i : ℕ) (xs : List A) (v : Value) →
     d ≡ array (items_view vs) → i < length vs → get_or vs i v ≡ v → IsList P d xs → (x : A) × P (view v) x
 each_read P d vs i xs v is within at list =

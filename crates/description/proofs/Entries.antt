@@ -15,7 +15,7 @@ IsOf d (OfAnnex p) = Contains d.processes.items p
 IsOf d (OfNode n) = Contains d.nodes.items n
 IsOf d (OfPage p) = Contains d.pages.items p
 
--- the parts of all of them
+-- the parts of a description, as entries
 abbrev banks_of : Description → List Entry
 banks_of d = map OfBank d.banks.items
 
@@ -65,14 +65,14 @@ entries_of d e h = elim (Contains-append_cases (banks_of d ++ roots_of d ++ anne
   ]
 ]
 
--- their numbers are those that are named
+-- the numbers of the entries are those in the description
 pub numbers_are : (d : Description) → map number_of (entries d) ≡ node_numbers d ++ page_numbers d
 numbers_are d = grind (arith, nat_tests, map_both, map_again)
 
 pub entries_distinct : (d : Description) → HasNumbers d → AreDistinct (map number_of (entries d))
 entries_distinct d has = subst AreDistinct (sym (numbers_are d)) has.distinct
 
--- each number is one of its kind
+-- the number of each entry is one of its kind
 abbrev pub HasRange : Geometry → Entry → Type 0
 HasRange g (OfBank b) = b.number < g.nodes
 HasRange g (OfRoot p) = p.root < g.nodes
@@ -126,7 +126,7 @@ described_of d fs (OfAnnex p) is h = All-contains (λ p. IsDescribedAnnex p (fra
 described_of d fs (OfNode n) is h = All-contains (λ n. IsDescribedNode n (frame_at fs n.number)) d.nodes.items n is.nodes h
 described_of d fs (OfPage p) is h = All-contains (λ p. IsDescribedPage p (frame_at fs p.number)) d.pages.items p is.pages h
 
--- each number is that of an object that is named, or free
+-- each number is that of an entry, or free
 pub described_cases : (d : Description) (fs : List Frame) (n : ℕ) → IsDescribed d fs
     → ((e : Entry) × IsOf d e × (number_of e ≡ n) × IsFrameOf e (frame_at fs n)) ⊎ (frame_at fs n ≡ blank_frame)
 described_cases d fs n is = elim (contains_either (map number_of (entries d)) n) [

@@ -11,7 +11,7 @@ use Rattle.description.specs.declared.flaw.Part.TheVariants as part
 use Rattle.description.specs.declared.flaw.SlotFlaw.TheVariants as slot
 use Rattle.description.proofs.Lists.{all_got, contains_cases, contains_here, contains_none, contains_there}
 
--- one more number, which differs
+-- one more number, which is another
 pub one_more_other : (ns : List ℕ) (i n : ℕ) → i < length ns → (Contains (take i ns) n → ⊥) → (slice_index ns i ≢ n) →
     Contains (take (i + 1) ns) n → ⊥
 one_more_other ns i n within none other there =
@@ -34,7 +34,7 @@ distinct_last (m ∷ ns) n distinct none = (
   distinct_last ns n distinct.1 (λ there. none (contains_there n m ns there)),
 )
 
--- one more number that comes first
+-- one more number, which occurs for the first time
 pub distinct_more : (ns : List ℕ) (j n : ℕ) → j < length ns → n ≡ slice_index ns j → (Contains (take j ns) n → ⊥) →
     AreDistinct (take j ns) → AreDistinct (take (j + 1) ns)
 distinct_more ns j n within is none distinct = rw (take_more ns j 0 within)
@@ -44,7 +44,7 @@ pub twice_at : (ns : List ℕ) (i j n : ℕ) → j < length ns → n ≡ slice_i
 twice_at ns i j n within is at =
     (at.0, n, slice_get-get_or ns i 0 (omega (arith, at.0, within)) ∙ ap Some at.1, slice_get-get_or ns j 0 within ∙ ap Some (sym is))
 
--- what holds of what is made of each holds of each so made
+-- a property of all items of a mapped list holds of the images of the items
 pub all_unmapped : {A B : Type 0} (P : B → Type 0) (f : A → B) (xs : List A) → All P (map f xs) → All (λ x. P (f x)) xs
 all_unmapped P f [] all = λ k d lt. absurd (omega arith)
 all_unmapped P f (x ∷ xs) all = All-cons (λ y. P (f y)) x xs (All-head P (f x) (map f xs) all)

@@ -165,7 +165,7 @@ module _ (which : TableName) (other : Key) (ms : Members) (keys : keys_of which 
   pub before_other : (numbers : ℕ × ℕ) → HasNumberAndOwner (key_name other) ms numbers → FitsBefore (keys_of which) ms other
   before_other numbers has = rw keys (has.known, 2, refl, ((numbers.0, has.number), ((numbers.1, has.owner), tt)))
 
--- and that of a process
+-- the fields of a process before its registers
 pub before_registers : (i : ℕ) (ms : Members) (fields : ProcessFields) → HasProcessFields ms fields →
     FitsBefore (keys_of (name.Process i)) ms ProcessRegisters
 before_registers i ms fields has = (

@@ -46,7 +46,7 @@ holds_words es are = record {
       ∙ ap (λ v. first_named (λ w. w.index) (λ w. w.word) v es i) (same_at 512 i 0));
 }
 
--- what isn't named is void, as register 0 is
+-- slots without an entry are void, as register 0 is
 pub first_void : (es : List SlotEntry) → AreSlots 1 es → slice_index_or (slots_of es) 0 void_held ≡ void_held
 unfolding slots_of
 first_void es are = each_other (λ s. s.index) slot_held es _ 0 _ (λ h. let found = map_contains (λ s. s.index) 0 es h in
@@ -144,7 +144,7 @@ kept_entry d (OfPage p) is numbers fields targets of fits = record {
 kind_entry : (d : Description) (e : Entry) → HasNumbers d → IsOf d e → IsOfKind d.geometry (number_of e) (frame_of e).content
 kind_entry d e numbers of = grind (arith, nat_tests, in_range)
 
--- what is there is what a default leaves
+-- an option that isn't `None` is `Some` of its value
 there : {X : Type 0} → (o : Option X) (d : X) → o ≢ None → o ≡ Some (unwrap_or o d)
 there o d some = search arith
 

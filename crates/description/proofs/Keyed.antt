@@ -15,7 +15,7 @@ list_held P Bad default key ms d (Ok v) is reads = rw (← is) reads
 list_held P Bad default key ms d (Err (misread.Misshapen place)) is reads = (d, sym is, reads)
 list_held P Bad default key ms d (Err misread.NoMemory) is reads = tt
 
--- where a key may be left out, what is said with one default is said with another
+-- a value that may be left out, read with another default
 pub with_default : {A : Type 0} (P : Data → A → Type 0) (o : Option Data) (x y a : A) → MatchOption o (a ≡ x) (λ d. P d a) →
     (b : A) × MatchOption o (b ≡ y) (λ d. P d b)
 with_default P None x y a is = (y, refl)

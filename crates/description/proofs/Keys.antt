@@ -7,7 +7,7 @@ same_text : (a b : List ℕ) → pointwise nat_eq a b ≡ same_key b a
 same_text a b = sym (same_from_slice_cmp nat_cmp is_eq (λ y x. pointwise nat_eq x y) refl (λ _ _. refl) (λ _ _. refl)
     (λ x y xs ys o h. grind (arith, nat_tests)) b a (slice_cmp nat_cmp b a) refl)
 
--- the key is the text of one of these
+-- a key is the text of one of these keys
 pub among : (names : List (Bor (List ℕ))) (key : List ℕ) → list_any (λ y. pointwise nat_eq y.now key) names
     ≡ list_any (same_key key) (map (λ k. k.now) names)
 among [] key = refl

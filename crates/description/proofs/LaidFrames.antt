@@ -13,7 +13,7 @@ laid_append es fs xs = each_append number_of frame_of es fs xs
 pub laid_both : (es fs : List Entry) (old mid new : World) → IsLaid es old mid → IsLaid fs mid new → IsLaid (es ++ fs) old new
 laid_both es fs old mid new first second = grind (arith, common_steps, laid_append)
 
--- those before an index are laid
+-- the entries before an index are laid out
 pub record IsLaying {E : Type 0} (entry : E → Entry) (es : List E) (old now : World) (i : ℕ) : Type 0 where
   pub frames : laid (map entry (drop i es)) (frames_of now) ≡ laid (map entry es) (frames_of old)
   pub fits : All Fits (map entry (drop i es)) → All Fits (map entry es)
@@ -34,7 +34,7 @@ pub all_laid : {E : Type 0} → (entry : E → Entry) (es : List E) (old now : W
 unfolding laid
 all_laid {E} entry es old now i done was = grind (arith, nat_tests, drop_all, All-nil)
 
--- an element that was read is the first from its index on
+-- an element that was read at an index is the first of the list from there on
 pub split_at : {E : Type 0} → (es : List E) (i : ℕ) (e : E) → i < length es → e ≡ slice_index_or es i e → drop i es ≡ e ∷ drop (i + 1) es
 split_at es i e lt is = drop_more es i e lt ∙ ap (λ f. f ∷ drop (i + 1) es) (sym is)
 

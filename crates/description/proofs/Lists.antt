@@ -28,7 +28,7 @@ contains_either (m ∷ ns) n = elim (cases_eq m n) [
   ]
 ]
 
--- and what a mapped list holds comes from something that the list holds
+-- a mapped list contains the images of what the list contains
 pub contains_map : {X Y : Type 0} → (f : X → Y) (x : X) (xs : List X) → Contains xs x → Contains (map f xs) (f x)
 contains_map f x [] h = search (arith, contains_none, contains_cases, contains_here, contains_there)
 contains_map f x (y ∷ xs) h = search (arith, contains_none, contains_cases, contains_here, contains_there, contains_map f x xs)
@@ -45,7 +45,7 @@ module _ {E V : Type 0} (index : E → ℕ) (value : E → V) where
       first_named index value default (e ∷ es) i ≡ first_named index value default es i
   first_beyond default e es i differ = grind (arith, nat_tests)
 
-  -- nothing is named for an index that isn't there
+  -- an index without an entry has the default
   pub first_none : (default : V) (es : List E) (i : ℕ) → (Contains (map index es) i → ⊥) → first_named index value default es i ≡ default
   first_none default [] i none = refl
   first_none default (e ∷ es) i none =
@@ -58,7 +58,7 @@ module _ {E V : Type 0} (index : E → ℕ) (value : E → V) where
         contains_there,
       )
 
-  -- and what is there is named, where no index comes twice
+  -- if no index occurs twice, each entry gives its index its value
   pub first_of : (default : V) (es : List E) (e : E) → AreDistinct (map index es) → Contains es e →
       first_named index value default es (index e) ≡ value e
   first_of default [] e distinct h = absurd (contains_none e h)
@@ -74,14 +74,14 @@ module _ {E V : Type 0} (index : E → ℕ) (value : E → V) where
   length_each [] xs = refl
   length_each (e ∷ es) xs = length_each es (slice_set xs (index e) (value e)) ∙ length-set xs (index e) (value e)
 
-  -- what isn't named stays
+  -- an index without an entry keeps its value
   pub each_other : (es : List E) (xs : List V) (i : ℕ) (d : V) → (Contains (map index es) i → ⊥) →
       slice_index_or (set_each index value es xs) i d ≡ slice_index_or xs i d
   each_other [] xs i d none = refl
   each_other (e ∷ es) xs i d none = each_other es _ i d (λ h. none (contains_there i _ _ h))
       ∙ get_or-set_other xs _ i _ d (λ is. none (subst (Contains (map index (e ∷ es))) (sym is) (contains_here _ _)))
 
-  -- each place has what is named for it, else what it had
+  -- each index has the value of its entry, or else its old value
   pub each_at : (es : List E) (xs : List V) (i : ℕ) (d : V) → AreDistinct (map index es) → All (λ e. index e < length xs) es
       → slice_index_or (set_each index value es xs) i d ≡ first_named index value (slice_index_or xs i d) es i
   each_at [] xs i d distinct within = refl
@@ -104,7 +104,7 @@ module _ {E V : Type 0} (index : E → ℕ) (value : E → V) where
   each_append [] fs xs = refl
   each_append (e ∷ es) fs xs = each_append es fs (slice_set xs (index e) (value e))
 
--- what is named is a function of what each entry has
+-- mapping the values of the entries maps the value found
 pub first_map : {E V W : Type 0} → (index : E → ℕ) (value : E → V) (f : V → W) (default : V) (es : List E) (i : ℕ)
     → first_named index (λ e. f (value e)) (f default) es i ≡ f (first_named index value default es i)
 first_map index value f default [] i = refl
@@ -115,14 +115,14 @@ module _ {E V : Type 0} (index : E → ℕ) (value : E → V) where
   pub each_done : (es : List E) (now all : List V) (i : ℕ) → length es ≤ i → set_each index value (drop i es) now ≡ all → now ≡ all
   each_done es now all i done was = sym (ap (λ fs. set_each index value fs now) (drop_all i es done)) ∙ was
 
-  -- what holds of all that was there and of all that is written holds of all
+  -- a property of all old values, and of all written values, holds of all
   pub each_holds : (P : V → Type 0) (es : List E) (xs : List V) → All P xs → All (λ e. P (value e)) es → All P (set_each index value es xs)
   each_holds P [] xs old new = old
   each_holds P (e ∷ es) xs old new = each_holds P es _ (All-set P xs _ _ (All-head (λ f. P (value f)) e es new) old)
       (All-tail (λ f. P (value f)) e es new)
 
 module _ {E : Type 0} (index : E → ℕ) where
-  -- where the entries differ, those with the same index are the same
+  -- if no index occurs twice, entries with the same index are equal
   pub same_entry : (es : List E) (e f : E) → AreDistinct (map index es) → Contains es e → Contains es f → index e ≡ index f → e ≡ f
   same_entry [] e f distinct he hf same = absurd (contains_none e he)
   same_entry (x ∷ es) e f distinct he hf same = elim (contains_cases e x es he) [
@@ -136,20 +136,20 @@ module _ {E : Type 0} (index : E → ℕ) where
     ]
   ]
 
--- one more is written
+-- one more value is written
 pub each_wrote : {E V : Type 0} → (index : E → ℕ) (value : E → V) (es : List E) (now next all : List V) (i : ℕ) (d : E) (v : V) →
     i < length es → next ≡ slice_set now (index (slice_index_or es i d)) v → v ≡ value (slice_index_or es i d)
     → set_each index value (drop i es) now ≡ all → set_each index value (drop (i + 1) es) next ≡ all
 each_wrote index value es now next all i d v lt made is was =
     ap (set_each index value (drop (i + 1) es)) (made ∙ ap (slice_set now (index (slice_index_or es i d))) is) ∙ (search (arith, drop_more))
 
--- what an entry names is there in the end
+-- in the end the value of each entry is at its index
 pub each_of : {E V : Type 0} → (index : E → ℕ) (value : E → V) (es : List E) (xs : List V) (e : E) (d : V) → AreDistinct (map index es)
     → All (λ f. index f < length xs) es → Contains es e → slice_index_or (set_each index value es xs) (index e) d ≡ value e
 each_of index value es xs e d distinct within there = each_at index value es xs _ d distinct within
     ∙ first_of index value _ es e distinct there
 
--- a fact of each member, and of one at a place
+-- a property of each member holds at each place
 pub all_from : {X : Type 0} → (P : X → Type 0) (xs : List X) → ((x : X) → Contains xs x → P x) → All P xs
 all_from P xs each k d lt = each (slice_index_or xs k d) (Contains-get_or xs k d lt)
 
@@ -166,7 +166,7 @@ pub map_again : {X Y Z : Type 0} → (f : Y → Z) (g : X → Y) (xs : List X) �
 map_again f g [] = refl
 map_again f g (x ∷ xs) = ap (λ zs. f (g x) ∷ zs) (map_again f g xs)
 
--- where all are the same, each place has that
+-- in a list of equal items, each place has this item
 pub same_at : {X : Type 0} → (n i : ℕ) (x : X) → slice_index_or (replicate n x) i x ≡ x
 same_at (suc n) (suc i) x = same_at n i x
 same_at n i x = refl

@@ -122,7 +122,7 @@ first_turned : {A : Type 0} (P Q B C : A → Type 0) → ((x : A) → P x → Q 
     IsFirst P B xs i → IsFirst Q C xs i
 first_turned P Q B C good bad xs i first = (all_turned P Q good (take i xs) first.0, some_turned B C bad (slice_get xs i) first.1)
 
--- one that lacks it is named
+-- a capability that fails a property is present
 lacked : (P : Capability → Type 0) (o : Option Capability) → LacksIt P o → (c : Capability) × (o ≡ Some c) × (P c → ⊥)
 lacked P None lacks = absurd lacks
 lacked P (Some c) lacks = (c, refl, lacks)
@@ -154,7 +154,7 @@ some_both : {A : Type 0} (R : Type 0) (P Q : A → Type 0) → ((x : A) → P x 
 some_both R P Q split None is = absurd is
 some_both R P Q split (Some x) is = split x is
 
--- the first of the first process that has one
+-- the first failing capability of the first process that has one
 pub process_lacks : (P : Capability → Type 0) (d : Description) (k : ℕ) (at : Held) →
     IsFirst (AllOfProcess P) (λ p. OneOfProcess P k p at) d.processes.items k → FirstLacks P d at
 unfolding OneOfProcess
@@ -170,7 +170,7 @@ process_lacks P d k (held.Slot j i) first =
     absurd (some_both ⊥ (λ p. OneOfProcess P k p (held.Slot j i)) (λ p. Unit {0}) (λ p one. absurd one) (slice_get d.processes.items k)
     first.1).0
 
--- the same of another property that the same capabilities have
+-- the same for another property that the same capabilities have
 module _ (P Q : Capability → Type 0) (good : (c : Capability) → P c → Q c) (bad : (c : Capability) → (P c → ⊥) → Q c → ⊥) where
   named_turned : (o : Option Capability) → IfNamed P o → IfNamed Q o
   named_turned None is = is
@@ -205,7 +205,7 @@ module _ (P Q : Capability → Type 0) (good : (c : Capability) → P c → Q c)
         (λ n. in_turned n.slots.items) (λ n. one_turned n.slots.items i) d.nodes.items k first.1,
   )
 
--- one that names no number of its kind, or no object of its kind in some frames, names none in any frames of the description
+-- a capability that names no number or no object of its kind names none in any frames of the description
 pub kind_broken : (d : Description) (at : Held) → HasNumbers d → FirstLacks (IsTarget d.geometry) d at → BreaksTarget d at
 kind_broken d at numbers first =
     let lacks = lacks_at (IsTarget d.geometry) d at first in

@@ -31,7 +31,7 @@ module _ (d : Description) where
   abbrev plain : List ℕ
   plain = map (λ n. n.number) d.nodes.items
 
-  -- the annex and the node whose numbers stand at a place
+  -- the annex or the node whose number is at a place of the list
   module _ (place root annex b p : ℕ) (is_b : b ≡ length d.banks.items) (is_p : p ≡ length d.processes.items) (low : b ≤ place)
       (is_root : root ≡ place - b)
       (more : p ≤ root)
@@ -65,11 +65,11 @@ module _ (d : Description) where
         behind (banks ++ roots ++ annexes) plain (annex - p) in
         sym mapped ∙ sym after ∙ ap (slice_get (banks ++ roots ++ annexes ++ plain)) at
 
-  -- an element that is there
+  -- the value of an option that isn't `None`
   found_in : {P : ℕ → Type 0} (o : Option ℕ) → IsSomeAnd o P → (n : ℕ) × (o ≡ Some n) × P n
   found_in o is = search arith
 
-  -- of a node, a bank or a process
+  -- the number of a node, a bank or a process is out of range
   outside_at : (who : Named) → IsTrue (is_node who) → IsOutside 0 d.geometry.nodes (node_numbers d) (place_of d who) → IsFirstOutside d who
   outside_at (named.Page k) node out = absurd (false≢true node)
   outside_at who node out = out
@@ -115,7 +115,7 @@ module _ (d : Description) where
       MatchOption found (AreDistinct ns) (λ q. IsFirstTwice ns q.0 q.1) → IsFirstTwice ns p.0 p.1
   found_twice ns found p is known = subst (λ o. MatchOption o (AreDistinct ns) (λ q. IsFirstTwice ns q.0 q.1)) is known
 
-  -- the rule is broken there
+  -- an out-of-range number breaks the rule
   node_refuted : (i : ℕ) → IsOutside 0 d.geometry.nodes (node_numbers d) i → HasNumbers d → ⊥
   node_refuted i out has = all_refuted (λ n. n < d.geometry.nodes) (λ n. (0 ≤ n) × (n < d.geometry.nodes) → ⊥) (node_numbers d) i out.1
       (λ n within never. never (omega arith, within)) has.nodes

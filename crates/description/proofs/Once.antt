@@ -20,7 +20,7 @@ same_first a b ds es e = cc
 same_rest : (a b : Data) (ds es : Items) → item a ds ≡ item b es → ds ≡ es
 same_rest a b ds es e = cc
 
--- what a value says, it says alone
+-- a value encodes at most one thing
 abbrev Once : {A B : Type 0} → (B → A → Type 0) → (A → A → Type 0) → Type 0
 Once {A = A} {B = B} P R = (d : B) (x y : A) → P d x → P d y → R x y
 
@@ -43,7 +43,7 @@ wide_once d m n (inl one) (inr other) = absurd (integer_or_text m (capability_te
 wide_once d m n (inr one) (inl other) = absurd (integer_or_text n (capability_text (Number m)) (sym other.1 ∙ one.1.2))
 wide_once d m n (inr one) (inr other) = same_number m n (capability_once d (Some (Number m)) (Some (Number n)) one.1 other.1)
 
--- a number has one spelling
+-- a number is written in one way only
 pub number_spelled_once : NumberIsSpelledOnce
 unfolding IsWideNumber
 number_spelled_once = grind (arith, nat_tests)

@@ -3,7 +3,7 @@ use Rattle.description.proofs.Names.{nat_tests, ℕ, zero, suc, List, [], map, l
 use Rattle.description.proofs.Names.{AllZip-get_or, length_all_zip}
 use Rattle.std.proofs.Common.{◌≡◌, ◌+◌, ◌<◌, ◌≤◌, ◌∷◌, ◌∙◌}
 
--- the pairs below an index stand so to one another, and the rest is the same
+-- the pairs below an index are related, and the rest is equal
 abbrev pub ZipBelow : {A : Type 0} → (A → A → Type 0) → ℕ → List A → List A → Type 0
 ZipBelow R zero xs ys = xs ≡ ys
 ZipBelow R (suc i) [] [] = Unit {0}
@@ -32,7 +32,7 @@ module _ {A : Type 0} (R : A → A → Type 0) where
   zip_whole (suc i) (x ∷ xs) (y ∷ ys) within below = (below.0, zip_whole i xs ys (omega (arith, within)) below.1)
   zip_whole i xs ys within below = absurd (grind (arith, nat_tests))
 
-  -- what holds of all of one list gives what holds of all of the other
+  -- a property of all items of one list gives another of all related items
   pub zip_all : (P Q : A → Type 0) → ((x y : A) → R x y → P x → Q y) → (xs ys : List A) → AllZip R xs ys → All P xs → All Q ys
   zip_all P Q on xs ys zip all = λ k d inside.
       let first : k < length xs = omega (arith, inside, length_all_zip R xs ys zip) in

@@ -8,14 +8,14 @@ count_more : (rs : List NumberRange) (r : NumberRange) → count_in (rs ++ r ∷
 count_more [] r = omega arith
 count_more (s ∷ rs) r = omega (arith, count_more rs r)
 
--- the first ranges go on up to a number, and all cover if the others do from there
+-- the first ranges follow one another up to a number, and all cover the objects if the others do from there
 pub record GoneTo (g : Geometry) (rs : List NumberRange) (i next : ℕ) : Type 0 where
   pub count : next ≡ count_in (take i rs)
   pub within : next ≤ object_count g
   pub before : GoOn g rs i
   pub goes_on : Cover g next (map (placed 0) (drop i rs)) → Cover g 0 (map (placed 0) rs)
 
--- the range of an index, whatever stands for those that aren't there
+-- the range at an index, whatever the default is
 pub gone_on : (g : Geometry) (rs : List NumberRange) (i next : ℕ) (d : NumberRange) → i < length rs → GoneTo g rs i next →
     GoesOn g (get_or rs i d) next → GoneTo g rs (i + 1) (next + (get_or rs i d).count)
 gone_on g rs i next d lt gone on = record {

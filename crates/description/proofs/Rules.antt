@@ -22,7 +22,7 @@ back_at Small = refl
 back_at Failed = refl
 back_at NoMemory = refl
 
--- faults of one number are one
+-- faults with the same number are equal
 same_fault : (fault other : BuildFault) → fault_number fault ≡ fault_number other → fault ≡ other
 same_fault fault other same = sym (back_at fault) ∙ ap fault_at same ∙ back_at other
 

@@ -5,12 +5,12 @@ use Rattle.std.proofs.Common.{◌≡◌, ◌+◌, ◌<◌, ◌∷◌, ◌∙◌}
 use Rattle.description.proofs.FieldFlaws.{distinct_more}
 use Rattle.description.proofs.Lists.{contains_cases, contains_none}
 
--- the numbers before a place are marked, and none of them comes twice
+-- the numbers before a place are marked, and none of them occurs twice
 pub record AreSeen (marks : List Bool) (ns : List ℕ) (i : ℕ) : Type 0 where
   pub distinct : AreDistinct (take i ns)
   pub marked : (n : ℕ) → Contains (take i ns) n → is_marked marks n ≡ true
 
--- one number more, which doesn't come before
+-- one more number, which doesn't occur before
 pub one_seen : (marks : List Bool) (ns : List ℕ) (i : ℕ) → i < length ns → slice_index ns i < length marks →
     (Contains (take i ns) (slice_index ns i) → ⊥) → AreSeen marks ns i → AreSeen (slice_set marks (slice_index ns i) true) ns (i + 1)
 one_seen marks ns i within inside none seen = record {

@@ -30,7 +30,7 @@ list_refuted P key So i ms against first has =
     let list : IsList P (array first.0) has.0 = rw first.1 at has.1 in
     item_refuted P (IsItem key) So against i first.0 has.0 first.2 (rw (← same_items first.0 list.0 list.1) at list.2)
 
--- an item that no item of its key is
+-- an item that isn't valid for its key
 item_of : (key : Key) (So : Data → Type 0) (i : ℕ) (ms : Members) → ((d : Data) → IsItem key d → So d → ⊥) → IsTrue (is_list key) →
     HasFirstItem key So i ms → FitsAt key ms → ⊥
 item_of Ranges So i ms against list first fits = list_refuted IsRange Ranges So i ms (λ d x is. against d (x, is)) first fits

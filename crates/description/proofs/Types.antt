@@ -17,7 +17,7 @@ negative d z is below n number = search (arith, same_Some, number.1)
 pub natural : (d : Data) (z : ℤ) → Some z ≡ as_integer d → is_negative z ≡ false → unsigned_abs z < 2 ^ 63 → IsNumber d (unsigned_abs z)
 natural d z is above small = (small, (search (arith, integer_is)))
 
--- and one of 64 bits only as a text
+-- a number from 2^63 on is written only as a text
 no_integer : (d : Data) → as_integer d ≡ None → (n : ℕ) → IsWideNumber d n → (2 ^ 63 ≤ n) × IsCapability d (Some (Number n))
 unfolding IsWideNumber
 no_integer d none n (inl number) = absurd (search (arith, none-some, sym none))
@@ -33,14 +33,14 @@ pub other_text : (d : Data) (r : Option Capability) → as_integer d ≡ None �
 other_text d r none said other n number =
     let text = no_integer d none n number in other n text.0 (capability_once d r (Some (Number n)) said text.1)
 
--- what a text says
+-- the number in a text
 pub text_number : (d : Data) (r : Option Capability) (found : Option ℕ) → as_integer d ≡ None → IsCapability d r →
     IfSome found (λ n. (2 ^ 63 ≤ n) × (r ≡ Some (Number n))) → IfNone found ((n : ℕ) → 2 ^ 63 ≤ n → r ≢ Some (Number n)) →
     Finds (IsWideNumber d) found
 text_number d r None none said is other = other_text d r none said other
 text_number d r (Some n) none said is other = wide_text d n is.0 (subst (IsCapability d) is.1 said)
 
--- an integer is a number of 64 bits where it is a number
+-- if an integer is a number of 64 bits, it is a number
 is_text : (d : Data) (n : ℕ) → is_some (as_integer d) ≡ true → IsWideNumber d n → IsNumber d n
 unfolding IsWideNumber
 is_text d n some either = search arith
@@ -49,7 +49,7 @@ pub wide_read : (d : Data) (r : Option ℕ) → is_some (as_integer d) ≡ true 
 unfolding IsWideNumber
 wide_read d r some reads = search (arith, is_text)
 
--- what is found to a text
+-- the capability in a text
 pub capability_reported : (d : Data) (text : List ℕ) (r : Option Capability) → Some text ≡ as_str d →
     IfSome r (λ c. IsWellFormed c × IfSome (named c) (λ n. n < 2 ^ 64) × (capability_text c ≡ text)) →
     IfNone r ((c : Capability) → IsWellFormed c → IfSome (named c) (λ n. n < 2 ^ 64) → capability_text c ≢ text) → IsCapability d r
@@ -59,6 +59,6 @@ pub state_reported : (d : Data) (text : List ℕ) (r : Option State) → Some te
     IfNone r ((s : State) → state_text s ≢ text) → IsState d r
 state_reported d text r is some none = search (arith, string_is)
 
--- what says a number and is no integer says a capability
+-- a value with a number that isn't an integer is the text of a capability
 pub text_said : (d : Data) → as_integer d ≡ None → (n : ℕ) → IsWideNumber d n → (r : Option Capability) × IsCapability d r
 text_said d none n number = (Some (Number n), (no_integer d none n number).1)

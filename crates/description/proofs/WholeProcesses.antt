@@ -67,7 +67,7 @@ abbrev root_number : Entry → ℕ
 root_number (OfAnnex p) = p.root
 root_number other = 0
 
--- an annex is that of one process
+-- an annex belongs to one process
 pub one_process : (d : Description) (q r : ProcessEntry) (m n a : ℕ) → HasNumbers d → IsProcess d q m a → IsProcess d r n a → m ≡ n
 one_process d q r m n a has q_is r_is =
     let same : OfAnnex q ≡ OfAnnex r = same_entry number_of (entries d) (OfAnnex q) (OfAnnex r) (entries_distinct d has)

@@ -19,7 +19,7 @@ free_frames hs cs n headers contents = rw (headers, contents) (blank_frames n)
 abbrev pub first_header : Role → ℕ → ObjectHeader
 first_header role owner = record { role = role; allocations = 0; calls = 0; owner = owner }
 
--- a header and a content at a number are a frame put there
+-- putting a header and a content at a number puts a frame there
 pub put_there : (w : World) (n owner : ℕ) (held : Content Cap) (role : Role) → role ≡ role_of held → n < vec_len w.headers →
     vec_len w.contents ≡ vec_len w.headers
     → IsPut n (first_frame owner held) w (record {

@@ -1,21 +1,21 @@
-// What a description names.
+// The entries of a description.
 
 use home_ranges::NumberRange;
 use model::{Capability, Geometry, State};
 
-/// A slot or a register that is named.
+/// A slot or a register, with its capability.
 #[derive(Clone, Copy)]
 pub struct SlotEntry {
-    /// Which slot, or which register.
+    /// The index of the slot or the register.
     pub index: u64,
-    /// What it holds, or nothing where the text is that of no capability.
+    /// The capability that it holds, or `None` if the text isn't that of a capability.
     pub capability: Option<Capability>,
 }
 
-/// A word of a page that is named.
+/// A word of a page, with its value.
 #[derive(Clone, Copy)]
 pub struct WordEntry {
-    /// Which word.
+    /// The index of the word.
     pub index: u64,
     pub word: u64,
 }
@@ -24,7 +24,7 @@ pub struct WordEntry {
 #[derive(Clone, Copy)]
 pub struct BankEntry {
     pub number: u64,
-    /// The number of the bank that owns it.
+    /// The number of the bank that owns this bank.
     pub owner: u64,
     pub limit: u64,
 }
@@ -34,13 +34,13 @@ pub struct BankEntry {
 pub struct ProcessEntry {
     pub root: u64,
     pub annex: u64,
-    /// The number of the bank that owns both.
+    /// The number of the bank that owns the root and the annex.
     pub owner: u64,
-    /// What it does, or nothing where the text is that of no state.
+    /// The state of the process, or `None` if the text isn't that of a state.
     pub state: Option<State>,
     pub key: u64,
     pub words: [u64; 4],
-    /// Its address space, or nothing where the text is that of no capability.
+    /// The address space, or `None` if the text isn't that of a capability.
     pub space: Option<Capability>,
     pub registers: Vec<SlotEntry>,
 }
@@ -61,11 +61,11 @@ pub struct PageEntry {
     pub words: Vec<WordEntry>,
 }
 
-/// What an image is to hold. What isn't named is free.
+/// All that an image is to hold. Objects, slots and words without an entry are free, void or 0.
 #[derive(Drop)]
 pub struct Description {
     pub geometry: Geometry,
-    /// The number of the layout's version that the image is to have.
+    /// The number of the layout version that the image is to have.
     pub layout: u64,
     pub age: u64,
     /// The home ranges, in the order in which they are to lie.

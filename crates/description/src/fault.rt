@@ -1,4 +1,4 @@
-// The reasons to build no image.
+// The reasons why no image is built.
 ghost use Rattle.std.specs.Prelude.{◌≡◌};
 ghost use Rattle.description.specs.Faults.{fault_number};
 
@@ -8,8 +8,8 @@ use device::Failed;
 use std::alloc::{AllocError, AllocFailed};
 use thiserror::Error;
 
-/// A reason to build no image from a table: the least of those that hold. A function that does a part of
-/// the work returns only the faults of that part.
+/// A reason why no image is built from a table: the least of those that hold. A function that does a part of the work
+/// returns only the faults of that part.
 #[derive(Clone, Copy, Debug, Error)]
 pub enum BuildFault {
     #[error("the table hasn't the shape of a description")]
@@ -33,7 +33,7 @@ pub enum BuildFault {
 }
 
 impl BuildFault {
-    /// Returns its number, from 1 in the order above.
+    /// Returns the number of the fault: its variant's place, from 1.
     pub fn number(self) -> u64
         ensures { result ≡ fault_number self }
     {

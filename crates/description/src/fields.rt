@@ -1,4 +1,4 @@
-// Which field of an object isn't of its form, or is named twice.
+// Finding the field of an object that is malformed or occurs twice.
 ghost use Rattle.std.specs.Prelude.{◌≡◌, ◌↔◌, map, IsTrue, MatchOption};
 ghost use Rattle.std.specs.List.{All};
 ghost use Rattle.description.specs.Described.{AreSlots, AreWords, HasFields, IsProcessEntry, IsSomeCapability};
@@ -11,10 +11,10 @@ use crate::indexed::find_indexed;
 use crate::{Description, NodeEntry, PageEntry, ProcessEntry, SlotEntry, WordEntry};
 use model::{Capability, SLOTS, WORDS};
 
-// The keys below this one have 16 bits.
+// The keys of start capabilities are below this: they have 16 bits.
 const KEYS: u64 = 1 << 16;
 
-/// Whether a text was that of a capability.
+/// Whether a text was that of a well-formed capability.
 pub fn is_capability(capability: Option<Capability>) -> bool
     ensures { IsTrue result ↔ IsSomeCapability capability }
 {
@@ -24,7 +24,7 @@ pub fn is_capability(capability: Option<Capability>) -> bool
     }
 }
 
-// Whether a text was that of a capability that may be an address space.
+// Whether a text was that of a well-formed capability that may be an address space.
 fn is_space(space: Option<Capability>) -> bool
     ensures { IsTrue result ↔ IsSpaceEntry space }
 {
@@ -34,7 +34,7 @@ fn is_space(space: Option<Capability>) -> bool
     }
 }
 
-// The first slot whose text is that of no capability, if there is one.
+// Returns the index of the first slot whose text isn't that of a capability, or `None`.
 fn first_text(slots: &[SlotEntry]) -> Option<usize>
     ensures { MatchOption result
         (All (λ s. IsSomeCapability s.capability) slots.now)
@@ -48,7 +48,7 @@ fn first_text(slots: &[SlotEntry]) -> Option<usize>
     None
 }
 
-// The first slot that is wrong, if one is. Indexes begin at `first`.
+// Returns the first flaw of a list of slots, or `None`. Indexes of slots begin at `first`.
 #[tactic(auto, unfolding(crate::specs::FieldFlaws::BreaksSlots))]
 fn bad_slots(first: u64, slots: &[SlotEntry]) -> Option<SlotFlaw>
     ensures { MatchOption result (AreSlots first slots.now) (λ flaw. BreaksSlots first slots.now flaw) }
@@ -62,7 +62,7 @@ fn bad_slots(first: u64, slots: &[SlotEntry]) -> Option<SlotFlaw>
     }
 }
 
-// The first word of a page that is wrong, if one is.
+// Returns the first flaw of the words of a page, or `None`.
 #[tactic(auto, using(crate::proofs::FieldFlaws::are_words))]
 fn bad_words(words: &[WordEntry]) -> Option<Indexed>
     ensures { MatchOption result (AreWords words.now)
@@ -71,7 +71,7 @@ fn bad_words(words: &[WordEntry]) -> Option<Indexed>
     find_indexed(0, WORDS as u64, words)
 }
 
-// The first field of a process that is wrong, if one is. The process is the one of an index.
+// Returns the first malformed field of a process, or `None`. `k` is the index of the process.
 #[tactic(auto, unfolding(crate::specs::FieldFlaws::BreaksProcess))]
 fn bad_process(k: usize, process: &ProcessEntry) -> Option<Part>
     ensures { MatchOption result (IsProcessEntry process.now)
@@ -92,7 +92,7 @@ fn bad_process(k: usize, process: &ProcessEntry) -> Option<Part>
     }
 }
 
-// The first field of the first process that is wrong, if one is.
+// Returns the first malformed field of the first process that has one, or `None`.
 fn bad_processes(processes: &[ProcessEntry]) -> Option<Part>
     ensures { MatchOption result (All IsProcessEntry processes.now)
         (λ part. IsFirst IsProcessEntry (λ p. BreaksProcess p part) processes.now (process_of part)) }
@@ -105,7 +105,7 @@ fn bad_processes(processes: &[ProcessEntry]) -> Option<Part>
     None
 }
 
-// The first node whose slots are wrong, if there is one, and what is wrong.
+// Returns the index of the first node with a flaw in its slots, and this flaw, or `None`.
 fn bad_nodes(nodes: &[NodeEntry]) -> Option<(usize, SlotFlaw)>
     ensures { MatchOption result (All (λ n. AreSlots 0 n.slots.items) nodes.now)
         (λ bad. IsFirst (λ n. AreSlots 0 n.slots.items) (λ n. BreaksSlots 0 n.slots.items bad.1) nodes.now bad.0) }
@@ -118,7 +118,7 @@ fn bad_nodes(nodes: &[NodeEntry]) -> Option<(usize, SlotFlaw)>
     None
 }
 
-// The first page whose words are wrong, if there is one, and what is wrong.
+// Returns the index of the first page with a flaw in its words, and this flaw, or `None`.
 fn bad_pages(pages: &[PageEntry]) -> Option<(usize, Indexed)>
     ensures { MatchOption result (All (λ p. AreWords p.words.items) pages.now)
         (λ bad. IsFirst (λ p. AreWords p.words.items)
@@ -132,9 +132,9 @@ fn bad_pages(pages: &[PageEntry]) -> Option<(usize, Indexed)>
     None
 }
 
-/// The first field of an object that isn't of its form, or is named twice, if there is one. Processes come
-/// first, then nodes, then pages. In a process the order is state, key, space, registers. In a list an index
-/// out of its range comes first, then one that is named twice, then a text that is that of no capability.
+/// Returns the first field of an object that is malformed or occurs twice, or `None`. Processes come first, then
+/// nodes, then pages. In a process the order is state, key, space, registers. In a list an index out of its range
+/// comes first, then one that occurs twice, then a text that isn't that of a capability.
 pub(crate) fn misfilled(description: &Description) -> Option<Part>
     ensures { MatchOption result (HasFields description.now) (λ part. BreaksField description.now part) }
 {

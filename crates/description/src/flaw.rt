@@ -1,26 +1,26 @@
-// Places in a description, and what is wrong there.
+// Places in a description, and their flaws.
 ghost use Rattle.std.specs.Prelude.{◌≡◌};
 
 use std::alloc::{AllocError, AllocFailed};
 
-/// What is wrong in a list of entries with indexes.
+/// A flaw in a list of entries with indexes.
 #[derive(Clone, Copy)]
 pub enum Indexed {
-    /// The index of this entry is outside its range.
+    /// The index in this entry is outside its range.
     OutOfRange(usize),
-    /// These two entries have one index.
+    /// These two entries have the same index.
     Twice(usize, usize),
 }
 
-/// What is wrong in a list of slots or registers.
+/// A flaw in a list of slots or registers.
 #[derive(Clone, Copy)]
 pub enum SlotFlaw {
     Index(Indexed),
-    /// The text of this entry is that of no capability.
+    /// The text of this entry isn't that of a capability.
     Text(usize),
 }
 
-/// A field of an object, by the index of the object in its list.
+/// A field of an object, with the place of the object in its list.
 #[derive(Clone, Copy)]
 pub enum Part {
     State(usize),
@@ -31,7 +31,7 @@ pub enum Part {
     Words(usize, Indexed),
 }
 
-/// A size that no image has.
+/// A size that no image may have.
 #[derive(Clone, Copy)]
 pub enum Limit {
     Nodes,
@@ -39,16 +39,16 @@ pub enum Limit {
     Log,
     /// There is no range, or there are more than eight.
     RangeCount,
-    /// The range of this index doesn't go on at this number, is empty, has nodes and pages, or goes beyond
-    /// the last number.
+    /// The range at this index is wrong: it doesn't begin at the number `next`, is empty, has both nodes and pages,
+    /// or goes beyond the last number.
     Range { index: usize, next: u64 },
-    /// The ranges end before this number.
+    /// The ranges end at this number, before the last one.
     RangesEnd { next: u64 },
     Age,
     Layout,
 }
 
-/// A number that a description names, by the index of its object in its list.
+/// A number in a description, with the place of its object in the list of such objects.
 #[derive(Clone, Copy)]
 pub enum Named {
     Bank(usize),
@@ -58,16 +58,16 @@ pub enum Named {
     Page(usize),
 }
 
-/// What is wrong with the numbers.
+/// A flaw in the numbers of objects.
 #[derive(Clone, Copy)]
 pub enum Misnumbered {
-    /// A number isn't one of its kind.
+    /// A number isn't one of a node, or of a page.
     OutOfRange(Named),
-    /// Two objects have one number.
+    /// Two objects have the same number.
     Twice(Named, Named),
 }
 
-/// A capability of a process or a node, by the indexes of the object and of the entry in their lists.
+/// A capability of a process or a node, by the places of the object and of the entry in their lists.
 #[derive(Clone, Copy)]
 pub enum Held {
     Space(usize),
@@ -75,7 +75,7 @@ pub enum Held {
     Slot(usize, usize),
 }
 
-/// Why a description names no world: where it breaks the first rule of these that it breaks.
+/// Why a description has no world: where it breaks the first of these rules that it breaks.
 #[derive(Clone, Copy)]
 pub enum WorldFault {
     Number(Misnumbered),

@@ -1,4 +1,4 @@
-// Lists of numbers, or of entries with an index: which is outside a range, and which comes twice.
+// In lists of numbers, or of entries with an index: finding a number outside a range, or one that occurs twice.
 ghost use Rattle.std.specs.Prelude.{◌≡◌, ◌↔◌, ℕ, ◌<◌, ◌≤◌, List, length, map, slice_index, take, IsTrue};
 ghost use Rattle.std.specs.Prelude.{MatchOption};
 ghost use Rattle.std.specs.List.{All, Contains};
@@ -8,16 +8,16 @@ ghost use Rattle.description.specs.FieldFlaws.{BreaksIndexed, IsFirstTwice, IsOu
 use crate::flaw::Indexed;
 use crate::{SlotEntry, WordEntry};
 
-/// Numbers by place.
+/// A list of numbers.
 pub trait Numbers: Copy {
     /// The numbers.
     ghost numbers: { Self → List ℕ };
 
-    /// How many there are.
+    /// Returns how many numbers there are.
     fn count(self) -> usize
         ensures { result ≡ length (numbers self) };
 
-    /// The number at a place.
+    /// Returns the number at a place.
     fn at(self, place: usize) -> u64
         requires { place < length (numbers self) }
         ensures { result ≡ slice_index (numbers self) place };
@@ -35,7 +35,7 @@ impl Numbers for &[u64] {
     }
 }
 
-/// Their indexes.
+/// The indexes of the entries.
 impl Numbers for &[SlotEntry] {
     ghost numbers = { λ slots. map (λ s. s.index) slots.now };
 
@@ -48,7 +48,7 @@ impl Numbers for &[SlotEntry] {
     }
 }
 
-/// Their indexes.
+/// The indexes of the entries.
 impl Numbers for &[WordEntry] {
     ghost numbers = { λ words. map (λ w. w.index) words.now };
 
@@ -68,7 +68,7 @@ fn is_within(first: u64, end: u64, number: u64) -> bool
     first <= number && number < end
 }
 
-/// The first number outside a range, if there is one.
+/// The index of the first number outside `first..end`, or `None`.
 pub(crate) fn find_outside<N: Numbers>(first: u64, end: u64, numbers: N) -> Option<usize>
     ensures { MatchOption result
         (All (λ n. (first ≤ n) × (n < end)) (N.numbers numbers))
@@ -82,7 +82,7 @@ pub(crate) fn find_outside<N: Numbers>(first: u64, end: u64, numbers: N) -> Opti
     None
 }
 
-/// Where a number comes before a place, if it does.
+/// The first place before `end` at which a number occurs, or `None`.
 pub(crate) fn find_before<N: Numbers>(numbers: N, end: usize, number: u64) -> Option<usize>
     requires { end ≤ length (N.numbers numbers) }
     ensures { MatchOption result
@@ -97,8 +97,8 @@ pub(crate) fn find_before<N: Numbers>(numbers: N, end: usize, number: u64) -> Op
     None
 }
 
-/// The places of one number: the first place whose number came before, and where it did. Nothing if no number
-/// comes twice.
+/// The first two places with the same number: the second is the first place whose number occurred before. `None` if
+/// no number occurs twice.
 pub(crate) fn find_twice<N: Numbers>(numbers: N) -> Option<(usize, usize)>
     ensures { MatchOption result (AreDistinct (N.numbers numbers))
         (λ p. IsFirstTwice (N.numbers numbers) p.0 p.1) }
@@ -111,7 +111,8 @@ pub(crate) fn find_twice<N: Numbers>(numbers: N) -> Option<(usize, usize)>
     None
 }
 
-// The first index that is wrong, if one is.
+// Returns the first flaw in the indexes of these entries: one outside `first..end`, else one that occurs twice, else
+// `None`.
 #[tactic(auto, unfolding(crate::specs::FieldFlaws::BreaksIndexed))]
 pub(crate) fn find_indexed<N: Numbers>(first: u64, end: u64, entries: N) -> Option<Indexed>
     ensures { MatchOption result

@@ -1,4 +1,4 @@
-// The world of a description.
+// The world that a description describes.
 ghost use Rattle.std.specs.Prelude.{◌≡◌, vec_len, IfErr, IfOk, OnOk};
 ghost use Rattle.layout.specs.Superblock.{IsGeometry};
 ghost use Rattle.model.specs.Frame.{frames_in};
@@ -17,7 +17,7 @@ use crate::world::World;
 use crate::{Description, WorldFault};
 use std::alloc::{AllocError, Global};
 
-// The first field, or else the first capability, for which a description names no world.
+// Returns the first flaw in the fields or, if there is none, in the capabilities of a description.
 fn check_objects(description: &Description) -> Result<(), WorldFault>
     requires { HasNumbers description.now }
     ensures fields { OnOk result (HasFields description.now) }
@@ -34,7 +34,7 @@ fn check_objects(description: &Description) -> Result<(), WorldFault>
     }
 }
 
-// Why a description names no world, if it names none.
+// Returns the first reason why a description has no world, if there is one.
 fn check(alloc: Global, description: &Description) -> Result<(), WorldFault>
     requires { IsGeometry description.now.geometry }
     ensures numbers { OnOk result (HasNumbers description.now) }
@@ -50,7 +50,7 @@ fn check(alloc: Global, description: &Description) -> Result<(), WorldFault>
     }
 }
 
-// Lays out the world of a description that has all that it needs. Fails only where memory runs out.
+// Lays out the world of a description that passed `check`. Fails only if memory runs out.
 fn lay_described(alloc: Global, description: &Description) -> Result<World, AllocError>
     requires geometry { IsGeometry description.now.geometry }
     requires numbers { HasNumbers description.now }
@@ -75,13 +75,12 @@ fn lay_described(alloc: Global, description: &Description) -> Result<World, Allo
     Ok(world)
 }
 
-/// Lays out the world of a description: the objects that it names, at their numbers, and all
-/// other numbers free. No object was ever rescinded.
+/// Lays out the world of a description: the objects that it names, at their numbers, and all other numbers free. No
+/// object of this world was ever rescinded.
 ///
-/// Fails with `Number` where a number is none of its kind or is named twice; else with `Field`
-/// where an object has a field that isn't of its form, or a slot, register or word is named twice;
-/// else with `Target` where a capability names a number that no object of its kind can have. Each
-/// has the first place. Fails with `NoMemory` where memory runs out, whatever else applies.
+/// Fails with `Number` if a number isn't one of its kind or occurs twice; else with `Field` if a field is malformed,
+/// or a slot, register or word occurs twice; else with `Target` if a capability names a number that no object of its
+/// kind can have. Each says where this is so first. Fails with `NoMemory` if memory runs out, whatever else applies.
 pub fn lay_world(alloc: Global, description: &Description) -> Result<World, WorldFault>
     requires { IsGeometry description.now.geometry }
     ensures described { IfOk result (λ w.

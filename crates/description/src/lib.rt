@@ -1,5 +1,5 @@
-//! Descriptions of images: what a TOML table says that an image is to hold, the frame of each number, and which
-//! rule a description breaks first.
+//! Descriptions of images: reading one from a TOML table, the frame of each number, and which rule a description
+//! breaks first.
 #![tactic(auto)]
 
 mod entry;

@@ -1,4 +1,4 @@
-// Lists of values.
+// Reading lists of values.
 ghost use Rattle.std.specs.Prelude.{◌≡◌, ◌∷◌, ℕ, [], List, MatchOption};
 ghost use Rattle.toml.specs.Data.{Data, Members, array, item, no_items};
 ghost use Rattle.toml.specs.View.{table_view, view};
@@ -16,30 +16,30 @@ use home_ranges::NumberRange;
 use std::alloc::Global;
 use toml::{Table, Value};
 
-/// What an entry of a list is read as.
+/// A type that is read from a value in a list.
 pub(crate) trait FromValue: Drop {
-    /// Whether a value says this.
+    /// Whether a value encodes this.
     ghost IsSaid: { Data → Self → Type 0 };
 
-    /// Reads a value. Nothing if it says none.
+    /// Reads a value. Returns `None` if it doesn't encode one of this type.
     fn from_value(value: &Value) -> Option<Self>
         ensures { Finds (IsSaid (view value.now)) result };
 }
 
-/// What a table in a list is read as.
+/// A type that is read from a table in a list.
 pub(crate) trait FromTable: Drop {
-    /// Whether a table is that of this.
+    /// Whether a table encodes this.
     ghost IsRead: { Members → Self → Type 0 };
 
-    /// The table of an index.
+    /// The name of the table at an index of the list.
     ghost named: { ℕ → TableName };
 
-    /// Reads the table of an index. Fails with its first flaw, or if memory runs out.
+    /// Reads the table at an index. Fails with its first flaw, or if memory runs out.
     fn from_table<'a>(alloc: Global, table: &'a Table, index: usize) -> Result<Self, Misread<'a>>
         ensures { Reads (IsRead (table_view table.entry.now)) (IsIn (named index) (table_view table.entry.now)) result };
 }
 
-// The place of an item of another form.
+// Returns the fault for a malformed item of a list.
 fn bad_item<'a>(table: TableName, key: Key, index: usize) -> Misread<'a>
     ensures { result ≡ Misread.Misshapen (record { table = table; flaw = Flaw.Item key index }) }
 {
@@ -49,7 +49,7 @@ fn bad_item<'a>(table: TableName, key: Key, index: usize) -> Misread<'a>
     })
 }
 
-// The entries of a list.
+// Reads the entries of a list. Fails with its first flaw, or if memory runs out.
 pub(crate) fn entries_of<'a, T: FromValue>(
     alloc: Global,
     value: &Value,
@@ -73,7 +73,7 @@ pub(crate) fn entries_of<'a, T: FromValue>(
     Ok(list)
 }
 
-// The entries of the list at a key, none if the key is missing.
+// Reads the entries of the list at a key; there are none if the key is missing.
 pub(crate) fn entries<'a, T: FromValue>(
     alloc: Global,
     table: &Table,
@@ -89,7 +89,7 @@ pub(crate) fn entries<'a, T: FromValue>(
     }
 }
 
-// Reads the item of an index as a table.
+// Reads the item at an index as a table.
 fn object_of<'a, T: FromTable>(
     alloc: Global,
     value: &'a Value,
@@ -105,7 +105,7 @@ fn object_of<'a, T: FromTable>(
     }
 }
 
-// The objects of a list.
+// Reads the objects in a list of tables.
 fn objects_of<'a, T: FromTable>(
     alloc: Global,
     value: &'a Value,
@@ -126,7 +126,7 @@ fn objects_of<'a, T: FromTable>(
     Ok(list)
 }
 
-// The objects of the list at a key of the whole, none if the key is missing.
+// Reads the objects in the list at a key of the whole table; there are none if the key is missing.
 pub(crate) fn objects<'a, T: FromTable>(
     alloc: Global,
     table: &'a Table,
@@ -141,7 +141,7 @@ pub(crate) fn objects<'a, T: FromTable>(
     }
 }
 
-// The four values of a list of four, which are to be words.
+// Returns the four values in a list of four, or `None`.
 fn quad_of(value: &Value) -> Option<(&Value, &Value, &Value, &Value)>
     ensures { MatchOption result
         ((words : List ℕ) → AreFour (view value.now) words → ⊥)
@@ -155,7 +155,7 @@ fn quad_of(value: &Value) -> Option<(&Value, &Value, &Value, &Value)>
     }
 }
 
-// The four words of a list of four.
+// Returns the four words in a list of four, or `None`.
 fn four_of(value: &Value) -> Option<[u64; 4]>
     ensures { Finds (AreFour (view value.now)) result }
 {
@@ -167,7 +167,7 @@ fn four_of(value: &Value) -> Option<[u64; 4]>
     Some([first, second, third, fourth])
 }
 
-// The four words at a key, zeros if the key is missing.
+// Reads the four words at a key; they are zeros if the key is missing.
 pub(crate) fn four_or_zeros<'a>(
     table: &Table,
     name: TableName,
@@ -185,7 +185,7 @@ pub(crate) fn four_or_zeros<'a>(
     }
 }
 
-/// A slot: a list of an index and a text.
+/// A slot: a list with an index and the text of a capability.
 impl FromValue for SlotEntry {
     ghost IsSaid = { IsSlot };
 
@@ -197,7 +197,7 @@ impl FromValue for SlotEntry {
     }
 }
 
-/// A word: a list of an index and a number of 64 bits.
+/// A word: a list with an index and a number of 64 bits.
 impl FromValue for WordEntry {
     ghost IsSaid = { IsWord };
 
@@ -209,7 +209,7 @@ impl FromValue for WordEntry {
     }
 }
 
-/// A range: a list of its first number and their count.
+/// A range: a list with its first number and how many numbers it has.
 impl FromValue for NumberRange {
     ghost IsSaid = { IsRange };
 

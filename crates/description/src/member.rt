@@ -1,4 +1,4 @@
-// What a table has at its keys.
+// Reading the values at the keys of a table.
 ghost use Rattle.std.specs.Prelude.{◌≡◌, IsTrue, Some, map, option_map};
 ghost use Rattle.std.specs.List.{list_any};
 ghost use Rattle.model.specs.declared.capability.Capability.TheVariants.{Void};
@@ -13,14 +13,14 @@ use crate::value::{capability_at, number_of, state_at, wide_number_of};
 use model::{Capability, State};
 use toml::{Table, Value};
 
-// Whether a key is one of these.
+// Whether a key is one of `known`.
 fn is_among(key: &str, known: &[&str]) -> bool
     ensures { result ≡ list_any (same_key key.now) (map (λ k. k.now) known.now) }
 {
     known.contains(&key)
 }
 
-// The first key of a table that is none of these, or nothing if each is one.
+// Returns the first key of a table that isn't one of `known`, or `None`.
 fn unknown_key<'a>(table: &'a Table, known: &[&str]) -> Option<&'a str>
     ensures { option_map (λ k. k.now) result ≡ first_unknown (map (λ k. k.now) known.now) (table_view table.entry.now) }
 {
@@ -32,7 +32,7 @@ fn unknown_key<'a>(table: &'a Table, known: &[&str]) -> Option<&'a str>
     None
 }
 
-// A table has no other keys than these.
+// Fails if a table has another key than `known`.
 pub(crate) fn check_keys<'a>(
     table: &'a Table,
     name: TableName,
@@ -51,21 +51,21 @@ pub(crate) fn check_keys<'a>(
     }
 }
 
-/// What a table has at a key, or nothing.
+/// Returns the value at a key of a table, or `None`.
 pub fn member<'a>(table: &'a Table, key: &str) -> Option<&'a Value>
     ensures { option_map (λ v. view v.now) result ≡ get_member key.now (table_view table.now) }
 {
     table.get(key)
 }
 
-// What a table has at one of the keys.
+// Returns the value at a key of a table, or `None`.
 pub(crate) fn member_at<'a>(table: &'a Table, key: Key) -> Option<&'a Value>
     ensures { option_map (λ v. view v.now) result ≡ get_member (key_name key) (table_view table.now) }
 {
     member(table, key.name())
 }
 
-// The number at a key.
+// Reads the number at a key.
 pub(crate) fn number<'a>(table: &Table, name: TableName, key: Key) -> Result<u64, Misread<'a>>
     ensures { Reads (At (key_name key) IsNumber (table_view table.now))
         (IsMisfit name key (At (key_name key) IsNumber (table_view table.now))) result }
@@ -79,7 +79,7 @@ pub(crate) fn number<'a>(table: &Table, name: TableName, key: Key) -> Result<u64
     }
 }
 
-// The number of 64 bits at a key.
+// Reads the number of 64 bits at a key.
 pub(crate) fn wide_number<'a>(table: &Table, name: TableName, key: Key) -> Result<u64, Misread<'a>>
     ensures { Reads (At (key_name key) IsWideNumber (table_view table.now))
         (IsMisfit name key (At (key_name key) IsWideNumber (table_view table.now))) result }
@@ -93,7 +93,7 @@ pub(crate) fn wide_number<'a>(table: &Table, name: TableName, key: Key) -> Resul
     }
 }
 
-// The number at a key, or the default if the key is missing.
+// Reads the number at a key, or returns the default if the key is missing.
 #[tactic(auto, using(crate::proofs::Keyed::defaulted))]
 pub(crate) fn number_or<'a>(
     table: &Table,
@@ -113,7 +113,7 @@ pub(crate) fn number_or<'a>(
     }
 }
 
-// The state at a key, or nothing for a text that is that of no state.
+// Reads the state at a key. It is `None` if the text isn't that of a state.
 pub(crate) fn state<'a>(
     table: &Table,
     name: TableName,
@@ -131,7 +131,7 @@ pub(crate) fn state<'a>(
     }
 }
 
-// The capability at a key, void if the key is missing, or nothing for a text that is that of no capability.
+// Reads the capability at a key. It is void if the key is missing, and `None` if the text isn't that of a capability.
 #[tactic(auto, using(crate::proofs::Keyed::defaulted))]
 pub(crate) fn capability_or_void<'a>(
     table: &Table,

@@ -1,4 +1,4 @@
-// The numbers that a description names, and which is none of its kind or comes twice.
+// Finding a number in a description that isn't one of its kind or occurs twice.
 ghost use Rattle.std.specs.Prelude.{◌≡◌, ◌++◌, ◌<◌, ◌≤◌, ℕ, length, slice_get, slice_index, take, true, IfOk, IsTrue};
 ghost use Rattle.std.specs.Prelude.{MatchOption};
 ghost use Rattle.std.specs.List.{All, Contains};
@@ -14,7 +14,7 @@ use crate::{Description, Misnumbered, Named};
 use collections::NumberSet;
 use std::alloc::{AllocError, Global};
 
-// The numbers of banks, roots, annexes and nodes, in this order. Fails only where memory runs out.
+// Returns the numbers of banks, roots, annexes and nodes, in this order. Fails only if memory runs out.
 fn node_numbers(alloc: Global, description: &Description) -> Result<Vec<u64>, AllocError>
     ensures { IfOk result (λ numbers. numbers.items ≡ node_numbers description.now) }
 {
@@ -29,7 +29,7 @@ fn node_numbers(alloc: Global, description: &Description) -> Result<Vec<u64>, Al
         .collect(alloc)
 }
 
-// The numbers of pages. Fails only where memory runs out.
+// Returns the numbers of pages. Fails only if memory runs out.
 fn page_numbers(alloc: Global, description: &Description) -> Result<Vec<u64>, AllocError>
     ensures { IfOk result (λ numbers. numbers.items ≡ page_numbers description.now) }
 {
@@ -37,7 +37,7 @@ fn page_numbers(alloc: Global, description: &Description) -> Result<Vec<u64>, Al
     pages.map(|page| page.number).collect(alloc)
 }
 
-// The bank, process or node whose number stands at a place among those of banks, roots, annexes and nodes.
+// Returns the bank, process or node whose number is at a place in the list that `node_numbers` returns.
 #[tactic(auto, using(crate::proofs::NumberPlaces::annex_number))]
 fn node_named_at(description: &Description, place: usize) -> Named
     ensures number { number_at description.now result ≡ slice_get (node_numbers description.now) place }
@@ -60,7 +60,8 @@ fn node_named_at(description: &Description, place: usize) -> Named
     Named::Node(annex - processes)
 }
 
-// The object whose number stands at a place among all.
+// Returns the object whose number is at a place in the list of all numbers: the `nodes` of `node_numbers`, then those
+// of pages.
 fn named_at(description: &Description, nodes: usize, place: usize) -> Named
     requires { nodes ≡ length (node_numbers description.now) }
     ensures number { number_at description.now result
@@ -74,7 +75,7 @@ fn named_at(description: &Description, nodes: usize, place: usize) -> Named
     }
 }
 
-// The first number of a bank, a process or a node that isn't one of a node, if there is one.
+// Returns the first bank, root, annex or node whose number isn't one of a node, or `None`.
 fn node_out_of_range(description: &Description, numbers: &[u64]) -> Option<Misnumbered>
     requires { numbers.now ≡ node_numbers description.now }
     ensures { MatchOption result
@@ -87,7 +88,7 @@ fn node_out_of_range(description: &Description, numbers: &[u64]) -> Option<Misnu
     }
 }
 
-// The first number of a page that isn't one of a page, if there is one.
+// Returns the first page whose number isn't one of a page, or `None`.
 fn page_out_of_range(description: &Description, numbers: &[u64]) -> Option<Misnumbered>
     requires geometry { IsGeometry description.now.geometry }
     requires nodes { All (λ n. (0 ≤ n) × (n < description.now.geometry.nodes)) (node_numbers description.now) }
@@ -103,7 +104,8 @@ fn page_out_of_range(description: &Description, numbers: &[u64]) -> Option<Misnu
     }
 }
 
-// Where the number at a place comes before, if it does. `seen` has each number that does.
+// Returns the first place before `place` with the same number, or `None`. `seen` has all numbers that occur before
+// `place`.
 fn find_seen(numbers: &[u64], seen: &NumberSet, place: usize) -> Option<usize>
     requires place { place < length numbers.now }
     requires seen { (n : ℕ) → Contains (take place numbers.now) n → is_marked seen.now n ≡ true }
@@ -120,7 +122,7 @@ fn find_seen(numbers: &[u64], seen: &NumberSet, place: usize) -> Option<usize>
     }
 }
 
-// The first place whose number comes before, and where it does, if there is one. All numbers are below a count.
+// Returns the first two places with the same number, or `None`. All numbers must be below `count`.
 fn first_twice(
     alloc: Global,
     numbers: &[u64],
@@ -140,7 +142,7 @@ fn first_twice(
     Ok(None)
 }
 
-// The first object whose number comes before too, and the object that has it there, if there are two.
+// Returns the two objects at these places, if there are such places.
 fn named_twice(
     description: &Description,
     nodes: usize,
@@ -164,8 +166,8 @@ fn named_twice(
     }
 }
 
-/// The first number of a description that is none of its kind; or, if there is none, the first that comes
-/// twice. The order is banks, roots, annexes, nodes and pages. Fails only where memory runs out.
+/// Returns the first number of a description that isn't one of its kind; if there is none, the first that occurs
+/// twice. The order is banks, roots, annexes, nodes and pages. Fails only if memory runs out.
 pub(crate) fn misnumbered(
     alloc: Global,
     description: &Description,

@@ -1,4 +1,4 @@
-// Banks, processes, nodes and pages.
+// Reading banks, processes, nodes and pages.
 ghost use Rattle.std.specs.Prelude.{◌≡◌, ◌∷◌, [], IsTrue};
 ghost use Rattle.toml.specs.View.{table_view};
 ghost use Rattle.description.specs.Outcomes.{IsIn, Reads};
@@ -15,7 +15,7 @@ use model::{Capability, State};
 use std::alloc::Global;
 use toml::Table;
 
-// The number and the owner of an object whose table has these two and one more key.
+// Reads the number and the owner of an object. Its table may have only these two keys and `other`.
 fn read_numbers<'a>(
     table: &'a Table,
     name: TableName,
@@ -31,7 +31,7 @@ fn read_numbers<'a>(
     Ok((first, owner))
 }
 
-// What a process has beside its registers.
+// The fields of a process, except its registers.
 #[derive(Clone, Copy)]
 struct ProcessFields {
     root: u64,

@@ -1,4 +1,4 @@
-// The objects of a description, laid over free ones.
+// Putting the objects of a description into a world.
 ghost use Rattle.std.specs.Prelude.{◌≡◌, ◌<◌, ◌^◌, length, map, vec_len, IfOk, OnOk};
 ghost use Rattle.std.specs.List.{All};
 ghost use Rattle.model.specs.Keepable.{AreKeptWords};
@@ -11,21 +11,21 @@ use crate::{BankEntry, NodeEntry, PageEntry, ProcessEntry, SlotEntry, WordEntry}
 use model::{Cap, Capability, Content, Root, Slots, State, Words};
 use std::alloc::{AllocError, Global};
 
-// The stored form of a capability in a new image: its count is 0.
+// Returns a capability as it is stored in a new image: with count 0.
 fn fresh_cap(what: Capability) -> Cap
     ensures { result ≡ fresh_cap what }
 {
     Cap { what, count: 0 }
 }
 
-// What is held in a slot that is named.
+// Returns the stored capability of a slot.
 fn slot_held(slot: &SlotEntry) -> Cap
     ensures { result ≡ slot_held slot.now }
 {
     fresh_cap(slot.capability.unwrap_or(Capability::Void))
 }
 
-// Slots with those that are named, the others void.
+// Returns slots with these entries; the others are void. Fails only if memory runs out.
 #[tactic(auto, using(crate::proofs::Lists::each_wrote))]
 fn slots_of(alloc: Global, entries: &[SlotEntry]) -> Result<Slots<Cap>, AllocError>
     requires { All (λ s. s.index < 32) entries.now }
@@ -38,7 +38,7 @@ fn slots_of(alloc: Global, entries: &[SlotEntry]) -> Result<Slots<Cap>, AllocErr
     Ok(slots)
 }
 
-// Words with those that are named, the others 0.
+// Returns words with these entries; the others are 0. Fails only if memory runs out.
 fn words_of(alloc: Global, entries: &[WordEntry]) -> Result<Words, AllocError>
     requires { All (λ w. w.index < 512) entries.now }
     ensures words { IfOk result (λ words. words ≡ words_of entries.now) }
@@ -51,7 +51,7 @@ fn words_of(alloc: Global, entries: &[WordEntry]) -> Result<Words, AllocError>
     Ok(words)
 }
 
-// The words of a root are of 64 bits each. This does nothing; its contract is the fact.
+// A fact for the prover: the words of a root have 64 bits each. The function does nothing; its contract is the fact.
 fn are_root_words(words: &[u64])
     requires { length words.now ≡ 4 }
     ensures { AreKeptWords 4 words.now }
@@ -59,7 +59,7 @@ fn are_root_words(words: &[u64])
     let _count = words.len();
 }
 
-// The root of a process.
+// Returns the root of a process.
 fn root_of(process: &ProcessEntry) -> Content<Cap>
     requires { process.now.key < 2 ^ 16 }
     ensures root { result ≡ root_of process.now }
@@ -75,7 +75,7 @@ fn root_of(process: &ProcessEntry) -> Content<Cap>
     })
 }
 
-// The content of a bank with a limit.
+// Returns the content of a bank with this limit.
 fn bank_of(limit: u64) -> Content<Cap>
     ensures bank { result ≡ Content.Bank limit }
     ensures fits { limit < 2 ^ 64 }
@@ -108,7 +108,7 @@ pub(crate) fn lay_roots(world: &mut World, processes: &[ProcessEntry])
     }
 }
 
-// Puts the annex of each process at its number. Fails only where memory runs out.
+// Puts the annex of each process at its number. Fails only if memory runs out.
 #[tactic(auto, using(crate::proofs::LaidFrames::none_laid, crate::proofs::LaidFrames::still_within))]
 pub(crate) fn lay_annexes(
     alloc: Global,
@@ -127,7 +127,7 @@ pub(crate) fn lay_annexes(
     Ok(())
 }
 
-// Puts each node at its number. Fails only where memory runs out.
+// Puts each node at its number. Fails only if memory runs out.
 #[tactic(auto, using(crate::proofs::LaidFrames::none_laid, crate::proofs::LaidFrames::still_within))]
 pub(crate) fn lay_nodes(
     alloc: Global,
@@ -146,7 +146,7 @@ pub(crate) fn lay_nodes(
     Ok(())
 }
 
-// Puts each page at its number. Fails only where memory runs out.
+// Puts each page at its number. Fails only if memory runs out.
 #[tactic(auto, using(crate::proofs::LaidFrames::none_laid, crate::proofs::LaidFrames::still_within))]
 pub(crate) fn lay_pages(
     alloc: Global,

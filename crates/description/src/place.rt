@@ -1,4 +1,4 @@
-// Where a table hasn't the shape of a description.
+// Places where a table hasn't the form of a description.
 ghost use Rattle.std.specs.Prelude.{◌≡◌, codes};
 ghost use Rattle.description.specs.Shapes.{key_name, misfit};
 ghost use Rattle.description.specs.declared.place.Misread.TheVariants.{Misshapen};
@@ -33,7 +33,7 @@ pub enum Key {
 }
 
 impl Key {
-    /// Its text.
+    /// Returns the key's text.
     pub fn name(self) -> &'static str
         ensures { result.now ≡ key_name self }
     {
@@ -64,7 +64,7 @@ impl Key {
     }
 }
 
-/// A table of a description: the whole, or one of a list by its index.
+/// A table in a description: the whole, or one at an index of a list.
 #[derive(Clone, Copy)]
 pub enum TableName {
     Whole,
@@ -74,34 +74,34 @@ pub enum TableName {
     Page(usize),
 }
 
-/// What is wrong in a table.
+/// A flaw in a table.
 #[derive(Clone, Copy)]
 pub enum Flaw<'a> {
     /// This key is unknown.
     Unknown(&'a str),
-    /// This key is missing, or another value than its own is there.
+    /// This key is missing, or its value has the wrong type.
     Misfit(Key),
-    /// In the list at this key the item of this index isn't of its form.
+    /// The item at this index of the list at this key is malformed.
     Item(Key, usize),
 }
 
-/// A table, and what is wrong in it.
+/// A table, and a flaw in it.
 #[derive(Clone, Copy)]
 pub struct ShapePlace<'a> {
     pub table: TableName,
     pub flaw: Flaw<'a>,
 }
 
-/// Why no description is read from a table.
+/// Why no description could be read from a table.
 #[derive(Clone, Copy)]
 pub enum Misread<'a> {
-    /// The table hasn't the shape of a description: the first place where it differs.
+    /// The table hasn't the form of a description; this is the first place where it differs.
     Misshapen(ShapePlace<'a>),
     /// Memory ran out.
     NoMemory,
 }
 
-// A key of a table where nothing fits.
+// Returns the fault for a key whose value is missing or has the wrong type.
 pub(crate) fn misfit<'a>(table: TableName, key: Key) -> Misread<'a>
     ensures { result ≡ Misshapen (misfit table key) }
 {

@@ -1,4 +1,4 @@
-// A whole description.
+// Reading a whole description.
 ghost use Rattle.std.specs.Prelude.{◌≡◌, IfErr, IfOk, IsTrue, codes, map};
 ghost use Rattle.toml.specs.View.{table_view};
 ghost use Rattle.description.specs.Outcomes.{AreBadEntries, AtKey, IsIn, Reads};
@@ -16,7 +16,7 @@ use model::Geometry;
 use std::alloc::Global;
 use toml::Table;
 
-// How much the image holds.
+// Reads how many nodes, pages and log slots the image has.
 fn read_geometry<'a>(table: &Table) -> Result<Geometry, Misread<'a>>
     requires { IsTrue (has_only (map key_name (keys_of Whole)) (table_view table.now)) }
     ensures { Reads (IsGeometry (table_view table.now)) (IsIn Whole (table_view table.now)) result }
@@ -27,7 +27,7 @@ fn read_geometry<'a>(table: &Table) -> Result<Geometry, Misread<'a>>
     Ok(Geometry { nodes, pages, log })
 }
 
-// All nodes, and then all pages.
+// Returns the default ranges: all nodes, then all pages.
 fn whole_ranges(geometry: Geometry) -> [NumberRange; 2]
     ensures { result ≡ whole_ranges geometry }
 {
@@ -42,7 +42,7 @@ fn whole_ranges(geometry: Geometry) -> [NumberRange; 2]
     [nodes, pages]
 }
 
-// The ranges that are named, or else those of all numbers.
+// Reads the ranges; if there are none in the table, returns those of all nodes and of all pages.
 fn read_ranges<'a>(
     alloc: Global,
     table: &Table,
@@ -94,11 +94,11 @@ fn read_description<'a>(alloc: Global, table: &'a Table) -> Result<Description, 
 }
 
 impl Description {
-    /// Reads the description of a table. Fails with the first place that hasn't the shape of a description, or
-    /// if memory runs out.
+    /// Reads the description in a table. Fails with the first place where the table hasn't the form of a description,
+    /// or if memory runs out.
     ///
-    /// The first is, in this order: a key that is unknown; the first key where something is missing or of another
-    /// type; there, the first item of another form in a list; in the table of an object the same again.
+    /// The first place is found in this order: an unknown key; then the first key whose value is missing or has the
+    /// wrong type; if that is a list, its first malformed item; in the table of an object the same order again.
     pub fn read<'a>(alloc: Global, table: &'a Table) -> Result<Description, Misread<'a>>
         ensures { Reads (IsDescription (table_view table.entry.now)) (BreaksShape (table_view table.entry.now)) result }
     {

@@ -15,20 +15,20 @@ pub struct Sizes {
     pub log: Option<u64>,
 }
 
-/// Why a description isn't renumbered for other sizes.
+/// Why a description can't be renumbered for other sizes.
 #[derive(Clone, Copy)]
 pub enum GrowthFault {
-    /// No image has these sizes.
+    /// No image may have these sizes.
     Limits,
-    /// A bank, a process or a node has a number that is none of a node any more.
+    /// The number of a bank, a process or a node is beyond the new number of nodes.
     Nodes,
-    /// There are fewer pages than an object needs.
+    /// There are fewer pages than the numbers of the objects need.
     Pages,
     /// Memory ran out.
     NoMemory,
 }
 
-// A size, or the image's own.
+// Returns a size, or the image's own if it is `None`.
 fn size_or(size: Option<u64>, own: u64) -> u64
     ensures { result ≡ unwrap_or size own }
 {
@@ -39,7 +39,7 @@ fn size_or(size: Option<u64>, own: u64) -> u64
 }
 
 impl Sizes {
-    /// These sizes, and an image's own where there are none.
+    /// Returns the sizes of an image with these changes.
     pub fn over(self, own: Geometry) -> Geometry
         ensures { result ≡ grown_geometry own self }
     {

@@ -1,4 +1,4 @@
-// Which capability of a description names no object of its kind.
+// Finding a capability in a description that names no object of its kind.
 ghost use Rattle.std.specs.Prelude.{◌≡◌, ◌↔◌, false, IsTrue, MatchOption};
 ghost use Rattle.std.specs.List.{All};
 ghost use Rattle.model.specs.declared.capability.Capability.{Capability};
@@ -11,7 +11,7 @@ use crate::{Description, Held, NodeEntry, ProcessEntry, SlotEntry};
 use model::{Capability, Geometry};
 use std::marker::Model;
 
-/// A test of what a capability names.
+/// A test on capabilities.
 pub trait Naming {
     /// Whether a capability passes.
     ghost Passes: { Self → Capability → Type 0 };
@@ -20,7 +20,7 @@ pub trait Naming {
         ensures { IsTrue result ↔ Passes self.now capability };
 }
 
-/// What a capability names is a number of its kind.
+/// The test whether a capability names a number of its kind.
 #[derive(Drop)]
 pub(crate) struct OfItsKind {
     geometry: Geometry,
@@ -50,7 +50,7 @@ impl Naming for OfItsKind {
     }
 }
 
-// Whether a capability that may be absent passes.
+// Whether a capability passes, or is absent.
 fn may_pass<N: Naming>(naming: &N, capability: Option<Capability>) -> bool
     ensures passes { IsTrue result → IfNamed (N.Passes naming.now) capability }
     ensures fails { result ≡ false → LacksIt (N.Passes naming.now) capability }
@@ -61,7 +61,7 @@ fn may_pass<N: Naming>(naming: &N, capability: Option<Capability>) -> bool
     }
 }
 
-// The first slot whose capability doesn't pass, if there is one.
+// Returns the index of the first slot whose capability fails the test, or `None`.
 fn first_failing<N: Naming>(naming: &N, slots: &[SlotEntry]) -> Option<usize>
     ensures { MatchOption result (AllIn (N.Passes naming.now) slots.now)
         (λ i. OneOf (N.Passes naming.now) slots.now i) }
@@ -74,7 +74,8 @@ fn first_failing<N: Naming>(naming: &N, slots: &[SlotEntry]) -> Option<usize>
     None
 }
 
-// The first capability of a process that doesn't pass, if there is one: its address space, then its registers.
+// Returns the first capability of a process that fails the test, or `None`: first its address space, then its
+// registers.
 #[tactic(auto, unfolding(crate::specs::Broken::OneOfProcess))]
 fn failing_in_process<N: Naming>(naming: &N, k: usize, process: &ProcessEntry) -> Option<Held>
     ensures { MatchOption result (AllOfProcess (N.Passes naming.now) process.now)
@@ -89,7 +90,8 @@ fn failing_in_process<N: Naming>(naming: &N, k: usize, process: &ProcessEntry) -
     }
 }
 
-// The first process with a capability that doesn't pass, by its index, and where it holds that.
+// Returns the index of the first process with a capability that fails the test, and the place of this capability, or
+// `None`.
 fn failing_in_processes<N: Naming>(naming: &N, processes: &[ProcessEntry]) -> Option<(usize, Held)>
     ensures { MatchOption result (All (AllOfProcess (N.Passes naming.now)) processes.now)
         (λ bad. IsFirst (AllOfProcess (N.Passes naming.now))
@@ -103,7 +105,7 @@ fn failing_in_processes<N: Naming>(naming: &N, processes: &[ProcessEntry]) -> Op
     None
 }
 
-// The first slot of a node whose capability doesn't pass, if there is one.
+// Returns the first slot of a node whose capability fails the test, or `None`.
 fn failing_in_nodes<N: Naming>(naming: &N, nodes: &[NodeEntry]) -> Option<Held>
     ensures { MatchOption result (All (λ n. AllIn (N.Passes naming.now) n.slots.items) nodes.now)
         (λ at. OneOfNodes (N.Passes naming.now) nodes.now at) }
@@ -116,7 +118,8 @@ fn failing_in_nodes<N: Naming>(naming: &N, nodes: &[NodeEntry]) -> Option<Held>
     None
 }
 
-/// The first capability of a description that doesn't pass, if there is one: of processes, then of nodes.
+/// Returns the first capability of a description that fails the test, or `None`: first those of processes, then those
+/// of nodes.
 pub fn failing<N: Naming>(naming: &N, description: &Description) -> Option<Held>
     ensures { MatchOption result (AllHave (N.Passes naming.now) description.now)
         (λ at. FirstLacks (N.Passes naming.now) description.now at) }

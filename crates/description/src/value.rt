@@ -1,4 +1,4 @@
-// Values of their types.
+// Reading values of each type.
 ghost use Rattle.std.specs.Prelude.{◌≡◌, ◌≢◌, ℕ, ◌^◌, ◌≤◌, None, Some, IfNone, IfSome, MatchOption};
 ghost use Rattle.toml.specs.Data.{Data, Items, Members, array, as_integer, table, item, no_items};
 ghost use Rattle.toml.specs.View.{array_view, table_view, view};
@@ -10,7 +10,7 @@ use script::{capability_of, state_of};
 use toml::value::Array;
 use toml::{Table, Value};
 
-// The number that a capability is to, if TOML has no such number.
+// Returns the number of a number capability if it is 2^63 or above, so that TOML has no such integer; else `None`.
 fn large_number(capability: Option<Capability>) -> Option<u64>
     ensures found { IfSome result (λ n. (2 ^ 63 ≤ n) × (capability ≡ Some (Capability.Number n))) }
     ensures none { IfNone result
@@ -22,7 +22,7 @@ fn large_number(capability: Option<Capability>) -> Option<u64>
     }
 }
 
-// The number that a text says, as that of a capability.
+// Returns the number of 2^63 or above in the text of a number capability, or `None`.
 #[tactic(auto, using(crate::proofs::Types::text_said))]
 fn number_in_text(value: &Value) -> Option<u64>
     requires { as_integer (view value.now) ≡ None }
@@ -32,7 +32,7 @@ fn number_in_text(value: &Value) -> Option<u64>
     large_number(capability)
 }
 
-// A number that isn't negative.
+// Returns the number in a value, or `None` if it isn't an integer or is negative.
 #[tactic(auto, using(crate::proofs::Types::natural))]
 pub(crate) fn number_of(value: &Value) -> Option<u64>
     ensures { Finds (IsNumber (view value.now)) result }
@@ -48,7 +48,7 @@ pub(crate) fn number_of(value: &Value) -> Option<u64>
     }
 }
 
-// A number of 64 bits: a text says it from 2^63 on.
+// Returns the number of 64 bits in a value, or `None`. From 2^63 on it is written as a text.
 #[tactic(auto, using(crate::proofs::Types::wide_read))]
 pub(crate) fn wide_number_of(value: &Value) -> Option<u64>
     ensures { Finds (IsWideNumber (view value.now)) result }
@@ -60,7 +60,8 @@ pub(crate) fn wide_number_of(value: &Value) -> Option<u64>
     }
 }
 
-// The capability that a text is of.
+// Returns `None` if the value isn't a text; else the capability with this text, or `None` in its place if there is no such
+// capability.
 #[tactic(auto, using(crate::proofs::Types::capability_reported))]
 pub(crate) fn capability_at(value: &Value) -> Option<Option<Capability>>
     ensures { Finds (IsCapability (view value.now)) result }
@@ -71,7 +72,8 @@ pub(crate) fn capability_at(value: &Value) -> Option<Option<Capability>>
     }
 }
 
-// The state that a text is of.
+// Returns `None` if the value isn't a text; else the state with this text, or `None` in its place if there is no such
+// state.
 #[tactic(auto, using(crate::proofs::Types::state_reported))]
 pub(crate) fn state_at(value: &Value) -> Option<Option<State>>
     ensures { Finds (IsState (view value.now)) result }
@@ -82,7 +84,7 @@ pub(crate) fn state_at(value: &Value) -> Option<Option<State>>
     }
 }
 
-// The values of a list.
+// Returns the values of a list, or `None` for another value.
 pub(crate) fn array_of(value: &Value) -> Option<&Array>
     ensures { MatchOption result
         ((ds : Items) → view value.now ≡ array ds → ⊥)
@@ -91,7 +93,7 @@ pub(crate) fn array_of(value: &Value) -> Option<&Array>
     value.as_array()
 }
 
-// The members of a table.
+// Returns the members of a table, or `None` for another value.
 pub(crate) fn table_of(value: &Value) -> Option<&Table>
     ensures { MatchOption result
         ((ms : Members) → view value.now ≡ table ms → ⊥)
@@ -100,7 +102,7 @@ pub(crate) fn table_of(value: &Value) -> Option<&Table>
     value.as_table()
 }
 
-// The two values of a list of two.
+// Returns the two values in a list of two, or `None`.
 pub(crate) fn pair_of(value: &Value) -> Option<(&Value, &Value)>
     ensures { MatchOption result
         ((a b : Data) → view value.now ≡ array (item a (item b no_items)) → ⊥)

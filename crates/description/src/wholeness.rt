@@ -1,8 +1,8 @@
-//! A law of described frames, the contract of a function that does nothing.
+//! A law of described frames: the contract of a function that does nothing.
 
 ghost use Rattle.description.specs.Wholeness.{DescribedIsWhole};
 
-/// In frames that are described each process is a root and its annex.
+/// In described frames each process has a root and an annex.
 pub fn described_is_whole()
     ensures { DescribedIsWhole }
 {}

@@ -7,7 +7,7 @@ ghost use Rattle.description.specs.Laid.{frames_of, HasCount, IsPut};
 use model::{Cap, Content, ObjectHeader, Role};
 use std::alloc::{AllocError, Global};
 
-/// What each number holds: its header, and its content beside that.
+/// The header and the content of each number.
 #[derive(Drop)]
 pub struct World {
     pub headers: Vec<ObjectHeader>,
@@ -15,7 +15,7 @@ pub struct World {
 }
 
 impl World {
-    // A world of `count` free numbers. Fails only where memory runs out.
+    // Returns a world of `count` free numbers. Fails only if memory runs out.
     pub(crate) fn free(alloc: Global, count: usize) -> Result<World, AllocError>
         ensures frames { IfOk result (λ world. frames_of world ≡ replicate count blank_frame) }
         ensures count { IfOk result (HasCount count) }
@@ -34,7 +34,7 @@ impl World {
         Ok(World { headers, contents })
     }
 
-    // Puts an object of a bank at a number, one that was never rescinded.
+    // Puts an object of a bank at a number. The object was never rescinded.
     #[tactic(auto, using(crate::proofs::Worlds::put_there))]
     pub(crate) fn put(&mut self, number: u64, owner: u64, content: Content<Cap>)
         requires within { number < vec_len self.old.headers }

@@ -69,7 +69,7 @@ module _ (d : Description) (limits : IsWithinLimits d) (why : WorldFault) (broke
       let at : HasNumbers d × HasFields d × FirstLacks (IsTarget d.geometry) d held = broken_as (fault.Target held) is in
       explains_kind d limits at.0 at.1 held at.2
 
--- what the search of all capabilities finds in described frames
+-- the result of the search of all capabilities, in described frames
 module _ (d : Description) (fs gs : List Frame) (same : gs ≡ fs) (is : IsDescribed d fs) where
   pub unnamed_none : (found : Option Held) → MatchOption found (AllHave (NamesItsRole gs) d) (λ at. FirstLacks (NamesItsRole gs) d at) →
       IfNone found (AreNamed fs)
@@ -83,13 +83,13 @@ module _ (d : Description) (fs gs : List Frame) (same : gs ≡ fs) (is : IsDescr
   unnamed_some limits numbers fields kinds (Some at) lacks = explains_role d limits numbers fields fs is kinds at
       (subst (λ (hs : List Frame). FirstLacks (NamesItsRole hs) d at) same lacks)
 
--- a table is refused as its description is
+-- a table is refused for the reason for which its description is
 pub refused_rule : (ms : Members) (d : Description) (sectors : ℕ) (r : Rule) → IsDescription ms d → IsFirstBroken d sectors (rule_fault r) →
     Refuses ms sectors (rule_fault r)
 refused_rule ms d sectors (rule.Limit l) is first = (d, is, first)
 refused_rule ms d sectors other is first = (d, is, first)
 
--- a table that isn't read is refused at the place where it isn't
+-- a table from which no description can be read is refused at the place of its first flaw
 pub misshapen_explained : (ms : Members) (why : Misread) (shape : ShapePlace) → why ≡ misread.Misshapen shape →
     Misses (BreaksShape ms) why → Explains ms (Some (place.Shape shape))
 misshapen_explained ms why shape is misses =

@@ -185,7 +185,7 @@ place_line : (p : Place) (text : List ℕ) → IsPlaceText p text → breaks tex
 place_line (place.Shape s) text is = rw is.2 (both (table_text s.table) is.0 (table_line s.table) (flaw_line s.flaw is.0 is.1))
 place_line (place.Rule d r) text is = rw is (rule_line d r)
 
--- the line of a place, of words on one line, and of a number
+-- the line of a place, of words on one line, and of a number, is one line
 pub explanation_line : (p : Place) (at what : List ℕ) (n : ℕ) → IsPlaceText p at → breaks what ≡ false →
     IsOneLine (at ++ (what ++ (codes " (bad description " ++ (decimal n ++ codes ")"))))
 explanation_line p at what n is one =

@@ -1,4 +1,4 @@
-// Why the image of a table isn't built, and where.
+// Finding the first rule for which `build` refuses a table, and where it is broken.
 ghost use Rattle.std.specs.Prelude.{◌≡◌, Some, IfNone, IfOk, IfSome};
 ghost use Rattle.toml.specs.Data.{Members};
 ghost use Rattle.toml.specs.View.{table_view};
@@ -26,7 +26,7 @@ use recovery::{Noted, find_unbanked, read_notes};
 use std::alloc::{AllocError, Global};
 use toml::Table;
 
-// The rule for owners, if described frames break it.
+// Returns the rule for owners, if described frames break it.
 fn explain_banks(
     alloc: Global,
     description: &Description,
@@ -45,7 +45,7 @@ fn explain_banks(
     }
 }
 
-// Which capability of described frames names no object of its kind, if one names none.
+// Returns the first capability of described frames that names no object of its kind, or `None`.
 fn find_unnamed(description: &Description, frames: &Plain, notes: &[Option<Noted>]) -> Option<Held>
     requires limits { IsWithinLimits description.now }
     requires laid { AreLaid description.now frames.now.headers frames.now.contents }
@@ -57,7 +57,7 @@ fn find_unnamed(description: &Description, frames: &Plain, notes: &[Option<Noted
     failing(&OfItsRole::new(frames, notes), description)
 }
 
-// The rule that described frames break, if they break one.
+// Returns the rule that described frames break, if they break one.
 fn explain_frames(
     alloc: Global,
     description: &Description,
@@ -79,7 +79,7 @@ fn explain_frames(
     }
 }
 
-// The rule for which a description names no world.
+// Returns the rule for which a description has no world.
 fn rule_of(why: WorldFault) -> Result<Option<Rule>, AllocError>
     ensures { (d : Description) → IsWithinLimits d → BreaksWorld d why
         → IfOk result (λ found. ExplainsDescription d found) }
@@ -92,7 +92,7 @@ fn rule_of(why: WorldFault) -> Result<Option<Rule>, AllocError>
     }
 }
 
-// The rule that a description within the limits breaks, if it breaks one.
+// Returns the rule that a description within the limits breaks, if it breaks one.
 fn explain_world(alloc: Global, description: &Description) -> Result<Option<Rule>, AllocError>
     requires { IsWithinLimits description.now }
     ensures { IfOk result (λ found. ExplainsDescription description.now found) }
@@ -107,7 +107,7 @@ fn explain_world(alloc: Global, description: &Description) -> Result<Option<Rule
     }
 }
 
-// The first rule that a description breaks, if it breaks one.
+// Returns the first rule that a description breaks, if it breaks one.
 #[tactic(auto, using(crate::proofs::Explanations::explains_limit))]
 fn explain_rules(alloc: Global, description: &Description) -> Result<Option<Rule>, AllocError>
     ensures { IfOk result (λ found. ExplainsDescription description.now found) }
@@ -118,7 +118,7 @@ fn explain_rules(alloc: Global, description: &Description) -> Result<Option<Rule
     }
 }
 
-// The place where a description breaks a rule, with the description, if it breaks one.
+// Returns the place where a description breaks a rule, with the description, if it breaks one.
 fn place_of<'a>(description: Description, found: Option<Rule>) -> Option<Place<'a>>
     requires { ExplainsDescription description found }
     ensures { (table : Members) → IsDescription table description → Explains table result }
@@ -129,7 +129,7 @@ fn place_of<'a>(description: Description, found: Option<Rule>) -> Option<Place<'
     }
 }
 
-// The place for which a table isn't read.
+// Returns the place for which no description could be read from a table.
 fn unread<'a>(why: Misread<'a>) -> Result<Option<Place<'a>>, AllocError>
     ensures { (table : Members) → Misses (BreaksShape table) why.entry → IfOk result (Explains table) }
 {
@@ -139,8 +139,8 @@ fn unread<'a>(why: Misread<'a>) -> Result<Option<Place<'a>>, AllocError>
     }
 }
 
-/// Where a table breaks the first rule that `build` refuses it for. Nothing if `build` accepts it on a device
-/// that is large enough. Fails only where memory runs out.
+/// Returns where a table breaks the first rule for which `build` refuses it, or `None` if `build` accepts it on a
+/// device that is large enough. Fails only if memory runs out.
 pub fn explain<'a>(alloc: Global, table: &'a Table) -> Result<Option<Place<'a>>, AllocError>
     ensures { IfOk result (Explains (table_view table.entry.now)) }
 {

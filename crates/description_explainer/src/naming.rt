@@ -1,4 +1,4 @@
-// How the objects of a description are named. Each call that writes fails only where memory runs out.
+// Writing the names of a description's objects. Each function that writes fails only if memory runs out.
 ghost use Rattle.std.specs.Prelude.{◌≡◌, ◌==◌, ◌++◌, ◌||◌, OnOk, position, string_bytes};
 ghost use Rattle.std.specs.List.{list_any};
 ghost use Rattle.description_explainer.specs.Text.{listed_number, node_text, object_text, page_text, part_text};
@@ -7,7 +7,7 @@ ghost use Rattle.description_explainer.specs.Text.{process_text};
 use description::{BankEntry, Description, Named, NodeEntry, ProcessEntry};
 use std::alloc::AllocError;
 
-// The number of an object, or 0 if it isn't listed.
+// Returns the number of an object, or 0 if the description has no such object.
 pub(crate) fn listed_number(description: &Description, named: Named) -> u64
     ensures { result ≡ listed_number description.now named }
 {
@@ -35,7 +35,8 @@ pub(crate) fn listed_number(description: &Description, named: Named) -> u64
     }
 }
 
-// Writes the name of a process, a node or a page, by its index in its list.
+// Writes the name of a process. `k` is its index in the list of processes. The next two do the same for a node and a
+// page.
 pub(crate) fn put_process(
     text: &mut String,
     description: &Description,
@@ -72,7 +73,7 @@ pub(crate) fn put_page(
     write!(text, "page {number}")
 }
 
-// Whether a number is that of a bank, or of a node.
+// Whether a number is a bank's. The next function does the same for nodes.
 fn is_bank(banks: &[BankEntry], number: u64) -> bool
     ensures { result ≡ list_any (λ b. b.number == number) banks.now }
 {
@@ -85,14 +86,14 @@ fn is_node(nodes: &[NodeEntry], number: u64) -> bool
     nodes.iter().any(|node| node.number == number)
 }
 
-// The index of the first process with a number.
+// Returns the index of the first process whose root or annex has this number, or `None`.
 fn process_with(processes: &[ProcessEntry], number: u64) -> Option<usize>
     ensures { result ≡ position (λ p. p.root == number || p.annex == number) processes.now }
 {
     processes.iter().position(|process| process.root == number || process.annex == number)
 }
 
-// Writes the name of an object that is no bank.
+// Writes the name of an object that isn't a bank.
 fn put_part(text: &mut String, description: &Description, number: u64) -> Result<(), AllocError>
     ensures { OnOk result (string_bytes text.new
         ≡ string_bytes text.old ++ part_text description.now number
@@ -110,7 +111,7 @@ fn put_part(text: &mut String, description: &Description, number: u64) -> Result
     }
 }
 
-// Writes the name of an object, by its number. The annex of a process is named as that process.
+// Writes the name of the object with a number. An annex gets the name of its process.
 pub(crate) fn put_object(
     text: &mut String,
     description: &Description,

@@ -1,11 +1,11 @@
-// Where a description breaks a rule.
+// The place where a description breaks a rule.
 ghost use Rattle.std.specs.Prelude.{◌≡◌};
 ghost use Rattle.description_explainer.specs.Places.{fault_of, rule_fault};
 
 use description::{BuildFault, Description, Held, Limit, Misnumbered, Part, ShapePlace};
 use recovery::Unbanked;
 
-/// Where a description breaks one of the rules beyond its shape.
+/// Where a description breaks one of the rules after the first, which is that of its form.
 #[derive(Clone, Copy)]
 pub enum Rule {
     Limit(Limit),
@@ -16,7 +16,7 @@ pub enum Rule {
 }
 
 impl Rule {
-    /// The fault that `build` answers for it.
+    /// Returns the fault with which `build` refuses such a description.
     pub fn fault(self) -> BuildFault
         ensures { result ≡ rule_fault self }
     {
@@ -33,14 +33,14 @@ impl Rule {
 /// Where a table breaks the first rule that it breaks.
 #[derive(Drop)]
 pub enum Place<'a> {
-    /// It isn't that of a description.
+    /// The table isn't that of a description.
     Shape(ShapePlace<'a>),
-    /// Its description breaks another rule.
+    /// The table's description breaks another rule.
     Rule(Description, Rule),
 }
 
 impl Place<'_> {
-    /// The fault that `build` answers for it.
+    /// Returns the fault with which `build` refuses such a table.
     pub fn fault(&self) -> BuildFault
         ensures { result ≡ fault_of self.now }
     {

@@ -1,4 +1,4 @@
-// The text of a place. Each call fails only where memory runs out.
+// Writing the text of a place. Each function that writes fails only if memory runs out.
 ghost use Rattle.std.specs.Prelude.{◌≡◌, ℕ, ◌++◌, List, [], IfOk, IfSome, MatchOption, OnOk, codes};
 ghost use Rattle.std.specs.Prelude.{string_bytes};
 ghost use Rattle.std.specs.Fmt.{debug_str};
@@ -17,14 +17,14 @@ use description::{
 use recovery::Unbanked;
 use std::alloc::{AllocError, Global};
 
-// Writes an item of a list.
+// Writes the name of an item of a list.
 fn put_item(text: &mut String, list: &str, i: usize) -> Result<(), AllocError>
     ensures { OnOk result (string_bytes text.new ≡ string_bytes text.old ++ item_text list.now i []) }
 {
     write!(text, "{list}[{i}]")
 }
 
-/// The key of the list that a table stands in, and its index there.
+/// Returns the key of the list that has a table, and the table's index there; `None` for the whole table.
 pub(crate) fn list_of(name: TableName) -> Option<(&'static str, usize)>
     ensures { MatchOption result (table_text name ≡ [])
         (λ p. table_text name ≡ item_text p.0.now p.1 (codes ", ")) }
@@ -38,7 +38,7 @@ pub(crate) fn list_of(name: TableName) -> Option<(&'static str, usize)>
     }
 }
 
-// Writes what stands before a key of a table.
+// Writes the text before a key of a table: the name of the table.
 fn put_table(text: &mut String, name: TableName) -> Result<(), AllocError>
     ensures { OnOk result (string_bytes text.new ≡ string_bytes text.old ++ table_text name) }
 {
@@ -48,14 +48,15 @@ fn put_table(text: &mut String, name: TableName) -> Result<(), AllocError>
     }
 }
 
-// A key as `{:?}` writes it.
+// Returns a key as `{:?}` writes it.
 fn debugged(alloc: Global, key: &str) -> Result<String, AllocError>
     ensures { IfOk result (λ shown. IfSome (debug_str key.now) (λ s. string_bytes shown ≡ s)) }
 {
     format!(in alloc; "{key:?}")
 }
 
-// A key in quotes, on one line. No clause of std says how `{:?}` writes a text that isn't ASCII.
+// Returns a key in quotes, on one line. No contract of std says how `{:?}` writes a text that isn't ASCII, so a
+// result with a newline is replaced.
 fn quoted(alloc: Global, key: &str) -> Result<String, AllocError>
     ensures { IfOk result (λ shown. IfSome (debug_str key.now) (λ s. string_bytes shown ≡ s)
         × IsOneLine (string_bytes shown)) }
@@ -67,7 +68,7 @@ fn quoted(alloc: Global, key: &str) -> Result<String, AllocError>
     Ok(shown)
 }
 
-// Writes a key, or an item of its list.
+// Writes the key of a flaw, or the item of the list at this key.
 fn put_flaw(alloc: Global, text: &mut String, flaw: Flaw<'_>) -> Result<(), AllocError>
     ensures { OnOk result ((at : List ℕ) × IsFlawText flaw.entry at
         × (string_bytes text.new ≡ string_bytes text.old ++ at)) }
@@ -105,7 +106,7 @@ fn put_limit(text: &mut String, limit: Limit) -> Result<(), AllocError>
     }
 }
 
-/// The key of the list that a number stands in, its index there, and its own key.
+/// Returns the key of the list that has an object, the object's index there, and the key of its number.
 pub(crate) fn parts_of(named: Named) -> (&'static str, usize, &'static str)
     ensures { named_text named ≡ item_text result.0.now result.1 (codes ", " ++ result.2.now) }
 {
@@ -118,7 +119,7 @@ pub(crate) fn parts_of(named: Named) -> (&'static str, usize, &'static str)
     }
 }
 
-// Writes the key of a number.
+// Writes the key of an object's number.
 fn put_named(text: &mut String, named: Named) -> Result<(), AllocError>
     ensures { OnOk result (string_bytes text.new ≡ string_bytes text.old ++ named_text named) }
 {
@@ -135,7 +136,7 @@ fn put_misnumbered(text: &mut String, place: Misnumbered) -> Result<(), AllocErr
     }
 }
 
-/// The entry that is wrong: the second of two with one index.
+/// Returns the index of the faulty entry: of two with the same index, the second.
 pub(crate) fn indexed_entry(flaw: Indexed) -> usize
     ensures { result ≡ indexed_entry flaw }
 {
@@ -154,7 +155,7 @@ fn slot_entry(flaw: SlotFlaw) -> usize
     }
 }
 
-// Writes a process and a field of it.
+// Writes the name of a process, and one of its fields.
 #[tactic(auto, using(std::proofs::Common::append_assoc))]
 fn put_process_field(
     text: &mut String,
@@ -169,7 +170,7 @@ fn put_process_field(
     text.push_str(field)
 }
 
-// Writes an entry in a list of an object.
+// Writes the place of an entry in a list of an object.
 fn put_entry(text: &mut String, list: &str, i: usize) -> Result<(), AllocError>
     ensures { OnOk result (string_bytes text.new
         ≡ string_bytes text.old ++ (codes ", " ++ item_text list.now i [])) }
@@ -177,7 +178,7 @@ fn put_entry(text: &mut String, list: &str, i: usize) -> Result<(), AllocError>
     write!(text, ", {list}[{i}]")
 }
 
-// Writes a register of a process, by its index in the list.
+// Writes the place of a register: its process, and its index in the list of registers.
 #[tactic(auto, using(std::proofs::Common::append_assoc))]
 fn put_register(
     text: &mut String,
@@ -192,7 +193,7 @@ fn put_register(
     put_entry(text, "registers", i)
 }
 
-// Writes a slot of a node, by its index in the list.
+// Writes the place of a slot: its node, and its index in the list of slots.
 #[tactic(auto, using(std::proofs::Common::append_assoc))]
 fn put_slot(
     text: &mut String,
@@ -207,7 +208,7 @@ fn put_slot(
     put_entry(text, "slots", i)
 }
 
-// Writes a word of a page, by its index in the list.
+// Writes the place of a word: its page, and its index in the list of words.
 #[tactic(auto, using(std::proofs::Common::append_assoc))]
 fn put_word(
     text: &mut String,
@@ -280,7 +281,7 @@ fn put_rule(text: &mut String, description: &Description, rule: Rule) -> Result<
     }
 }
 
-/// The text of a place.
+/// Returns the text of a place.
 pub(crate) fn place_text(alloc: Global, place: &Place<'_>) -> Result<String, AllocError>
     ensures { IfOk result (λ text. IsPlaceText place.now (string_bytes text)) }
 {

@@ -1,4 +1,4 @@
-// Whether a capability names an object of its kind, in frames.
+// Testing whether a capability names an object of its kind.
 ghost use Rattle.std.specs.Prelude.{◌≡◌, ◌↔◌, IsTrue};
 ghost use Rattle.model.specs.declared.capability.Capability.{Capability};
 ghost use Rattle.capability.specs.Parts.{frames_of};
@@ -12,7 +12,7 @@ use model::Capability;
 use recovery::{Noted, names_its_role};
 use std::marker::Model;
 
-/// What a capability names is an object of its kind, and that of a resume capability waits.
+/// The test whether a capability names an object of its kind; that of a resume capability must be a waiting process.
 #[derive(Drop)]
 pub(crate) struct OfItsRole<'a> {
     frames: &'a Plain,

@@ -1,4 +1,4 @@
-// What an explanation says. Each call that writes fails only where memory runs out.
+// The text of an explanation. Each function that writes fails only if memory runs out.
 ghost use Rattle.std.specs.Prelude.{◌≡◌, ◌++◌, IfOk, codes, decimal, string_bytes};
 ghost use Rattle.script.specs.Lines.{IsOneLine};
 ghost use Rattle.description_explainer.specs.Text.{IsExplanation};
@@ -17,7 +17,7 @@ use recovery::Unbanked;
 use std::alloc::{AllocError, Global};
 use toml::{Table, Value};
 
-// What has to stand at a key.
+// Returns what the value at a key must be.
 fn wanted(key: Key) -> &'static str {
     match key {
         Key::BankLimit => "an integer from 0 on, or from 2^63 on a text \"number N\"",
@@ -36,7 +36,7 @@ fn wanted(key: Key) -> &'static str {
     }
 }
 
-// What an item of the list at a key has to be.
+// Returns what an item of the list at a key must be.
 fn wanted_item(key: Key) -> &'static str {
     match key {
         Key::Ranges => "[FIRST, COUNT], two integers from 0 on",
@@ -47,7 +47,7 @@ fn wanted_item(key: Key) -> &'static str {
     }
 }
 
-// The keys that a table may have.
+// Returns the keys that a table may have.
 fn keys_in(table: TableName) -> &'static str {
     match table {
         TableName::Whole => {
@@ -60,12 +60,12 @@ fn keys_in(table: TableName) -> &'static str {
     }
 }
 
-// The value of an index in a list, if it is there.
+// Returns the value at an index of a list, or `None`.
 fn item_at(list: &Value, i: usize) -> Option<&Value> {
     list.as_array()?.get(i)
 }
 
-// The table of that name, if there is one.
+// Returns the table with a name, or `None`.
 fn table_at<'a>(whole: &'a Table, name: TableName) -> Option<&'a Table> {
     match list_of(name) {
         None => Some(whole),
@@ -73,12 +73,13 @@ fn table_at<'a>(whole: &'a Table, name: TableName) -> Option<&'a Table> {
     }
 }
 
-// What stands at a key of a table, if something does.
+// Returns the value at a key of a table, or `None`.
 fn value_at<'a>(whole: &'a Table, name: TableName, key: &str) -> Option<&'a Value> {
     member(table_at(whole, name)?, key)
 }
 
-// The text at a key of a table, and that of an entry in a list there.
+// Returns the text at a key of a table, or an empty text. The next two do the same for the second item of an entry in
+// a list.
 fn text_at<'a>(whole: &'a Table, name: TableName, key: &str) -> &'a str {
     match value_at(whole, name, key) {
         Some(value) => value.as_str().unwrap_or(""),
@@ -94,7 +95,7 @@ fn entry_text<'a>(whole: &'a Table, name: TableName, key: &str, i: usize) -> &'a
     entry_at(whole, name, key, i).unwrap_or("")
 }
 
-// Writes what was found at a key.
+// Writes what value a key has.
 fn put_found(text: &mut String, value: &Value) -> Result<(), AllocError> {
     match value.as_integer() {
         Some(number) => write!(text, "found {number}"),
@@ -135,7 +136,7 @@ fn put_shape(text: &mut String, whole: &Table, place: ShapePlace<'_>) -> Result<
     }
 }
 
-// Writes why a range doesn't go on at a number.
+// Writes why a range doesn't begin at a number, or is malformed.
 fn put_range(
     text: &mut String,
     geometry: Geometry,
@@ -161,7 +162,7 @@ fn put_range(
     }
 }
 
-// Writes that a number of objects or slots is outside its limits.
+// Writes that the number of nodes, pages or slots is outside its limits.
 fn put_outside(text: &mut String, number: u64, least: u64) -> Result<(), AllocError> {
     write!(text, ": {number} is not from {least} to 4096")
 }
@@ -227,7 +228,7 @@ fn put_number(
     }
 }
 
-// Writes that a text is that of no capability, and which texts there are.
+// Writes that a text isn't that of a capability, and which texts are.
 fn put_no_capability(text: &mut String, found: &str) -> Result<(), AllocError> {
     write!(
         text,
@@ -236,7 +237,7 @@ fn put_no_capability(text: &mut String, found: &str) -> Result<(), AllocError> {
     )
 }
 
-// A list of entries with indexes: its table and key, what its entries are, and the first and last index.
+// A list of entries with indexes: its table and key, the word for its entries, and the least and greatest index.
 #[derive(Clone, Copy)]
 struct Entries {
     table: TableName,
@@ -277,7 +278,7 @@ impl Entries {
         }
     }
 
-    // Writes what is wrong with the index of an entry.
+    // Writes the flaw in the index of an entry.
     fn put_indexed(self, text: &mut String, index: u64, flaw: Indexed) -> Result<(), AllocError> {
         let Entries {
             key,
@@ -296,7 +297,7 @@ impl Entries {
         }
     }
 
-    // Writes what is wrong with an entry in a list of words.
+    // Writes the flaw in an entry of a list of words.
     fn put_word(
         self,
         text: &mut String,
@@ -307,7 +308,7 @@ impl Entries {
         self.put_indexed(text, index, flaw)
     }
 
-    // Writes what is wrong with an entry in a list of slots or registers.
+    // Writes the flaw in an entry of a list of slots or registers.
     fn put_slot(
         self,
         text: &mut String,
@@ -328,7 +329,7 @@ impl Entries {
     }
 }
 
-// Writes what is wrong with the address space of a process.
+// Writes the flaw in the address space of a process.
 fn put_space(
     text: &mut String,
     whole: &Table,
@@ -343,7 +344,7 @@ fn put_space(
     }
 }
 
-// Writes what is wrong with a field of a process.
+// Writes the flaw in a field of a process.
 fn put_process_field(
     text: &mut String,
     whole: &Table,
@@ -388,7 +389,7 @@ fn put_field(
     }
 }
 
-// Writes what a capability names that isn't there.
+// Writes which object is missing that a capability names.
 fn put_absent(text: &mut String, capability: Capability) -> Result<(), AllocError> {
     match capability {
         Capability::Page { object, .. } => write!(text, "there is no page {object}"),
@@ -406,12 +407,12 @@ fn put_absent(text: &mut String, capability: Capability) -> Result<(), AllocErro
     }
 }
 
-// What an entry of a list names, or nothing.
+// Returns the capability of an entry in a list, or `None`.
 fn named_at(slots: &[SlotEntry], i: usize) -> Option<Capability> {
     slots.get(i)?.capability
 }
 
-// What a process or a node holds, or nothing.
+// Returns the capability at a place of a process or a node, or `None`.
 fn held_at(description: &Description, held: Held) -> Option<Capability> {
     match held {
         Held::Space(k) => description.processes.get(k)?.space,
@@ -420,7 +421,7 @@ fn held_at(description: &Description, held: Held) -> Option<Capability> {
     }
 }
 
-// The text of that capability in the table.
+// Returns the text of this capability in the table.
 fn held_text(whole: &Table, held: Held) -> &str {
     match held {
         Held::Space(k) => text_at(whole, TableName::Process(k), "space"),
@@ -471,7 +472,7 @@ fn put_rule(
     }
 }
 
-// Writes what is wrong at a place.
+// Writes the flaw at a place.
 fn put_fault(text: &mut String, table: &Table, place: &Place<'_>) -> Result<(), AllocError> {
     match place {
         Place::Shape(shape) => put_shape(text, table, *shape),
@@ -479,14 +480,14 @@ fn put_fault(text: &mut String, table: &Table, place: &Place<'_>) -> Result<(), 
     }
 }
 
-// Says what is wrong at a place.
+// Returns the text of the flaw at a place.
 fn what_at(alloc: Global, table: &Table, place: &Place<'_>) -> Result<String, AllocError> {
     let mut what = String::new(alloc);
     put_fault(&mut what, table, place)?;
     Ok(what)
 }
 
-// The line of a place, of what is wrong there, and of the number of a fault.
+// Returns the line with a place, the flaw there, and the number of the fault.
 fn line(alloc: Global, at: &str, what: &str, number: u64) -> Result<String, AllocError>
     ensures { IfOk result (λ text. string_bytes text
         ≡ at.now ++ (what.now ++ (codes " (bad description " ++ (decimal number ++ codes ")")))) }
@@ -494,7 +495,7 @@ fn line(alloc: Global, at: &str, what: &str, number: u64) -> Result<String, Allo
     format!(in alloc; "{at}{what} (bad description {number})")
 }
 
-/// The words, if they stand on one line, or else none.
+/// Returns the words if they have no newline, else an empty text.
 pub fn on_one_line(words: &str) -> &str
     ensures { IsOneLine result.now }
 {
@@ -505,8 +506,8 @@ pub fn on_one_line(words: &str) -> &str
     }
 }
 
-/// The line that names a place in the table of a description, says what has to stand there, and ends with the
-/// number of the fault that `build` answers. Fails only where memory runs out.
+/// Returns the line that names a place in the table of a description, says what is wrong there, and ends with the
+/// number of the fault that `build` returns. Fails only if memory runs out.
 pub fn explanation(alloc: Global, table: &Table, place: &Place<'_>) -> Result<String, AllocError>
     ensures { IfOk result (λ text. IsExplanation place.now (string_bytes text)) }
 {

@@ -38,7 +38,7 @@ module _ (bytes from : List ℕ) (at n : ℕ) (size : length from ≡ 512 * n) (
       let length_front : length (take (512 * at) bytes) ≡ 512 * at = length-take-le (512 * at) bytes (omega (arith, inside)) in
       sym (behind (take (512 * at) bytes) _ at i length_front ∙ front from _ i (omega (arith, size, lt)))
 
--- the same, where the part is given as the code finds it
+-- the same with the lengths and places in the form that the code has
 module _ (bytes from now : List ℕ) (at a k : ℕ) (same : now ≡ from) (a_is : a ≡ 512 * at) (k_is : k ≡ length from)
     (whole : length from % 512 ≡ 0)
     (inside : 512 * (at + sectors_of from) ≤ length bytes) where
@@ -61,14 +61,14 @@ module _ (bytes from now : List ℕ) (at a k : ℕ) (same : now ≡ from) (a_is 
     after = put_after bytes from at (sectors_of from) size inside;
   })
 
--- a vector after a write through the slice of all of it
+-- a vector after a write through a slice of all of it
 pub rewritten : (n : ℕ) (new old : List ℕ) → n ≡ length old → length new ≡ length old → take n (new ++ drop (length new) old) ≡ new
 rewritten n new old n_is same =
     ap (λ (l : List ℕ). take n (new ++ l)) (drop_all (length new) old (omega (arith, same)))
     ∙ take-append-le n new [] (omega (arith, same, n_is))
     ∙ take_all n new (omega (arith, same, n_is))
 
--- what is read of a part of the list, as the code finds it
+-- the bytes that are read from a part of the list, in the form that the code has
 pub got_inside : (bytes got : List ℕ) (at a k : ℕ) → got ≡ take k (drop a bytes) → a ≡ 512 * at → k ≡ length got → length got % 512 ≡ 0 →
     512 * (at + sectors_of got) ≤ length bytes
     → (i : ℕ) → i < sectors_of got → image_of got i ≡ image_of bytes (at + i)

@@ -5,7 +5,7 @@ use Rattle.std.proofs.lemmas.Bool.{cases_lt}
 use Rattle.device.specs.Disk.{Image, IsWhole}
 use Rattle.device.specs.Calls.{Agrees, Elsewhere}
 
--- images that agree are one, so what holds of one holds of the other
+-- images that agree are equal, so a property of one holds of the other
 pub agrees_is : (new old : Image) → Agrees new old → new ≡ old
 agrees_is new old same = fun_ext same
 
@@ -13,7 +13,7 @@ agrees_is new old same = fun_ext same
 pub elsewhere_same : (at n : ℕ) (old new : Image) → Agrees new old → Elsewhere at n old new
 elsewhere_same at n old new same = record { before = λ i _. same i; after = λ i _. same i }
 
--- one change of these sectors after another
+-- two changes of the same sectors, one after the other
 pub elsewhere_on : (at n : ℕ) (old mid new : Image) → Elsewhere at n old mid → Elsewhere at n mid new → Elsewhere at n old new
 elsewhere_on at n old mid new first second = record {
   before = λ i lt. second.before i lt ∙ first.before i lt;

@@ -6,15 +6,15 @@ use Rattle.device.specs.Calls.{Narrows, Only, Counts}
 use Rattle.device.proofs.Images.{agrees_is}
 use Rattle.device.specs.Moments.{Elapses, LeavesOnly, Peeks}
 
--- what a crash now may leave counts among what one since an earlier moment might have left
+-- a crash now is one of the crashes since each earlier moment
 abbrev pub CountsNow : Disk → Type 0
 CountsNow disk = (t : ℕ) (c : Image) → t ≤ disk.moment → disk.may_leave c → disk.left_since t c
 
--- since this moment there is no other
+-- a crash since this moment may leave only what a crash now may leave
 abbrev pub OnlyNow : Disk → Type 0
 OnlyNow disk = (c : Image) → disk.left_since disk.moment c → disk.may_leave c
 
--- before the first call
+-- a run without calls
 pub started : (disk : Disk) (P : Image → Type 0) → OnlyNow disk → ((c : Image) → disk.may_leave c → P c) → LeavesOnly disk disk P
 started disk P only_now here = record {
   later = omega arith;
@@ -23,7 +23,7 @@ started disk P only_now here = record {
   keeps = λ t c le left. left;
 }
 
--- one call more, after which a crash leaves what has P
+-- a run with one more call, after which a crash leaves only images with P
 pub goes_on : {old mid new : Disk} {P : Image → Type 0} → LeavesOnly old mid P → Elapses mid new → ((c : Image) → new.may_leave c → P c) →
     LeavesOnly old new P
 goes_on {old} {mid} {new} {P} so_far time here = record {
@@ -44,7 +44,7 @@ leaves_weaker Q weaker run = record {
   keeps = run.keeps;
 }
 
--- one run after another
+-- two runs, one after the other
 pub leaves_on : {old mid new : Disk} {P : Image → Type 0} → LeavesOnly old mid P → LeavesOnly mid new P → LeavesOnly old new P
 leaves_on {old} {mid} {new} {P} first second = record {
   later = omega (arith, first.later, second.later);
@@ -53,7 +53,7 @@ leaves_on {old} {mid} {new} {P} first second = record {
   keeps = λ t c le left. second.keeps t c (omega (arith, le, first.later)) (first.keeps t c le left);
 }
 
--- what a crash may leave where a run ends has P
+-- after a run a crash leaves only images with P
 pub ends : {old new : Disk} {P : Image → Type 0} → LeavesOnly old new P → CountsNow new → (c : Image) → new.may_leave c → P c
 ends {old} {new} run counts_now c left = run.each c (counts_now old.moment c run.later left)
 
@@ -63,14 +63,14 @@ pub narrowed : {old mid new : Disk} {P : Image → Type 0} → LeavesOnly old mi
 narrowed {old} {mid} {new} {P} so_far counts_now time narrows = goes_on {old = old} {mid = mid} {new = new} {P = P} so_far time
     (λ c left. ends so_far counts_now c (narrows c left))
 
--- a power cut more: what it left could have been left before
+-- a run with a power cut at the end: it leaves an image that a crash could have left before
 pub goes_on_cut : {old mid new : Disk} {P : Image → Type 0} → LeavesOnly old mid P → CountsNow mid → Elapses mid new →
     mid.may_leave new.seen → Only new.seen new → LeavesOnly old new P
 goes_on_cut {old} {mid} {new} {P} so_far counts_now time left only =
     goes_on {old = old} {mid = mid} {new = new} {P = P} so_far time
     (λ c now. subst P (sym (agrees_is c new.seen (only c now))) (ends so_far counts_now new.seen left))
 
--- before the first of a run of reads and syncs
+-- a run of reads and syncs without calls
 pub peeks_started : (disk : Disk) → OnlyNow disk → Peeks disk disk
 peeks_started disk only_now = started disk disk.may_leave only_now (λ c left. left)
 
@@ -80,7 +80,7 @@ counted_ok {old = old} {new = new} counts =
     ⊎_elim (λ rose. let never : false ≡ true = counts.cause.1 rose in cc) (λ le. omega (arith, le, counts.never_falls))
     (cases_lt old.failures new.failures)
 
--- the failures of a run whose calls before the last one succeeded
+-- the failures of a run of which only the last call may have failed
 pub counts_on : {T E : Type 0} {old mid new : Disk} {result : Result T E} → mid.failures ≡ old.failures → Counts mid new result →
     Counts old new result
 counts_on {old = old} {mid = mid} {new = new} same counts = record {

@@ -21,7 +21,7 @@ copy_fresh sectors copy first events few size fits first_is events_is =
       durable_whole = image_whole sectors copy size fits;
     }))
 
--- a crash leaves what it held
+-- with no event, a crash leaves the first content
 pub fresh_only : (sectors : ℕ) (first : List ℕ) (events : List Event) (failures : ℕ) → events ≡ [] →
     Only (now_of first events).present (disk_of sectors (image_of first) events failures)
 fresh_only sectors first events failures is = grind (arith, nat_tests)
@@ -73,7 +73,7 @@ module _ (sectors : ℕ) (copy first : List ℕ) (events : List Event) (sound : 
         (disk_of sectors (image_of again) more risen)
     write_elapses failures risen = rw again_is (Disks.write_time sectors (image_of first) events more at from is failures risen)
 
-  -- after a sync that went well
+  -- after a sync that succeeded
   module _ (is : more ≡ events ++ synced ∷ []) where
     now_synced : now_of first more ≡ after old synced
     now_synced = ap (λ (es : List Event). now_of first es) is ∙ replay-one (at_first (image_of first)) events synced

@@ -10,11 +10,11 @@ use Rattle.std.proofs.Common.{◌≡◌, ◌+◌, ◌-◌, ◌*◌, ◌≤◌, �
 pub adds_more : {X : Type 0} (a b c : Option (List X)) (xs ys : List X) → Adds a b xs → Adds b c ys → Adds a c (xs ++ ys)
 adds_more {X} a b c xs ys p q = grind (arith, nat_tests, append_assoc)
 
--- no more calls
+-- adding no calls
 pub adds_none : {X : Type 0} (a : Option (List X)) → Adds a a []
 adds_none {X} a = grind (arith, nat_tests, append-nil)
 
--- one more piece
+-- adding one piece
 taken_one : (byte : ℕ) (ps : List (List ℕ)) (y : List ℕ) → taken byte (ps ++ y ∷ [])
     ≡ taken byte ps ++ took (byte + length (concat ps)) y ∷ []
 taken_one byte [] y = ap (λ (n : ℕ). took n y ∷ []) (omega arith)
@@ -49,7 +49,7 @@ takes_on byte a b c bytes i n within t adds =
 pub takes_front : (byte : ℕ) (a b : Option (List Call)) (bytes : List ℕ) (i : ℕ) → Takes byte a b (take i bytes) → TakesFront byte a b bytes
 takes_front byte a b bytes i t = (t.0, drop i bytes, ap (λ (l : List ℕ). l ++ drop i bytes) t.1 ∙ take-append-drop i bytes, t.2)
 
--- more pieces
+-- adding pieces
 taken_append : (byte : ℕ) (ps qs : List (List ℕ)) → taken byte (ps ++ qs) ≡ taken byte ps ++ taken (byte + length (concat ps)) qs
 taken_append byte [] qs = ap (λ (n : ℕ). taken n qs) (omega arith)
 taken_append byte (p ∷ ps) qs =
@@ -83,7 +83,7 @@ takes_nothing byte a bytes = ([], bytes, refl, adds_none a)
 pub takes_still : (byte : ℕ) (a b : Option (List Call)) (bytes : List ℕ) → b ≡ a → TakesFront byte a b bytes
 takes_still byte a b bytes same = subst (λ (o : Option (List Call)). TakesFront byte a o bytes) (sym same) (takes_nothing byte a bytes)
 
--- one more deed
+-- adding one deed
 tells_known : (events : List Event) (failures : ℕ) (old new : Option (List Call)) (d : Deed) → Tells events failures old →
     Adds old new (calls_of d) → Tells (events ++ events_by d) (failures + failures_by d) new
 tells_known events failures None None d tells adds = tt

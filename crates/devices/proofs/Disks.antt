@@ -54,7 +54,7 @@ module _ (sectors : ℕ) (first : Image) (past : List Event) where
         subst (λ (l : List Event). Elapses (disk_of sectors first past failures) (disk_of sectors first l risen)) (sym is)
         (elapses_writes at (sectors_of bytes) bytes failures risen)
 
-    -- the image that could have been left before the write, where this one may be left after it
+    -- for each image that may be left after the write, one that could have been left before it
     untorn : Image → Image
     untorn c i = if nat_lt i at then c i else (if nat_lt i (at + sectors_of bytes) then state.durable i else c i)
 
@@ -80,7 +80,7 @@ module _ (sectors : ℕ) (first : Image) (past : List Event) where
     untorn_outside : (c : Image) (i : ℕ) → IsOutside i → untorn c i ≡ c i
     untorn_outside c i out = ⊎_elim (untorn_before c i) (untorn_after c i) out
 
-    -- a sector outside is unsynced after the write if it was before
+    -- a sector that the write doesn't touch is unsynced afterwards exactly if it was before
     outside_unsynced : (i : ℕ) → IsOutside i → state.unsynced i ≡ false → (replay (at_first first) more).unsynced i ≡ false
     outside_unsynced i out none = grind (arith, nat_tests, names-entries_of, state_written, written-unsynced)
 
@@ -142,12 +142,12 @@ module _ (sectors : ℕ) (first : Image) (past : List Event) where
         → (risen : ℕ) → Only (replay (at_first first) more).present (disk_of sectors first more risen)
     cut_durable same risen c left i = grind (arith, nat_tests, quiet-unsynced, cut_quiet)
 
--- what a power cut leaves of what is not unsynced
+-- a power cut doesn't change sectors that aren't unsynced
 left_untouched : (outcome : Outcome) (s : State) → ((i : ℕ) → s.unsynced i ≡ false → s.present i ≡ s.durable i) → (i : ℕ) →
     s.unsynced i ≡ false → left_by outcome s i ≡ s.durable i
 left_untouched outcome s same i none = grind (arith, nat_tests)
 
--- what a read gives after a power cut is one of the things that might have been left
+-- a read after a power cut returns an image that a crash could have left
 pub cut_may_leave : (sectors : ℕ) (outcome : Outcome) (s : State) (seen : Image) → IsWhole sectors seen →
     ((i : ℕ) → s.unsynced i ≡ false → s.present i ≡ s.durable i)
     → Agrees seen (left_by outcome s) → MayLeave sectors s seen

@@ -54,7 +54,7 @@ pub past_synced : (entries more : List RecordEntry) → more ≡ entries ++ reco
     events_of more ≡ events_of entries ++ synced ∷ []
 past_synced entries more is = ap events_of is ∙ events_of-append entries (record { action = Synced; cut = None } ∷ [])
 
--- the entry of one sector more
+-- the record entries with one more sector
 pub entries_more : (old now new : List RecordEntry) (at i : ℕ) (from bytes : List ℕ) → now ≡ old ++ entries_of at i from →
     new ≡ now ++ record { action = Wrote (at + i) bytes; cut = None } ∷ [] → bytes ≡ image_of from i
     → new ≡ old ++ entries_of at (i + 1) from
@@ -80,7 +80,7 @@ quiet_behind xs ys y (inr last) = inr (
       ∙ sym (append_assoc xs last.0 (cut last.1 ∷ [])),
 )
 
--- a mark is one event more, unless nothing has happened since the last cut
+-- setting a mark adds one event, unless nothing happened since the last cut
 pub events_of-marked : (outcome : Outcome) (es : List RecordEntry) → EndsCut outcome (events_of es) (events_of (marked outcome es))
 events_of-marked outcome [] = inr (refl, inl refl)
 events_of-marked outcome (x ∷ []) = quiet_one outcome (event_of x.action) x.cut

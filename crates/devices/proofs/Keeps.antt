@@ -110,7 +110,7 @@ module _ (sectors : ℕ) (first present durable : List ℕ) (entries : List Reco
       (copied_size : length copied ≡ length durable)
       (kept_fits : All (λ b. b < 256) kept) (copied_fits : All (λ b. b < 256) copied) (same : Agrees (image_of copied) (image_of kept))
       (left : Agrees (image_of kept) (left_by outcome (now_of first entries))) (is : more ≡ marked outcome entries) where
-    -- where nothing is unsynced a power cut changes nothing
+    -- if no sector is unsynced, a power cut changes nothing
     quiet_left : ((i : ℕ) → (now_of first entries).unsynced i ≡ false) → (i : ℕ) → image_of kept i ≡ (now_of first entries).present i
     quiet_left quiet i = grind (arith, nat_tests)
 
@@ -148,11 +148,11 @@ module _ (sectors : ℕ) (first present durable : List ℕ) (entries : List Reco
       inside = λ i hit. let never : false ≡ true = sym (nothing_left_cut i) ∙ hit in cc;
     }
 
-    -- what a read gives then
+    -- a read after the power cut returns what it left
     pub cut_left : Agrees (now_of first more).present (left_by outcome (now_of first entries))
     cut_left i = sym (now_cut i).present_is ∙ left i
 
-  -- what a power cut leaves of the bytes
+  -- the bytes that a power cut leaves
   pub left_sound : (outcome : Outcome) → Agrees (left_by outcome (state_with present durable (drop settled entries)))
       (left_by outcome (now_of first entries))
   left_sound outcome = grind (arith, nat_tests)

@@ -58,7 +58,7 @@ module _ (byte : ℕ) (a b : Calls) (old part : List ℕ) (done k : ℕ) (within
     pub fits_within : (n : ℕ) → n ≤ length part → done + n ≤ length (put_mid done k old part)
     fits_within n fits = grind (arith, nat_tests, size, length-append)
 
-    -- a call got n bytes after the first ones of a buffer
+    -- a call read n more bytes into a buffer, after those already read
     pub gets_on : (c : Calls) (n : ℕ) → n ≤ length part → Adds b c (got (byte + done) (take n part) ∷ [])
         → GetsFrom byte a c (take (done + n) (put_mid done k old part))
     gets_on c n fits adds =
@@ -70,14 +70,14 @@ module _ (byte : ℕ) (a b : Calls) (old part : List ℕ) (done k : ℕ) (within
         (gets_join byte (byte + done) a b c (take done old) (take n part) (ap (λ (m : ℕ). byte + m) (sym size)) gets
         (take n part ∷ [], append-nil (take n part), adds))
 
-    -- an interrupted call leaves them
+    -- an interrupted call leaves the number of bytes within the buffer
     pub still_within : done ≤ length (put_mid done k old part)
     still_within = omega (arith, fits_within 0 (omega arith))
 
     pub gets_still : GetsFrom byte a b (take done (put_mid done k old part))
     gets_still = subst (GetsFrom byte a b) (sym (take-put_mid_below done k old part done (omega arith) within)) gets
 
--- sectors were got after the first ones of a copy, up to a byte or all that it has
+-- sectors were read into a copy after those already read, up to a byte or up to all of them
 pub sectors_on : (a b c : Calls) (old new part : List ℕ) (at byte next : ℕ) → byte ≡ 512 * at → length new ≡ length old →
     length part % 512 ≡ 0 → 512 * at ≤ length old → byte + length part ≡ min next (length old)
     → AreSectors (image_of new) at part → Elsewhere at (sectors_of part) (image_of old) (image_of new)
@@ -88,7 +88,7 @@ sectors_on a b c old new part at byte next byte_is same whole inside end written
     let reaches : take (byte + length part) new ≡ take next new = grind (arith, nat_tests, take_all) in
     subst (Gets a c) (all ∙ reaches) (gets_join 0 byte a b c (take byte old) part (omega (arith, size)) gets more)
 
--- a file that is emptied, lengthened and synced, and then its folder
+-- a file that is emptied, lengthened and synced, before its folder is synced
 pub filled : {T E : Type 0} (r : Result T E) (path : List ℕ) (n : ℕ) (a b c d e : Calls) → Adds a b (resized 0 ∷ []) →
     Adds b c (resized n ∷ []) → Adds c d (synced ∷ []) → OnOk r (Adds d e (listed path ∷ [])) →
     OnOk r (Adds a e (resized 0 ∷ resized n ∷ synced ∷ listed path ∷ []))
@@ -97,7 +97,7 @@ filled (Ok x) path n a b c d e emptied extended kept seen =
     adds_more a b e (resized 0 ∷ []) (resized n ∷ synced ∷ listed path ∷ []) emptied
     (adds_more b c e (resized n ∷ []) (synced ∷ listed path ∷ []) extended (adds_more c d e (synced ∷ []) (listed path ∷ []) kept seen))
 
--- the same, of a file that is locked before
+-- the same for a file that is locked first
 pub fills : (path : List ℕ) (n : ℕ) (a b c : Calls) → TakesLock Exclusive a b → Adds b c (resized 0 ∷ resized n ∷ synced ∷ listed path ∷ [])
     → MakesZeros path n a c
 fills path n a b c took more = (
@@ -141,7 +141,7 @@ zero_calls path n = resized 0 ∷ resized n ∷ synced ∷ listed path ∷ []
 nonempty : (x : OpeningCall) (xs : List OpeningCall) → x ∷ xs ≢ []
 nonempty x xs is = grind (arith, nat_tests)
 
--- a call that failed, and calls before it
+-- a failed call, with the calls before it
 pub stops_at : (x : OpeningCall) (xs : List OpeningCall) (a b : Calls) → b ≡ a → StopsWithin (x ∷ xs) a b
 stops_at x xs a b same = ([], x ∷ xs, refl, nonempty x xs, subst (λ (c : Calls). Adds a c []) (sym same) (adds_none a))
 

@@ -10,21 +10,21 @@ replay-append s [] ys = refl
 replay-append s (x ∷ xs) ys = replay-append (after s x) xs ys
 
 module _ (sectors : ℕ) (first : Image) where
-  -- the state after k of these events
+  -- the state after the first k events
   abbrev state_at : List Event → ℕ → State
   state_at past k = replay (at_first first) (take k past)
 
-  -- where nothing happens
+  -- a disk with the same events
   pub elapses_still : (past : List Event) (failures risen : ℕ) → Elapses (disk_of sectors first past failures)
       (disk_of sectors first past risen)
   elapses_still past failures risen = record { later = omega arith; nothing_else = λ t c le left. inl left; keeps = λ t c le left. left }
 
-  -- one event more
+  -- a disk with one more event
   pub elapses_one : (past : List Event) (e : Event) (failures risen : ℕ) →
       Elapses (disk_of sectors first past failures) (disk_of sectors first (past ++ e ∷ []) risen)
   elapses_one past e failures risen = grind (arith, nat_tests, length-append, take_all, take-append-le)
 
--- the state after one event more
+-- the state after one more event
 pub replay-one : (s : State) (xs : List Event) (e : Event) → replay s (xs ++ e ∷ []) ≡ after (replay s xs) e
 replay-one s xs e = replay-append s xs (e ∷ [])
 
@@ -69,6 +69,6 @@ written-present_inside s at (suc n) bytes j lt =
     ∙ ap (λ (k : ℕ). image_of bytes k) (sym here))
     (cases_lt j n)
 
--- where all is quiet nothing is unsynced
+-- in a quiet history nothing is unsynced
 pub quiet-unsynced : (first : Image) (past : List Event) → IsQuiet past → (i : ℕ) → (replay (at_first first) past).unsynced i ≡ false
 quiet-unsynced first past is i = grind (arith, nat_tests, replay-one)

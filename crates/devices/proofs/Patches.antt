@@ -20,7 +20,7 @@ names-append [] ys i = refl
 names-append (x ∷ xs) ys i = ap (λ (b : Bool). writes x.action i || b) (names-append xs ys i)
     ∙ sym (or_assoc (writes x.action i) (names xs i) (names ys i))
 
--- the sectors of one entry more
+-- the sectors that one more entry names
 pub names_more : (es : List RecordEntry) (j : ℕ) (d : RecordEntry) → j < length es → (i : ℕ) →
     names (take (j + 1) es) i ≡ (names (take j es) i || writes (get_or es j d).action i)
 names_more es j d lt i =
@@ -28,7 +28,7 @@ names_more es j d lt i =
     ∙ names-append (take j es) (get_or es j d ∷ []) i
     ∙ ap (λ (b : Bool). names (take j es) i || b) (or-false (writes (get_or es j d).action i))
 
--- the sector of an entry is one of those of all
+-- the sector of each entry is among those that all entries name
 pub names_at : (es : List RecordEntry) (j : ℕ) (d : RecordEntry) → j < length es → (i : ℕ) → writes (get_or es j d).action i ≡ true →
     names es i ≡ true
 names_at [] j d lt i hit = absurd (omega arith)
@@ -37,11 +37,11 @@ names_at (e ∷ es) (suc j) d lt i hit =
     let there : names es i ≡ true = names_at es j d (omega arith) i hit in
     elim (writes e.action i) as (λ b. (b || names es i) ≡ true) [ true ↦ refl | false ↦ there ]
 
--- an action that wrote a sector wrote that one
+-- an action that wrote a sector names it
 pub wrote_here : (action : Action) (sector : ℕ) (bytes : List ℕ) → action ≡ Wrote sector bytes → writes action sector ≡ true
 wrote_here action sector bytes is = ap (λ (a : Action). writes a sector) is ∙ eq-eqb sector sector refl
 
--- one sector alone
+-- patching one sector
 pub patches_one : (action : Action) (sector : ℕ) (bytes part : List ℕ) (from old new : Image) → action ≡ Wrote sector bytes →
     length part ≡ 512 → image_of part 0 ≡ from sector
     → AreSectors new sector part → Elsewhere sector (sectors_of part) old new → Patches (writes action) from old new
@@ -61,7 +61,7 @@ patches_one action sector bytes part from old new is size same put elsewhere =
           (cases_order i sector);
     }
 
--- a part of a list of sectors is one of them
+-- the bytes of a sector in a list of sectors
 pub part_is : (bytes : List ℕ) (sector a k : ℕ) → a ≡ 512 * sector → k ≡ 512 → image_of (take k (drop a bytes)) 0 ≡ image_of bytes sector
 part_is bytes sector a k a_is k_is =
     rw (a_is, k_is, take-take 512 512 (drop (512 * sector) bytes) (omega arith)) refl
@@ -70,16 +70,16 @@ pub part_size : (bytes : List ℕ) (sector a k : ℕ) → a ≡ 512 * sector →
     length (take k (drop a bytes)) ≡ 512
 part_size bytes sector a k a_is k_is inside = grind (arith, nat_tests, length-take-le, length-drop)
 
--- a sector of one byte
+-- a sector filled with one byte
 pub filled_is : (byte : ℕ) → image_of (replicate 512 byte) 0 ≡ replicate 512 byte
 filled_is byte = take-replicate 512 512 byte (omega arith)
 
--- after the same sectors are patched in both of two images that agree elsewhere, they agree
+-- two images that agree outside some sectors agree everywhere once these are patched in both
 pub patches_both : (test : ℕ → Bool) (from first second new other : Image) → Patches test from first new → Patches test from second other →
     ((i : ℕ) → test i ≡ false → first i ≡ second i) → Agrees other new
 patches_both test from first second new other patched also same i = grind (arith, nat_tests)
 
--- after the unsynced sectors are filled
+-- filling the unsynced sectors
 pub filled_left : (byte : ℕ) (outcome : Outcome) (s : State) (new : Image) → outcome ≡ Fill byte →
     Patches s.unsynced (λ _. replicate 512 byte) s.present new → ((i : ℕ) → s.unsynced i ≡ false → s.present i ≡ s.durable i) →
     Agrees new (left_by outcome s)

@@ -37,7 +37,7 @@ image_is (x ∷ xs) whole (suc i) within =
     ∙ ap (λ (l : List ℕ). take 512 l) (drop-append-add (bytes_of x) (bytes_in xs) (512 * i))
     ∙ image_is xs (rest_whole x xs whole) i (omega (arith, within))
 
--- past all sectors there are no bytes
+-- there are no bytes past all sectors
 image_past : (xs : Stored) → AreWhole xs → (i : ℕ) → length xs ≤ i → image_of (bytes_in xs) i ≡ []
 image_past xs whole i past = grind (arith, nat_tests, drop_all, length_bytes)
 
@@ -68,7 +68,7 @@ module _ (xs : Stored) (whole : AreWhole xs) (v : List ℕ) (view : bytes_in xs 
 pub is_sector : (bytes : List ℕ) → length bytes ≡ 512 → ((i : ℕ) → Fits w8 (get_or bytes i 0)) → IsSector bytes
 is_sector bytes size small = record { size = size; fits = λ k d within. omega (arith, get_or_default bytes k d 0 within, small k) }
 
--- what a sector in the place of another does
+-- the effect of replacing a sector
 pub record IsPut (v : List ℕ) (at : ℕ) (sector : List ℕ) (ys : Stored) : Type 0 where
   pub whole : AreWhole ys
   pub here : image_of (bytes_in ys) at ≡ sector
@@ -132,17 +132,17 @@ pub all_put : (bytes zeros new : List ℕ) → length bytes % 512 ≡ 0 → zero
     length new ≡ length zeros → AreSectors (image_of new) 0 bytes → new ≡ bytes
 all_put bytes zeros new whole is same written = grind (arith, nat_tests, length-replicate, same_sectors)
 
--- a part of a list of sectors is one of them
+-- the bytes of a sector in a list of sectors
 pub part_is : (bytes : List ℕ) (i a k : ℕ) → a ≡ 512 * i → k ≡ 512 → take k (drop a bytes) ≡ image_of bytes i
 part_is bytes i a k a_is k_is = ap (λ (n : ℕ). take n (drop a bytes)) k_is ∙ ap (λ (n : ℕ). take 512 (drop n bytes)) a_is
 
--- one sector more was put
+-- one more sector was written
 pub put_more : (mid new from part : List ℕ) (at i : ℕ) → ((j : ℕ) → j < i → image_of from j ≡ image_of mid (at + j)) →
     part ≡ image_of from i → image_of new (at + i) ≡ part → Elsewhere (at + i) 1 (image_of mid) (image_of new)
     → (j : ℕ) → j < i + 1 → image_of from j ≡ image_of new (at + j)
 put_more mid new from part at i was part_is here others j below = grind (arith, nat_tests)
 
--- one sector more was got
+-- one more sector was read
 pub got_more : (v mid new sector : List ℕ) (at i : ℕ) → ((j : ℕ) → j < i → image_of mid j ≡ image_of v (at + j)) →
     sector ≡ image_of v (at + i) → length sector ≡ 512 → AreSectors (image_of new) i sector →
     Elsewhere i (sectors_of sector) (image_of mid) (image_of new)

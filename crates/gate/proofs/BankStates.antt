@@ -11,14 +11,14 @@ use Rattle.gate.proofs.Effects.{frame_before}
 use Rattle.gate.proofs.Standing.{running_process, now_sound}
 use Rattle.gate.proofs.Plans.{enough_held, invoked_held}
 
--- what is counted holds of objects of the same frame
+-- counts hold of all objects with the same frame
 pub counted_on : {g : Geometry} {os us : List Object} {s : BanksState} → SameFrame os us → AreCounted g os s → AreCounted g us s
 counted_on {g} {os} {us} {s} f h = grind (arith, nat_tests, tests_at, usage_same)
 
 process_runs : (os : List Object) (p : ℕ) → IsTrue (is_running_process os p) → is_running (root_at os p).state ≡ true
 process_runs os p runs = grind (arith, nat_tests)
 
--- what holds of sound frames holds as the order finds them
+-- facts about sound frames, in the state in which the order finds them
 module _ (old mid : Parts) (s : BanksState) (sound : AreSound old) (counted : AreCounted old.geometry (objects_in old) s) (op : Operation)
     (p : ℕ)
     (runs : IsTrue (is_running_process (objects_in old) p)) (is : objects_in mid ≡ state_before op (objects_in old) p)
@@ -79,7 +79,7 @@ no_send op is other = grind (arith, nat_tests)
 pub writers_within : (op : Operation) (p a : ℕ) (rest list : List ℕ) → list ≡ writers op p a ++ rest → writer_count op ≤ length list
 writers_within op p a rest list is = grind (arith, nat_tests)
 
--- what isn't a bank's order leaves what is counted, after a read-only call too
+-- an order that isn't a bank's keeps the counts, also after a call that only reads
 module _ (old mid new : Parts) (i : Invocation) (s : BanksState) (sound : AreSound old) (same : mid ≡ old)
     (fits : Fits (command.Invoke i)) (runs : IsTrue (is_running_process (objects_in old) i.process))
     (other : IsNoBankOrder (register_at (objects_in old) i.process i.register) (slice_index i.words 0))

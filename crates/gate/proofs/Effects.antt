@@ -55,7 +55,7 @@ sound_after g age fs gs i e young fits runs is objects sound keepable current = 
       (invocation_keeps g (world_at age fs) i e sound.sound fits runs young is);
 }
 
--- An invocation of a kernel object, by its operation.
+-- An invocation of a kernel object, by the kind of the invocation.
 abbrev reply_in : OrderOutcome → Reply
 reply_in o = record { code = o.code; words = o.words; capability = o.capability }
 
@@ -82,7 +82,7 @@ module _ {g : Geometry} {os : List Object} {i : Invocation} {caller : Caller} {p
   abbrev rest : List ℕ
   rest = drop (writer_count caller.operation) list
 
-  -- by the parts of the caller
+  -- the effect, by the parts of the caller
   effect_requested : on_kernel_object g os i ≡ effect_by caller.operation caller.process caller.annex
       (order g (state_before caller.operation os caller.process) caller.invoked word args)
   unfolding on_kernel_object
@@ -110,7 +110,7 @@ module _ {g : Geometry} {os : List Object} {i : Invocation} {caller : Caller} {p
       change_fetched g os rest P plan.change (planned.plans.may os (frame_refl os) now)
       (λ k d inside. known _ (planned.plans.known k d inside))
 
-  -- the objects after the order are sound, and what it gives fits
+  -- the objects after the order are sound, and the capability that it gives fits
   module _ (now : IsNow g os) (fits : Fits (command.Invoke i)) (runs : IsTrue (is_running_process os i.process)) where
     ordered_requested : ordered g os i ≡ order g (state_before caller.operation os caller.process) caller.invoked word args
     ordered_requested = λ k. order g (state_before (sym is.operation k) os (sym is.process k)) (sym is.invoked k) word args
@@ -134,7 +134,7 @@ module _ {g : Geometry} {os : List Object} {i : Invocation} {caller : Caller} {p
     pub order_code : IsKernelObject caller.invoked → result_code g os i ≡ Some plan.reply.code
     order_code object = grind (arith, nat_tests, object_code, ordered_requested, frame_before)
 
--- its effect
+-- the effect of an invocation through a gate
 abbrev pub effect_through : List Object → Invocation → Gate → Effect
 effect_through os i gate = record {
   objects = entered os i gate (sent_by os i);
@@ -149,14 +149,14 @@ gate_by : (g : Geometry) (os : List Object) (i : Invocation) (q key : ℕ) (b : 
 unfolding through_gate
 gate_by g os i q key b zeroth can = grind (arith, nat_tests)
 
--- it is carried out where the gate can be entered
+-- the invocation is carried out if the gate can be entered
 pub gate_invoked : (g : Geometry) (os : List Object) (i : Invocation) (caller : Caller) (gate : Gate) → IsRequested os i caller →
     caller.invoked ≡ gate_capability gate →
     (gate.is_resume ≡ true → gate.key ≡ 0) → (gate.is_resume || can_start os i gate.process) ≡ true →
     invoke g os i ≡ Some (effect_through os i gate)
 gate_invoked g os i caller gate is same zeroth can = grind (arith, nat_tests, invoke_is, gate_by)
 
--- and else stalls
+-- otherwise it stalls
 stalled_by : (g : Geometry) (os : List Object) (i : Invocation) (q key : ℕ) (b : Bool) → (b || can_start os i q) ≡ false →
     invoked_by g os i (gate_capability (made q key b)) ≡ None
 stalled_by g os i q key b can = grind (arith, nat_tests)
@@ -165,7 +165,7 @@ pub gate_stalled : (g : Geometry) (os : List Object) (i : Invocation) (caller : 
     caller.invoked ≡ gate_capability gate → (gate.is_resume || can_start os i gate.process) ≡ false → invoke g os i ≡ None
 gate_stalled g os i caller gate is same can = grind (arith, nat_tests, invoke_is, stalled_by)
 
--- it has no result code
+-- such an invocation has no result code
 no_code : (g : Geometry) (os : List Object) (i : Invocation) (q key : ℕ) (b : Bool) → code_by g os i (gate_capability (made q key b)) ≡ None
 no_code g os i q key b = grind (arith, nat_tests)
 
@@ -181,7 +181,7 @@ pub gate_process : (p : Parts) (sound : AreSound p) {i : Invocation} {caller : C
     caller.invoked ≡ gate_capability gate → IsTrue (is_process (objects_in p) gate.process)
 gate_process p sound {i} {caller} gate requested same = grind (arith, nat_tests, gate_names, register_kind)
 
--- what is received fits
+-- the capabilities that are received fit
 pub received_fits : (g : Geometry) (os : List Object) (i : Invocation) (sent : List Capability) → IsNow g os → object_count g < 2 ^ 64 →
     IsTrue (is_process os i.process) → sent ≡ sent_by os i →
     All (FitsCap g) (received i sent)
@@ -198,7 +198,7 @@ received_fits g os i sent now few is same = go i.operation
 pub on_ok : {T E : Type 0} (r : Result T E) {P Q : Type 0} → (P → Q) → OnOk r P → OnOk r Q
 on_ok {T} {E} r {P} {Q} f p = grind (arith, nat_tests)
 
--- what stands at an index is contained
+-- a list contains the item at each index
 pub contained : (xs : List ℕ) (i x : ℕ) → i < length xs → slice_index xs i ≡ x → Contains xs x
 contained [] i x inside is = absurd (omega arith)
 contained (y ∷ ys) zero x inside is = (0, omega arith, is)
@@ -206,7 +206,7 @@ contained (y ∷ ys) (suc i) x inside is =
     let rest = contained ys i x (omega arith) is in
     (suc rest.0, omega (arith, rest.1), rest.2)
 
--- what is written through a gate
+-- the numbers that are written through a gate
 asking_in : (operation : Operation) (p q a : ℕ) → (operation ≡ Send → ⊥) → Contains (written_through operation p q a) p
 asking_in operation p q a other = grind (arith, nat_tests)
 
@@ -222,7 +222,7 @@ all_through P operation p q a of_p of_q of_a = grind (arith, nat_tests)
 pub all_four : {X : Type 0} (P : X → Type 0) (a b c d : X) → P a → P b → P c → P d → All P (a ∷ b ∷ c ∷ d ∷ [])
 all_four {X} P a b c d x y z w is e inside = grind (arith, nat_tests)
 
--- a refusal to prepare is one of the gate, and none of the process
+-- a refusal to prepare comes from the gate, not from the process
 of_gate : (why : Refusal) → IsUnprepared why → IsOfGate why
 of_gate why of = grind (arith, nat_tests)
 
@@ -273,7 +273,7 @@ module _ {S : Type 0} {parts : S → Parts} {Continues : S → S → Type 0} (i 
       continues = twice s t u only_reads.snapshots.continues is.continues;
     }
 
-    -- an invocation that is known, and the numbers that it writes
+    -- an invocation whose effect is known, and the numbers that it writes
     module _ (ns : List ℕ) (e : Effect) (invoked : invoke (parts s).geometry (objects_in (parts s)) i ≡ Some e) (written : ns ≡ e.written)
       where
         -- numbers that couldn't be announced
@@ -281,7 +281,7 @@ module _ {S : Type 0} {parts : S → Parts} {Continues : S → S → Type 0} (i 
             Invoked parts Continues s u i (Err f)
         unannounced {U} f replying = grind (arith, nat_tests, of_gate, of_process, same)
 
-        -- and numbers that were, and then written
+        -- these numbers were prepared, and then written
         module _ {U : Type 0} (m : S) (y : U) (replying : Prepares {T = U} parts Continues t m ns (Ok y))
             (failures : (parts u).failures ≡ (parts m).failures)
           where

@@ -19,7 +19,7 @@ use Rattle.model.specs.declared.order.ResultCode.TheVariants as code
 use Rattle.model.specs.declared.command.Command.TheVariants as command
 use Rattle.gate.proofs.Standing.{held_fits, named_used}
 
--- a field of all contents that one edit leaves
+-- a field of contents that an edit of one object keeps
 module _ {X : Type 0} (field : Content Capability → X) where
   abbrev field_of : Object → X
   field_of o = field o.content
@@ -86,7 +86,7 @@ changed_annex os list (change.Space process held) within q = field_kept annex_in
     (content.Root (with_space (root_at os process) held)) refl q
 changed_annex os list (change.Bank made) within q = absurd within
 
--- an edit that a list doesn't have is the same with another list, and leaves the frame
+-- an edit of one object doesn't depend on the list, and keeps the frame
 pub changed_any : (os : List Object) (list : List ℕ) (c : Change) → IsWithinObject c → changed os [] c ≡ changed os list c
 changed_any os list c within = grind (arith, nat_tests)
 
@@ -164,7 +164,7 @@ module _ (os : List Object) (c : Capability) (args : Arguments) (kind : NamesIts
   for_holds : (g : Geometry) → FitsCap g args.capability → args.second < 2 ^ 64 → (x : Change) → IsFor os c args x → MayHold g os x
   for_holds g fits small x for = grind (arith, nat_tests, node_there)
 
-  -- what it writes is one of the objects
+  -- the object that an edit writes exists
   for_target : ((p : ℕ) → IsTrue (is_process os p) → IsTrue (is_annex (content_at os (annex_at os p)))) → (x : Change) → IsFor os c args x →
       (n : ℕ) → target_of x ≡ Some n → n < length os
   for_target annexes change.Nothing for n is = cc
@@ -188,7 +188,7 @@ module _ (os : List Object) (c : Capability) (args : Arguments) (kind : NamesIts
       (root_used (content_at os n) (subst (λ (m : ℕ). is_process os m ≡ true) e (process_there os c kind process for.0)))
   for_target annexes (change.Bank made) for n is = absurd for
 
--- an edit that may be made may be made also where the frame is the same
+-- an edit that may be made may also be made among objects with the same frame
 module _ (g : Geometry) (os us : List Object) (frame : SameFrame os us) where
   process_alike : (x : Change) → IsOfProcess os x → IsOfProcess us x
   process_alike x of = grind (arith, nat_tests, tests_at)
@@ -214,7 +214,7 @@ module _ (g : Geometry) (os : List Object) (list : List ℕ) where
   pub bank_change : (x : Change) → IsForBank g os list x → MayChange g os list x
   bank_change x may = grind (arith, nat_tests)
 
-  -- what holds of all that is written holds of what is to be fetched
+  -- a property of all numbers that are written holds of those that are fetched
   made_fetched : (P : ℕ → Type 0) (made : BankChange) → MayMake g os list made → All P list → All P (numbers_of made)
   made_fetched P made may all = grind (arith, nat_tests)
 
@@ -230,11 +230,11 @@ target_all P o all n is = grind (arith, nat_tests)
 all_target : (P : ℕ → Type 0) (o : Option ℕ) → ((n : ℕ) → o ≡ Some n → P n) → All P (option_to_list o)
 all_target P o each k d inside = grind (arith, nat_tests)
 
--- after the numbers that the invocation writes itself
+-- the list after the numbers that the invocation writes itself
 pub behind_writers : (op : Operation) (p annex : ℕ) (ns : List ℕ) → drop (writer_count op) (writers op p annex ++ ns) ≡ ns
 behind_writers op p annex ns = grind (arith, nat_tests)
 
--- a plan by some arguments is one by others with which the order does the same
+-- a plan with some arguments is a plan with others for which the order does the same
 plans_with : (g : Geometry) (os : List Object) (c : Capability) (w : ℕ) (args others : Arguments) (list : List ℕ) (plan : OrderPlan) →
     ((us : List Object) → order g us c w args ≡ order g us c w others) → Plans g os c w args list plan → Plans g os c w others list plan
 plans_with g os c w args others list plan same plans = grind (arith, nat_tests)
@@ -245,7 +245,7 @@ pub planned_by : (g : Geometry) (os : List Object) (i : Invocation) (caller : Ca
     Plans g os caller.invoked (slice_index i.words 0) args rest plan → IsPlanned g os i caller plan list
 planned_by g os i caller plan args first list rest enough first_is is plans = grind (arith, nat_tests, behind_writers, plans_with)
 
--- what is invoked, and what is sent, may be held
+-- the invoked capability, and those that are sent, may be held
 module _ (g : Geometry) (os : List Object) (i : Invocation) (now : IsNow g os) where
   pub invoked_held : (c : Capability) → c ≡ register_at os i.process i.register → IsHeld os (Waits os) c
   invoked_held c is = subst (IsHeld os (Waits os)) (sym is) ((now.filled (annex_at os i.process)).slots i.register)
@@ -289,7 +289,7 @@ object_planned g os us i caller plan args first list same now few fits is enough
           (for_target os c args kind (λ p process. (now.frame.annexes p process).0) plan.change for_os);
     })
 
--- and one of a bank
+-- an order of a bank
 bank_ordered : (g : Geometry) (os : List Object) (b w : ℕ) (requested : BankOrder) (args : Arguments) → bank_order w ≡ Some requested →
     order g os (Bank b) w args ≡ on_bank g os b requested args
 unfolding order

@@ -16,7 +16,7 @@ counted slot old new n others broken it =
     cc in
     (other, counts_before slot old new n others other it)
 
--- the gates are the same
+-- the gates of all slots are unchanged
 same_gates : (slot : ℕ) (old new : Slots) (k : ℕ) → OthersStay slot old new → (new slot).gate ≡ (old slot).gate →
     (new k).gate ≡ (old k).gate
 same_gates slot old new k others gate =
@@ -25,7 +25,7 @@ same_gates slot old new k others gate =
       | inr ne ↦ ap (λ (it : Slot). it.gate) (others k ne)
     ]
 
--- without its header, s - 1 can't be committed: the gate of s waits
+-- if header s is broken, s - 1 isn't committed either: the gate of s shows that s was published
 not_before : (slot : ℕ) (old new : Slots) (s t : ℕ) → IsCommitted old s → OthersStay slot old new → (new slot).gate ≡ (old slot).gate →
     IsCommitted new t → t + 1 ≡ s → ⊥
 not_before slot old new s t was others gate is e =

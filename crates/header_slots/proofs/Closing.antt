@@ -67,7 +67,8 @@ module _ (a x : Slots) (s : ℕ) (was : IsCommitted a s) (headers : HeadersStay 
   third_closed : (x ((s + 1) % 3)).gate ≡ None → (t : ℕ) → IsCommitted x t → t ≡ s
   third_closed closed t is = only_pair (λ n it e. absurd (closed_out x ((s + 1) % 3) n closed it e)) t is
 
-  -- nor does one that is as it was and holds no older header that counts
+  -- the header in the third slot isn't committed either, if its gate is unchanged and it holds no older header that
+  -- counts
   third_stays : ((n : ℕ) → Counts a n → n % 3 ≡ (s + 1) % 3 → s < n) → (x ((s + 1) % 3)).gate ≡ (a ((s + 1) % 3)).gate → (t : ℕ) →
       IsCommitted x t → t ≡ s
   third_stays newer gate t is =
@@ -81,7 +82,7 @@ module _ (a x : Slots) (s : ℕ) (was : IsCommitted a s) (headers : HeadersStay 
             omega (arith, older, newer n counts e)),
       )) t is
 
-  -- with the two others closed there is no pair at all
+  -- once both other gates are closed, no pair counts
   two_closed : (x ((s + 2) % 3)).gate ≡ None → (x (s % 3)).gate ≡ None → (t : ℕ) → IsCommitted x t → t ≡ s
   two_closed before here t is =
       let positive : 0 < t = is.pair.positive in

@@ -5,11 +5,11 @@ use Rattle.std.proofs.lemmas.Option.{same_Some}
 use Rattle.header_slots.specs.Publish.{OthersStay}
 use Rattle.header_slots.specs.Slots.{Counts, IsCommitted, IsGreatestPair, Slot, Slots}
 
--- in a slot one header at most counts
+-- in each slot at most one header counts
 pub one_each : (slots : Slots) (m n : ℕ) → Counts slots m → Counts slots n → m % 3 ≡ n % 3 → m ≡ n
 one_each slots m n a b same = same_Some m n (sym a.header ∙ ap (λ (k : ℕ). (slots k).header) same ∙ b.header)
 
--- where a slot stays, the same header counts
+-- if a slot doesn't change, the same header counts in it
 pub counts_before : (slot : ℕ) (old new : Slots) (n : ℕ) → OthersStay slot old new → (n % 3 ≡ slot → ⊥) → Counts new n → Counts old n
 counts_before slot old new n others other counts = record {
   header = sym (ap (λ (it : Slot). it.header) (others (n % 3) other)) ∙ counts.header;
@@ -22,7 +22,7 @@ counts_after slot old new n others other counts = record {
   gate = ap (λ (it : Slot). it.gate) (others (n % 3) other) ∙ counts.gate;
 }
 
--- but in the third slot only the committed header and its neighbour count
+-- outside the third slot only the committed header and its neighbour count
 pub is_known : (slots : Slots) (s n : ℕ) → 0 < s → Counts slots s → Counts slots (s - 1) → Counts slots n → (n % 3 ≡ (s + 1) % 3 → ⊥) →
     (n ≡ s) ⊎ (n ≡ s - 1)
 is_known slots s n positive counts neighbour it other =

@@ -7,7 +7,7 @@ use Rattle.header_slots.specs.Publish.{IsOneOf, OthersStay, Runs, TearsGate, Tea
 use Rattle.header_slots.specs.Slots.{Counts, IsCommitted, IsGreatestPair, Opens, Slot, Slots}
 use Rattle.header_slots.proofs.Counting.{counts_after, is_known, is_number, one_committed}
 
--- both stay where only the third slot changes
+-- the pair stays if only the third slot changes
 both_stay : (old new : Slots) (s : ℕ) → IsGreatestPair old s → OthersStay ((s + 1) % 3) old new → Counts new s × Counts new (s - 1)
 both_stay old new s was others =
     let positive : 0 < s = was.positive in (
@@ -15,7 +15,7 @@ both_stay old new s was others =
       counts_after ((s + 1) % 3) old new (s - 1) others (λ e. omega (arith, e, positive)) was.neighbour,
     )
 
--- so do the bytes of header s
+-- the bytes of header s stay too
 same_bytes : (old new : Slots) (s : ℕ) (a : List ℕ) → Opens old s a → OthersStay ((s + 1) % 3) old new → (new (s % 3)).bytes ≡ a
 same_bytes old new s a was others = ap (λ (it : Slot). it.bytes) (others (s % 3) (λ e. omega (arith, e))) ∙ was.bytes
 
@@ -51,13 +51,13 @@ header_commits_nothing old new s a was torn = record {
   bytes = same_bytes old new s a was torn.others;
 }
 
--- what counts once the header is written
+-- which headers count once the new header is written
 module _ (old new : Slots) (s : ℕ) (b : List ℕ) (was : IsCommitted old s) (torn : TearsGate s b old new) where
-  -- in the third slot the new header alone can count
+  -- in the third slot only the new header can count
   is_new : (n : ℕ) → Counts new n → n % 3 ≡ (s + 1) % 3 → n ≡ s + 1
   is_new n it third = same_Some n (s + 1) (sym it.header ∙ ap (λ (k : ℕ). (new k).header) third ∙ torn.header)
 
-  -- it is committed if its gate has its number
+  -- the new header is committed if its gate has its number
   is_committed_new : (new ((s + 1) % 3)).gate ≡ Some (s + 1) → IsCommitted new (s + 1)
   is_committed_new gate =
       let both = both_stay old new s was.pair torn.others in
@@ -85,7 +85,7 @@ module _ (old new : Slots) (s : ℕ) (b : List ℕ) (was : IsCommitted old s) (t
             omega (arith, number);
       }
 
-  -- else the old one stays committed
+  -- otherwise the old header stays committed
   is_committed_old : ((new ((s + 1) % 3)).gate ≡ Some (s + 1) → ⊥) → IsCommitted new s
   is_committed_old no_gate =
       let both = both_stay old new s was.pair torn.others in
@@ -137,7 +137,7 @@ earlier a b x published is =
       | inr later ↦ inr (inr later)
     ]
 
--- the header that the next publish follows is the one that the run left
+-- the header that the next publish follows is the one that the run left committed
 opens_that : (slots : Slots) (t m : ℕ) (b : List ℕ) → Opens slots t b → IsCommitted slots m → Opens slots m b
 opens_that slots t m b opens is = subst (λ (n : ℕ). Opens slots n b) (one_committed slots t m opens.committed is) opens
 

@@ -27,7 +27,7 @@ others_stay a b zero other = absurd (other refl)
 others_stay a b (suc zero) other = refl
 others_stay a b (suc (suc k)) other = refl
 
--- what counts is 1, 2, or lies in slot 0
+-- a header that counts is 1 or 2, or lies in slot 0
 which : (third : Slot) (n : ℕ) → Counts (first_two third) n → (n % 3 ≡ 0) ⊎ (n ≡ 1) ⊎ (n ≡ 2)
 which third n is =
     elim (cases_eq (n % 3) 0) [
@@ -78,7 +78,7 @@ one_sync_fails law =
       | inr is ↦ not_empty 1 [] is.bytes
     ]
 
--- a header 6 where its gate has stood since an earlier crash
+-- without the rule, a header 6 would be committed whose gate is left from before an earlier crash
 pub neighbours_needed : NeighboursAreNeeded
 neighbours_needed law =
     let alone : IsGreatestAlone (first_two (with_header None (Some 6))) 2 = record {
@@ -90,7 +90,7 @@ neighbours_needed law =
     let wrong : 6 ≤ 2 = after.greatest 6 (record { header = refl; gate = refl }) in
     omega (arith, wrong)
 
--- a header 3 where its gate has stood since header 3 was damaged
+-- without the rule, a header 3 would be committed whose gate is left from before header 3 was damaged
 pub next_gate_needed : NextGateIsNeeded
 next_gate_needed law =
     let after = law (first_two (with_header None (Some 3))) (first_two (with_header (Some 3) (Some 3))) 2 (pair_of (Some 3))

@@ -6,9 +6,9 @@ ghost use Rattle.header_slots.specs.Slots.{Counts, IsCommitted};
 /// The numbers in a header slot.
 #[derive(Clone, Copy)]
 pub struct SlotNumbers {
-    /// The sequence number of the header, if that is sound.
+    /// The sequence number of the slot's header, if the header is sound.
     pub header: Option<u64>,
-    /// The number of the gate, if it has one.
+    /// The number of the slot's gate, if the gate has one.
     pub gate: Option<u64>,
 }
 
@@ -17,12 +17,12 @@ pub struct SlotNumbers {
 pub enum NotCommitted {
     /// No two headers with neighbouring numbers count.
     NoPair,
-    /// The gate of the next header has its number: that header was published, and is damaged.
+    /// The gate that follows the greatest pair has the next number: the next header was published, and is damaged.
     NextGate,
 }
 
-/// Returns the number of the header in slot `i`, if it counts: it is sound, lies in its slot, and the gate there has its
-/// number.
+/// Returns the number of the header in slot `i`, if this header counts: it is sound, lies in its slot, and the gate
+/// there has its number.
 pub fn counting_number(slots: &[SlotNumbers], i: usize) -> Option<u64>
     requires slots { length slots.now ≡ 3 }
     requires slot { i < 3 }

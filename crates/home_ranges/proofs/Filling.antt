@@ -24,7 +24,7 @@ all_blank n {xs} is =
 abbrev pub AreIn : Plan → (ℕ → List ℕ) → ℕ → ℕ → List ℕ → Type 0
 AreIn p frame first n block = (k : ℕ) → k < n → shape_bytes (shape_of p (first + k)) block ≡ frame (first + k)
 
--- and after their places it has zeros
+-- the block has zeros after the places of these frames
 abbrev pub AreEnded : Plan → ℕ → ℕ → List ℕ → Type 0
 AreEnded p first n block = (at : ℕ) → ((k : ℕ) → k < n → shape_end (shape_of p (first + k)) ≤ at) → IsBlankFrom at block
 
@@ -56,7 +56,7 @@ module _ {p : Plan} (first n : ℕ) {m : ℕ} (old new : List ℕ) (fits : IsPla
 
 module _ {p : Plan} {number first m : ℕ} (block : List ℕ) (start : IsFirstOf p number first) (have : HaveHome p first m) (n : ℕ)
     (most : m ≤ n) where
-  -- once all that have the home are in it, it has the frame of each
+  -- a block with the frames of all objects that share a home has each of these frames
   pub all_in : (frame : ℕ → List ℕ) → AreIn p frame first n block → (a : ℕ) → IsObject p.geometry a → home_place p a ≡ home_place p number →
       shape_bytes (shape_of p a) block ≡ frame a
   all_in frame so_far a is_a same =

@@ -8,12 +8,12 @@ use Rattle.home_ranges.proofs.Laying.{cons_behind, cons_laid, length_laid, none_
 
 -- ---- extents that follow one another
 
--- each begins where the one before it ends
+-- each extent begins where the one before it ends
 abbrev Follow : ℕ → List Extent → Type 0
 Follow at [] = Unit {0}
 Follow at (e ∷ es) = (e.sector ≡ at) × Follow (at + e.length) es
 
--- where the last ends
+-- where the last extent ends
 abbrev end_of : ℕ → List Extent → ℕ
 end_of at [] = at
 end_of at (e ∷ es) = end_of (at + e.length) es
@@ -58,7 +58,7 @@ laid_end : (v : Version) (g : Geometry) (at : ℕ) (rs : List NumberRange) (es :
 laid_end v g at [] es = rw (none_laid v g at, none_behind v g at) refl
 laid_end v g at (r ∷ rs) es = rw (cons_laid v g at r rs, cons_behind v g at r rs) (laid_end v g (at + sectors_of v g r) rs es)
 
--- ranges cover the same numbers wherever they lie
+-- which numbers ranges cover doesn't depend on where they lie
 cover_laid : (v : Version) (g : Geometry) (n at : ℕ) (rs : List NumberRange) → Cover g n (map (placed 0) rs) → Cover g n (laid v g at rs)
 cover_laid v g n at [] c = subst (Cover g n) (sym (none_laid v g at)) c
 cover_laid v g n at (r ∷ rs) c = subst (Cover g n) (sym (cons_laid v g at r rs))
@@ -72,11 +72,11 @@ laid_covers v g n at (r ∷ rs) c =
 
 -- ---- how many sectors the ranges take
 
--- those of all numbers from n on, by version 1
+-- the sectors of all numbers from n on in version 1
 abbrev sectors_from : Geometry → ℕ → ℕ
 sectors_from g n = 2 * (g.nodes - n) + 9 * (g.nodes + g.pages - n - (g.nodes - n))
 
--- a range of nodes takes by each version no more than 8 sectors above what it takes by version 1
+-- in each version a range of nodes takes at most 8 sectors more than in version 1
 few_more : (v : Version) (count : ℕ) → nodes_length v count ≤ 2 * count + 8
 few_more v count = search arith
 
@@ -127,7 +127,7 @@ module _ (v : Version) (g : Geometry) (rs : List NumberRange) (may : MayBeLaid g
     apart = follow_apart 5 (extents (plan_from v g rs)) follow;
   }
 
--- what is laid out as a plan may be, and what may be is
+-- a plan is valid exactly if its ranges may be laid out
 may_be : (v : Version) (g : Geometry) (rs : List NumberRange) → IsPlan (plan_from v g rs) → MayBeLaid g rs
 may_be v g rs is = search (arith, length_laid, laid_covers)
 
@@ -143,7 +143,7 @@ not_laid_out v g rs (Some s) none = tt
 
 -- ---- version 2 beside version 1
 
--- a range takes by version 2 no more than 8 sectors above what it takes by version 1
+-- in version 2 a range takes at most 8 sectors more than in version 1
 second_takes : (is_node : Bool) (count : ℕ) → (if is_node then nodes_length Two count else 9 * count)
     ≤ (if is_node then nodes_length One count else 9 * count) + 8
 second_takes is_node count = search arith

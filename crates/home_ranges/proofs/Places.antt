@@ -9,7 +9,7 @@ use Rattle.home_ranges.proofs.Names.{PlacesSpareLog, same_Some, range_at}
 use Rattle.std.proofs.Common.{◌≡◌, ◌⊎◌, ◌+◌, ◌-◌, ◌*◌, ◌/◌, ◌%◌, ◌<◌, ◌≤◌, ◌∷◌, ◌∙◌}
 use Rattle.std.specs.Prelude.{if◌then◌else◌}
 
--- a range has a number, and all of its numbers are of one kind
+-- a range has this number, and has only nodes or only pages
 pub record Has (g : Geometry) (r : HomeRange) (number : ℕ) : Type 0 where
   pub low : r.first ≤ number
   pub high : number < r.first + r.count
@@ -69,7 +69,7 @@ extent_of sector length = record { sector = sector; length = length }
 abbrev extent_in : Version → Geometry → HomeRange → ℕ → Extent
 extent_in v g r number = extent_of (place_in v g r number) (shape_length (shape_in v g r number))
 
--- its numbers are all of one kind
+-- the numbers of a range are all nodes or all pages
 pub node_in : {g : Geometry} {r : HomeRange} {a : ℕ} → Has g r a → r.first + r.count ≤ g.nodes → nat_lt a g.nodes ≡ true
 node_in {g} {r} {a} has nodes = lt_true a g.nodes (omega (arith, nodes, has.high))
 
@@ -96,12 +96,12 @@ ranges_apart {p} {i} {j} fits lt within =
 
 -- ---- the laws
 
--- the place of a number is that in its range,
+-- the home of a number begins at its place in its range,
 pub place_is : (p : Plan) {number i : ℕ} → IsFound p.geometry p.ranges number i →
     home_place p number ≡ place_in p.version p.geometry (range_at p.ranges i) number
 place_is p {number} at = ap (λ (r : Option HomeRange). place_by p.version p.geometry r number) at.found
 
--- and so are its sectors
+-- and takes the sectors of the block there
 home_is : (p : Plan) {number i : ℕ} → IsFound p.geometry p.ranges number i →
     home_extent p number ≡ extent_in p.version p.geometry (range_at p.ranges i) number
 home_is p {number} {i} at = grind (arith, nat_tests)
@@ -138,7 +138,7 @@ either_range {p} {a} {b} fits is_a is_b =
       ]
     ]
 
--- so they are apart where they are in each range that has both
+-- so two homes are apart if they are apart in each range that has both numbers
 apart_by : {p : Plan} {a b : ℕ} → IsPlan p → IsObject p.geometry a → IsObject p.geometry b
     → ((i : ℕ) → IsFound p.geometry p.ranges a i → IsFound p.geometry p.ranges b i →
     IsApart (extent_in p.version p.geometry (range_at p.ranges i) a)
@@ -197,7 +197,7 @@ found_too {g} n (suc i) {number} (r ∷ rs) c lt has =
 some_sectors : (p : Plan) (n : ℕ) → 1 ≤ place_length p n
 some_sectors p n = grind (arith, nat_tests)
 
--- two extents that begin in one sector aren't apart
+-- two extents that begin at the same sector aren't apart
 never_apart : {d e : Extent} → d.sector ≡ e.sector → 1 ≤ d.length → 1 ≤ e.length → IsApart d e → ⊥
 never_apart {d} {e} same some_d some_e apart = grind (arith, nat_tests)
 
@@ -217,12 +217,12 @@ pub shape_is : (p : Plan) {number i : ℕ} → IsFound p.geometry p.ranges numbe
 shape_is p {number} at = ap (λ (r : Option HomeRange). if nat_lt number p.geometry.nodes then node_shape p.version
     (rank_in p.version r number) else page_shape) at.found
 
--- what has one home has as many sectors
+-- numbers that share a home have homes of the same length
 pub one_length : (p : Plan) (a b : ℕ) → IsPlan p → IsObject p.geometry a → IsObject p.geometry b → home_place p a ≡ home_place p b →
     place_length p a ≡ place_length p b
 one_length p a b fits is_a is_b same = grind (arith, nat_tests, one_range, shape_is)
 
--- so the bytes of a home are the frames of all that have it
+-- so the bytes of a home contain the frames of all objects that share it
 pub home_held : {p : Plan} {number at n : ℕ} {s : Shape} {bytes : List ℕ} (image : Image) → IsPlan p → IsObject p.geometry number →
     at ≡ home_place p number → s ≡ shape_of p number → n ≡ shape_length s → sectors_from image at n ≡ bytes → HoldsHome p number bytes image
 home_held {p} {number} {at} {n} {s} {bytes} image fits is place shape size held = grind (arith, nat_tests, one_length)
@@ -257,12 +257,12 @@ place_lies {p} {number} {place} {r} fits is reported made = grind (arith, nat_te
 
 -- ---- who has a home
 
--- a frame takes its block alone
+-- a frame fills its block alone
 abbrev pub IsWhole : Shape → Type 0
 IsWhole s = s.bytes ≡ 512 * s.sectors
 
 module _ {g : Geometry} {r : HomeRange} {a b : ℕ} (has_a : Has g r a) (has_b : Has g r b) where
-  -- in a range, what has the home of a number
+  -- in a range, numbers that share a home are in the same block
   one_block : (v : Version) → place_in v g r a ≡ place_in v g r b → (a - r.first) / frames_in_block v g b
       ≡ (b - r.first) / frames_in_block v g b
   one_block v same = grind (arith, nat_tests)
@@ -271,7 +271,7 @@ module _ {g : Geometry} {r : HomeRange} {a b : ℕ} (has_a : Has g r a) (has_b :
       place_in v g r a ≡ place_in v g r b
   one_place v same = grind (arith, nat_tests)
 
-  -- its frame lies after those before it
+  -- in a block, the frame of a greater number lies after those of lesser numbers
   rise_in : (v : Version) → place_in v g r a ≡ place_in v g r b → a < b → shape_end (shape_in v g r a) ≤ (shape_in v g r b).offset
   rise_in v same lt = grind (arith, nat_tests)
 
@@ -280,7 +280,7 @@ module _ {g : Geometry} {r : HomeRange} {a b : ℕ} (has_a : Has g r a) (has_b :
 
 module _ {p : Plan} {a b : ℕ} (fits : IsPlan p) (is_a : IsObject p.geometry a) (is_b : IsObject p.geometry b)
     (same : home_place p a ≡ home_place p b) where
-  -- of two that have one home, the frame of the greater lies after that of the other
+  -- of two objects that share a home, the frame of the greater number lies after the other
   pub frames_rise : a < b → shape_end (shape_of p a) ≤ (shape_of p b).offset
   frames_rise lt =
       let both = one_range fits is_a is_b same in
@@ -338,7 +338,7 @@ module _ {p : Plan} {number : ℕ} {r : HomeRange} (fits : IsPlan p) (is : IsObj
       let at = found number fits is in
       subst (λ (x : HomeRange). Has p.geometry x number) (same_Some _ _ (sym at.1.found ∙ sym reported)) at.1.has
 
-  -- all that have its home are of its range
+  -- all numbers that share the home are in the range
   in_range : (a : ℕ) → IsObject p.geometry a → home_place p a ≡ home_place p number →
       Has p.geometry r a × ((a - r.first) / k ≡ (number - r.first) / k)
   in_range a is_a same =
@@ -348,7 +348,7 @@ module _ {p : Plan} {number : ℕ} {r : HomeRange} (fits : IsPlan p) (is : IsObj
       let place = subst (λ (x : HomeRange). place_in p.version p.geometry x a ≡ place_in p.version p.geometry x number) one both.1.place in
       (has, one_block has here p.version place)
 
-  -- and what is of its block has its home
+  -- all numbers of the same block share the home
   beside : (a : ℕ) → Has p.geometry r a → (a - r.first) / k ≡ (number - r.first) / k → home_place p a ≡ home_place p number
   beside a has same =
       let at = found number fits is in
@@ -378,7 +378,7 @@ module _ {p : Plan} {number : ℕ} {r : HomeRange} (fits : IsPlan p) (is : IsObj
             omega (arith, first_at, least, at.0.low, here.low, few);
       }
 
-  -- it shares its home with those after it, up to the end of its block or of the range
+  -- a number shares its home with those after it, up to the end of its block or of its range
   pub block_shared : {n : ℕ} → n ≡ min (r.count - (number - r.first)) (k - (number - r.first) % k) → HaveHome p number n
   block_shared {n} count =
       let i : ℕ = number - r.first in
@@ -396,12 +396,12 @@ module _ {p : Plan} {number : ℕ} {r : HomeRange} (fits : IsPlan p) (is : IsObj
             omega (arith, before, count, at.0.high, at.0.low, here.low);
       }
 
--- what lies between two numbers that share a home has it too
+-- a number between two that share a home shares it too
 pub home_between : {p : Plan} {a b n : ℕ} → IsPlan p → IsObject p.geometry a → IsObject p.geometry n → n ≤ b → b ≤ a →
     home_place p a ≡ home_place p n → home_place p b ≡ home_place p n
 home_between {p} {a} {b} {n} fits is_a is_n low high same = grind (arith, nat_tests, one_range, place_is, found_too)
 
--- what was written to a home, said in two ways
+-- the bytes that were written to a home, given in two ways
 pub bytes_home : (p : Plan) (number : ℕ) {at n : ℕ} {s : Shape} {bytes : List ℕ} (image : Image) → at ≡ home_place p number →
     s ≡ shape_of p number → n ≡ shape_length s → sectors_from image at n ≡ bytes →
     sectors_from image (home_place p number) (place_length p number) ≡ bytes

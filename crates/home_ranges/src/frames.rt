@@ -18,9 +18,8 @@ impl<'a> Home<'a> {
     /// Reads the home frame of an object. It puts the slots of a node or an annex and the words of a
     /// page into `scratch`, and allocates nothing.
     ///
-    /// Returns `Failed` exactly if the device failed. Returns `BadFrame` exactly if the home sectors
-    /// spell no frame that an image of this age may hold. After either, `scratch` may hold any slots
-    /// and words.
+    /// Returns `Failed` exactly if the device failed. Returns `BadFrame` exactly if the home sectors encode no frame
+    /// that an image of this age may hold. After either, `scratch` may hold any slots and words.
     pub fn read_frame<D: Device>(
         &self,
         device: &mut D,
@@ -44,9 +43,8 @@ impl<'a> Home<'a> {
         read_frame(device, at, shape, self.geometry(), number, age, scratch)
     }
 
-    /// Writes all sectors of the home of an object, and with it the frames of the other nodes of its
-    /// cluster. For all other sectors it keeps their bytes and adds nothing to what a crash may leave in
-    /// them.
+    /// Writes all sectors of the home of an object: for a node, these also hold the frames of the other nodes of its
+    /// cluster. All other sectors keep their bytes, and a crash may leave nothing new in them.
     ///
     /// Returns `Failed` exactly if the device failed; then the sectors of the home may hold any bytes.
     #[tactic(auto, using(crate::proofs::Places::bytes_home))]

@@ -10,7 +10,7 @@ use layout::{HomeRange, Shape, Superblock, Version};
 use model::Geometry;
 use std::marker::Model;
 
-/// Where a superblock places the frames of objects at home.
+/// Where the frames of objects lie at home, according to a superblock.
 #[derive(Drop)]
 pub struct Home<'a> {
     superblock: &'a Superblock,
@@ -82,7 +82,7 @@ impl<'a> Home<'a> {
         self.superblock.shape(number)
     }
 
-    // Returns how many frames of an object's kind a block has.
+    // Returns how many frames of an object's kind share a block.
     fn frames_in_block(&self, number: u64) -> u64
         ensures value { result ≡ frames_in_block self.now.version self.now.geometry number }
         ensures some { 0 < result }
@@ -109,7 +109,7 @@ impl<'a> Home<'a> {
         }
     }
 
-    /// Returns how many numbers from this one on have its home: 1 to 5 for nodes of one cluster, else 1.
+    /// Returns how many numbers from this one on share its home: 1 to 5 for nodes of one cluster, else 1.
     #[tactic(auto, using(crate::proofs::Places::block_shared))]
     pub fn sharers(&self, number: u64) -> u64
         requires object { IsObject self.now.geometry number }

@@ -3,9 +3,8 @@
 ghost use Rattle.home_ranges.specs.Laws.{PlacesAreWithin, PlacesAreApart, NumbersAreApart, PlacesSpareLog, FramesStay};
 ghost use Rattle.home_ranges.specs.Laws.{FramesAreHome, SecondTakesFewMore};
 
-/// Homes lie after the headers and before the end, apart from one another and from the log. A change
-/// of other sectors leaves the frame in a home. An object without a slot in the log has its home
-/// frame.
+/// Homes lie after the headers and before the end, apart from one another and from the log. A change of other sectors
+/// leaves the frame in a home unchanged. The saved frame of an object without a slot in the log is its home frame.
 pub fn keep_places_apart()
     ensures within { PlacesAreWithin }
     ensures apart { PlacesAreApart }
@@ -15,7 +14,7 @@ pub fn keep_places_apart()
     ensures home { FramesAreHome }
 {}
 
-/// In version 2 an image takes at most 8 sectors for each of its ranges more than in version 1.
+/// In version 2 an image takes at most 8 sectors more for each of its ranges than in version 1.
 #[tactic(auto, using(crate::proofs::LaidPlans::second_total))]
 pub fn second_takes_few_more()
     ensures { SecondTakesFewMore }

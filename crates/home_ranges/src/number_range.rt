@@ -5,6 +5,6 @@
 pub struct NumberRange {
     /// The first number.
     pub first: u64,
-    /// How many numbers.
+    /// How many numbers the range has.
     pub count: u64,
 }

@@ -11,7 +11,7 @@ use layout::{
 };
 use model::Geometry;
 
-// The greatest number of objects.
+// The greatest number of objects that an image may have.
 const MAX_OBJECTS: u64 = MAX_NODES + MAX_PAGES;
 
 // The sector after the superblock and the headers.
@@ -66,7 +66,7 @@ fn are_few(ranges: &[NumberRange]) -> bool
 /// Returns `None` exactly if one of these doesn't hold:
 ///
 /// - There are 16 to 4096 nodes, 1 to 4096 pages, and 16 to 4096 slots in a half of the log.
-/// - There are 1 to 8 ranges, which have each number once, in their order.
+/// - There are 1 to 8 ranges, which together have each number once, in rising order.
 /// - Each range has a number, and has nodes only or pages only.
 ///
 /// No such image takes more sectors than a device may have, in either version.
@@ -102,8 +102,7 @@ fn put_numbers(ranges: &[HomeRange], into: &mut [NumberRange])
     }
 }
 
-/// Lays out an image of this version with the objects and the home ranges of another image, as
-/// `lay_out` does.
+/// Lays out an image of this version with the same objects and home ranges as another image, by `lay_out`.
 pub fn lay_out_again(version: Version, superblock: &Superblock) -> Superblock
     ensures laid { result ≡ laid_again version superblock.now }
     ensures fits { IsPlan result }

@@ -25,7 +25,7 @@ module _ (d : Description) (hs : List ObjectHeader) (cs : List (Content Cap)) (l
       elsewhere = subst (λ (q : Plan). Elsewhere 0 q.total old.seen new.seen) is elsewhere;
     }
 
-    -- what a crash leaves on the way
+    -- what a crash leaves during the build
     left_by : (p : Plan) → p ≡ plan_for d → (c : Image) → IsLeftWriting old (first_saved p.geometry d.age (frames_in hs cs)) c →
         IsLeftBuilding d old c
     left_by p is c (inl (before, left, kept)) saved holds = inl (
@@ -58,7 +58,7 @@ nothing_written d disk only_now = started disk (λ c. IsLeftBuilding d disk c) o
 pub nothing_written_of : (ms : Members) (disk : Disk) → OnlyNow disk → LeavesOnly disk disk (λ c. IsLeftOf ms disk c)
 nothing_written_of ms disk only_now = started disk (λ c. IsLeftOf ms disk c) only_now (λ c left saved holds. inl (c, left, holds))
 
--- what is left of a description is left of its table
+-- what is left of building a description is left of building its table
 pub left_of : (ms : Members) (d : Description) {old new : Disk} → IsDescription ms d → LeavesOnly old new (λ c. IsLeftBuilding d old c) →
     LeavesOnly old new (λ c. IsLeftOf ms old c)
 left_of ms d {old} {new} is run =

@@ -20,7 +20,7 @@ unfolding numbered
 length_numbered at [] = refl
 length_numbered at (e ∷ es) = ap suc (length_numbered (at + 1) es)
 
--- the entry of an index has it as its slot
+-- the entry at an index has the index as its slot
 entry_numbered : (at : ℕ) (es : List Entry) (d : Entry) (i : ℕ) → i < length es →
     slice_index_or (numbered at es) i d ≡ record { object = (entry_at es i).object; slot = at + i }
 unfolding numbered

@@ -45,7 +45,7 @@ module _ (d : Description) (limits : IsWithinLimits d) where
   world_refused Failed reported = absurd reported
 
   module _ (hs : List ObjectHeader) (cs : List (Content Cap)) (laid : AreLaid d hs cs) where
-    -- other frames that are described are these
+    -- all frames that a description describes are these
     as_laid : (P : List Frame → Type 0) (fs : List Frame) → IsDescribed d fs → P fs → P (frames_in hs cs)
     as_laid P fs described p = subst P (described_once d fs (frames_in hs cs) described laid.described) p
 
@@ -83,7 +83,7 @@ module _ (d : Description) (limits : IsWithinLimits d) where
     pub accepted : Rule d sectors Small → IsAccepted d sectors
     accepted small = all_kept d sectors limits s.numbers s.fields target_kept owner_kept small
 
--- a table is refused as its description is
+-- a table is refused for the reason for which its description is
 refuses : (ms : Members) (d : Description) (sectors : ℕ) (fault : BuildFault) → IsDescription ms d → IsRefused d sectors fault →
     Refuses ms sectors fault
 refuses ms d sectors Shape is refused = absurd (refused.broken tt)
@@ -96,7 +96,7 @@ refuses ms d sectors Small is refused = (d, is, refused)
 refuses ms d sectors Failed is refused = (d, is, refused)
 refuses ms d sectors NoMemory is refused = tt
 
--- where the last call decides
+-- the last call decides the result
 pub failed_refused : {T : Type 0} (d : Description) (sectors : ℕ) (r : Result T BuildFault) → IsAccepted d sectors →
     IfErr r (λ fault. fault ≡ Failed) → IfErr r (λ fault. IsRefused d sectors fault)
 failed_refused d sectors (Ok x) all reported = reported
@@ -122,7 +122,7 @@ pub size_refused : (ms : Members) (d : Description) (fault : BuildFault) → IsD
     TellsNoSize ms fault
 size_refused ms d fault is limits broken = subst (λ (f : BuildFault). TellsNoSize ms f) (sym limits) (d, is, broken)
 
--- below the limits there is the shape alone
+-- before the limits only the form is checked
 below_limits : (d : Description) (sectors : ℕ) (lesser : BuildFault) → fault_number lesser < 2 → Rule d sectors lesser
 below_limits d sectors Shape below = tt
 below_limits d sectors Limits below = absurd (omega (arith, below))
@@ -134,7 +134,7 @@ below_limits d sectors Small below = absurd (omega (arith, below))
 below_limits d sectors Failed below = tt
 below_limits d sectors NoMemory below = tt
 
--- what has no size is refused on every device
+-- a table without a size is refused on every device
 pub size_refuses : (ms : Members) (sectors : ℕ) (why : BuildFault) → TellsNoSize ms why → Refuses ms sectors why
 size_refuses ms sectors Shape reported = reported
 size_refuses ms sectors Limits reported = (reported.0, reported.1, record { kept = below_limits reported.0 sectors; broken = reported.2 })

@@ -22,7 +22,7 @@ module _ (image : Image) (size : ℕ) (s : SavedState) (is : Encodes image size 
   pub directory_count : length (numbered 0 s.directory) ≡ s.header.entries
   directory_count = length_numbered 0 s.directory ∙ is.directory.count
 
--- it has the same state but for the places
+-- the new image has the same state, except its places
 pub same_state : (l : NewLayout) (s : SavedState) (p : Plan) (generation entries age : ℕ) (es : List Entry) (fs : List Frame) →
     p ≡ new_plan l s.plan → generation ≡ s.header.generation → entries ≡ s.header.entries → age ≡ s.header.age
     → es ≡ numbered 0 s.directory → fs ≡ s.frames → state_of p (record {
@@ -61,7 +61,7 @@ counted l (Ok total) old before new s was sound reported encodes crash zeros els
     (record { state = s; was = was; sound = sound; encodes = encodes; crash = crash; zeros = zeros; elsewhere = elsewhere }, reported)
 counted l (Err fault) old before new s was sound reported encodes crash zeros elsewhere = tt
 
--- and of why it isn't written
+-- the reason why nothing was written
 pub not_upgraded : {D : Type 0} (l : NewLayout) (result : Result ℕ UpgradeFault) (disk : D → Disk) (old : D) (sectors : ℕ) (s : SavedState)
     → Encodes (disk old).seen (disk old).sectors s → IsSoundSaved s.plan.geometry (kept_of s)
     → (IsErrOf result fault.Small → sectors < (new_plan l s.plan).total) → IfErr result
@@ -74,7 +74,7 @@ not_upgraded l (Err fault.NoMemory) disk old sectors s was sound small opened = 
 
 -- ---- what is done to the old device
 
--- it was opened, and no call of it failed
+-- the device was opened, and no call of it failed
 pub read_where_opened : (result : Result ℕ UpgradeFault) (old new : Disk) →
     IfErr result (λ why. (opening : OpenFault) → why ≢ fault.Old opening) → OnlyReads old new → new.failures ≡ old.failures
     → IsOnlyRead old new (IsErrOf result (fault.Old opening.Failed))
@@ -91,7 +91,7 @@ read_where_opened result old new opened only_reads same = record {
 
 -- ---- what a crash leaves
 
--- an image that a crash leaves of a device is what it holds, where a read gives it
+-- if each crash leaves an image of a state, a read returns an image of that state
 pub seen_encodes : (old new : Disk) (s : SavedState) → ((c : Image) → new.may_leave c → Encodes c new.sectors s) → new.may_leave new.seen →
     Agrees new.seen old.seen → new.sectors ≡ old.sectors → Encodes old.seen old.sectors s
 seen_encodes old new s leaves left same size =
@@ -110,6 +110,6 @@ left_upgrading old s {before} {new} was run =
     leaves_weaker {old = before} {new = new} {P = λ c. IsLeftWriting before (kept_of s) c} (λ c. IsLeftUpgrading old before c)
     (λ c left. left_by old before s was c left) run
 
--- where nothing was written
+-- nothing was written
 pub untouched : (old before : Disk) → OnlyNow before → LeavesOnly before before (λ c. IsLeftUpgrading old before c)
 untouched old before only_now = started before (λ c. IsLeftUpgrading old before c) only_now (λ c left saved holds. inl (c, left, holds))

@@ -1,4 +1,4 @@
-// Descriptions that were read, and where the parts of their images lie.
+// Descriptions that were read, with the layout of their images.
 ghost use Rattle.std.specs.Prelude.{◌≡◌, ◌≢◌, ◌<◌, ◌≤◌, ◌↔◌, ℕ, IfOk, IfErr, IsErrOf, OnOk};
 ghost use Rattle.toml.specs.Data.{Members};
 ghost use Rattle.toml.specs.View.{table_view};
@@ -38,8 +38,8 @@ impl Model for Blueprint {
 }
 
 impl Blueprint {
-    /// Reads the description of a table. `Shape` and `Limits` as `build` answers them, and
-    /// `NoMemory` where memory ran out; no other fault occurs.
+    /// Reads the description in a table. Returns `Shape` and `Limits` in the cases in which `build` does, and
+    /// `NoMemory` if memory ran out; there is no other fault.
     pub fn read(alloc: Global, table: &Table) -> Result<Blueprint, BuildFault>
         ensures read { IfOk result (λ blueprint. IsDescription (table_view table.now) blueprint) }
         ensures refused { IfErr result (λ fault. TellsNoSize (table_view table.now) fault) }
@@ -52,7 +52,7 @@ impl Blueprint {
         })
     }
 
-    /// How many sectors a device needs for the image. No image needs more than a device may have.
+    /// Returns how many sectors a device needs for the image. No image needs more than a device may have.
     pub fn sectors(&self) -> u64
         ensures value { result ≡ (plan_for self.now).total }
         ensures within { IsWithinLimits self.now }
@@ -61,8 +61,8 @@ impl Blueprint {
         self.superblock.total()
     }
 
-    /// Whether `build` accepts the description on a device with enough sectors. It answers the least fault of
-    /// the description, as `build` does on any device, or `NoMemory` where memory ran out.
+    /// Checks whether `build` accepts the description on a device with enough sectors. Returns the least fault of the
+    /// description, as `build` does on any device, or `NoMemory` if memory ran out.
     pub fn check(&self, alloc: Global) -> Result<(), BuildFault>
         ensures accepted { OnOk result ((sectors : ℕ) → (plan_for self.now).total ≤ sectors
             → IsAccepted self.now sectors) }
@@ -72,8 +72,8 @@ impl Blueprint {
         Ok(())
     }
 
-    /// Builds the image over whatever a device holds, as `build` does, with the same faults but
-    /// `Shape` and `Limits`.
+    /// Builds the image over any content of a device, as `build` does, with the same faults except `Shape` and
+    /// `Limits`.
     pub fn build<D: Device>(&self, alloc: Global, device: &mut D) -> Result<(), BuildFault>
         ensures built { (table : Members) → IsDescription table self.now
             → OnOk result (BuildsFrom table (D.disk device.old) (D.disk device.new)) }

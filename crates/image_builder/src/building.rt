@@ -13,10 +13,10 @@ use device::Device;
 use std::alloc::Global;
 use toml::Table;
 
-/// How many sectors a device needs for the image of a table's description.
+/// Returns how many sectors a device needs for the image of the description in a table.
 ///
-/// `Shape` and `Limits` as `build` answers them, and `NoMemory` where memory ran out. No other fault
-/// occurs, whatever else is wrong with the description.
+/// Returns `Shape` and `Limits` in the cases in which `build` does, and `NoMemory` if memory ran out. There is no
+/// other fault, whatever else is wrong with the description.
 pub fn sectors_needed(alloc: Global, table: &Table) -> Result<u64, BuildFault>
     ensures needed { IfOk result (λ needed. (d : Description)
         × IsDescription (table_view table.now) d
@@ -28,24 +28,23 @@ pub fn sectors_needed(alloc: Global, table: &Table) -> Result<u64, BuildFault>
     Ok(blueprint.sectors())
 }
 
-/// Builds the image of a table's description over whatever a device holds: the described frames,
-/// the numbers that aren't named free, at the described age, with one committed checkpoint of
-/// generation 0 and nothing in the log. The home ranges lie from sector 5 on in their order, and
-/// the two halves of the log after them. From `Ok` on a read gives that image, each crash leaves
-/// it, and its frames stand for a sound world. Sectors after it hold what they held.
+/// Builds the image of the description in a table over any content of a device. The image has the described frames,
+/// and all other numbers are free; it has the described age, and one committed checkpoint of generation 0 with
+/// nothing in the log. The home ranges lie from sector 5 on in their order, and the two halves of the log after them.
+/// After `Ok` a read returns that image, each crash leaves it, and its frames stand for a sound world. Sectors beyond
+/// the image stay.
 ///
-/// It answers the least of the faults that hold: `Shape` where the table isn't that of a
-/// description; `Limits` where no image has that many objects or slots, such ranges, such an age or
-/// such a version of the layout; `Number` where a number isn't one of its kind or is named
-/// twice; `Field` where a field is bad; `Target` where a capability names an object of another kind,
-/// or resumes a process that doesn't wait; `Owner` where the banks aren't a tree that owns all
-/// objects within their limits; `Small` where the device has fewer sectors than `sectors_needed`
-/// says; `Failed` exactly if the device failed; and `NoMemory` where memory ran out.
+/// Returns the least of the faults that hold: `Shape` if the table isn't that of a description; `Limits` if no image
+/// may have so many objects or slots, such ranges, such an age or such a version of the layout; `Number` if a number
+/// isn't one of its kind or occurs twice; `Field` if a field is malformed; `Target` if a capability names an object
+/// of another kind, or resumes a process that doesn't wait; `Owner` if the banks aren't a tree that owns all objects
+/// within their limits; `Small` if the device has fewer sectors than `sectors_needed` says; `Failed` exactly if the
+/// device failed; and `NoMemory` if memory ran out.
 ///
-/// The device is as it was, but after `Failed`: then the image's sectors may hold any bytes.
+/// The device is unchanged after each fault except `Failed`: then the image's sectors may hold any bytes.
 ///
-/// A crash at any moment leaves the image that it could have left before; or nothing that can be
-/// opened, as no header is committed; or the described one, whole. This holds after `Failed` too.
+/// A crash at any moment leaves the image that it could have left before the call; or nothing that can be opened, as
+/// no header is committed; or the whole described image. This holds after `Failed` too.
 pub fn build<D: Device>(alloc: Global, table: &Table, device: &mut D) -> Result<(), BuildFault>
     ensures built { OnOk result
         (BuildsFrom (table_view table.now) (D.disk device.old) (D.disk device.new)) }

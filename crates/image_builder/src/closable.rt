@@ -1,16 +1,15 @@
-// A device that is closed at the end of its use.
+// A device that is closed after its use.
 use device::Device;
 
-/// A device that the last of its users closes. Any `Device` is one.
+/// A device that its last user closes. Any `Device` is one.
 ///
-/// Code over a `D: ClosableDevice` can show `was_closed` of a state in one way alone: it calls `close` in
-/// that state. So a contract that speaks of such a state says what was done to a device that isn't given
-/// back.
+/// Only a call of `close` in a state proves `was_closed` of this state. So a contract with `was_closed` says in which
+/// state a device was when it was dropped, though the device isn't returned.
 pub trait ClosableDevice: Device {
     /// The device was closed in this state.
     ghost was_closed: { Self → Type 0 };
 
-    /// Lets the device go, with no call of it.
+    /// Drops the device, and makes no call of it.
     fn close(self)
         ensures { was_closed self };
 }

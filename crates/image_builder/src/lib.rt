@@ -1,6 +1,6 @@
-//! Images from their descriptions, and from older ones. A table describes what an image holds; it
-//! is written to a device if it stands for a sound world. What an image saves is written to another
-//! device, in version 2 of the layout or in its own.
+//! Images built from descriptions, and from older images. A table describes the objects of an image; the image is
+//! written to a device if they stand for a sound world. The saved state of an old image is written to another device,
+//! in version 2 of the layout or in the old version.
 #![tactic(auto)]
 
 mod blueprint;

@@ -1,22 +1,22 @@
-// By which version of the layout a new image is written.
+// The version of the layout for a new image.
 ghost use Rattle.std.specs.Prelude.{◌≡◌};
 ghost use Rattle.image_builder.specs.Upgraded.{new_plan};
 
 use home_ranges::lay_out_again;
 use layout::{Superblock, Version};
 
-/// The version of the layout by which what an old image saves is written to a new one.
+/// In which version of the layout the saved state of an old image is written to a new one.
 #[derive(Clone, Copy)]
 pub enum NewLayout {
-    /// This version.
+    /// In this version.
     Of(Version),
-    /// The version of the old image.
+    /// In the version of the old image.
     Kept,
 }
 
 impl NewLayout {
-    /// Lays out the new image, with the objects and home ranges of the old one: the ranges lie from sector 5 on
-    /// in their order, and the two halves of the log after them.
+    /// Lays out the new image, with the objects and home ranges of the old one: the ranges lie from sector 5 on in
+    /// their order, and the two halves of the log after them.
     pub(crate) fn lay_out(self, old: &Superblock) -> Superblock
         ensures { result ≡ new_plan self old.now }
     {

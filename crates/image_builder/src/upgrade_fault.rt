@@ -1,12 +1,12 @@
-// Why no image is upgraded.
+// Why an image can't be upgraded.
 use checkpoint::OpenFault;
 use thiserror::Error;
 
-/// Why what one device saves isn't written to another. After `Failed` the new device may hold any
-/// bytes; all else leaves it as it was.
+/// Why the saved state of one device can't be written to another. After `Failed` the new device may hold any bytes;
+/// any other fault leaves it unchanged.
 #[derive(Clone, Copy, Debug, Error)]
 pub enum UpgradeFault {
-    /// The old device isn't opened; never for want of memory.
+    /// The old device could not be opened. If memory ran out, the fault is `NoMemory` instead.
     #[error("the old device isn't opened: {0}")]
     Old(OpenFault),
     /// The new device is smaller than the image.

@@ -1,4 +1,4 @@
-// Writing what an image saves to another, in a new layout.
+// Writing the saved state of an image to another device, in a new layout.
 ghost use Rattle.std.specs.Prelude.{◌≡◌, ◌≢◌, ◌<◌, ◌≤◌, ◌↔◌, ℕ, length, IfOk, IfErr, IsErrOf, OnErr, OnOk};
 ghost use Rattle.device.specs.Disk.{Image};
 ghost use Rattle.device.specs.Calls.{Elsewhere};
@@ -30,11 +30,11 @@ use recovery::recover;
 use std::alloc::{AllocError, Global};
 use std::marker::{Model, PhantomData};
 
-/// How many sectors a device needs for what the image on another saves, in a new layout. It reads the
-/// superblock alone.
+/// Returns how many sectors a device needs for the saved state of the image on another device, in a new layout. It
+/// reads only the superblock.
 ///
-/// `Failed` exactly if the device failed, and else the least of the reasons 1 to 3 to refuse an
-/// image. It takes no memory.
+/// Returns `Failed` exactly if the device failed, else the least of the reasons 1 to 3 to refuse an image that holds,
+/// if one does. It takes no memory.
 pub fn upgraded_sectors<D: Device>(device: &mut D, layout: NewLayout) -> Result<u64, OpenFault>
     ensures reported { IfOk result (λ sectors. (p : Plan)
         × HasPlan (D.disk device.old).seen (D.disk device.old).sectors p
@@ -50,7 +50,7 @@ pub fn upgraded_sectors<D: Device>(device: &mut D, layout: NewLayout) -> Result<
     }
 }
 
-// The entries of a directory, in slots that rise from 0.
+// Returns the entries of a directory, with slots 0, 1, 2, .. in this order.
 #[tactic(auto, using(crate::proofs::Numbered::all_numbered))]
 fn in_order(alloc: Global, entries: &[Entry]) -> Result<Vec<Entry>, AllocError>
     ensures { IfOk result (λ found. found.items ≡ numbered 0 entries.now) }
@@ -65,8 +65,8 @@ fn in_order(alloc: Global, entries: &[Entry]) -> Result<Vec<Entry>, AllocError>
     Ok(found)
 }
 
-// Writes what is saved in a new layout, with these entries in place of its own and the frames that these
-// headers and contents are, and answers how many sectors the image has.
+// Writes a saved state in a new layout, with these entries instead of its own, and with frames of these headers and
+// contents. Returns how many sectors the image has.
 fn write_over<D: Device, E: Device>(
     layout: NewLayout,
     saved: &Durable<D>,
@@ -103,8 +103,8 @@ fn write_over<D: Device, E: Device>(
     }
 }
 
-// Writes what a store has of its device's checkpoint, which is all in memory, in a new layout; answers how many
-// sectors the image has, and gives the store's device back.
+// Writes the saved state of a store, which has it all in memory, in a new layout. Returns how many sectors the image
+// has, and the store's device.
 fn write_store<D: Device, E: Device, S: WholeStore<D>>(
     alloc: Global,
     layout: NewLayout,
@@ -132,7 +132,7 @@ fn write_store<D: Device, E: Device, S: WholeStore<D>>(
     }
 }
 
-// The fault where the old device isn't opened.
+// Returns the fault for an old device that could not be opened.
 fn of_old(why: OpenFault) -> UpgradeFault
     ensures memory { why ≡ OpenFault.NoMemory → result ≡ UpgradeFault.NoMemory }
     ensures other { why ≢ OpenFault.NoMemory → result ≡ UpgradeFault.Old why }
@@ -143,8 +143,7 @@ fn of_old(why: OpenFault) -> UpgradeFault
     }
 }
 
-/// An old image that was opened and read whole, to be written to a new device. Nothing has been written
-/// to the old device.
+/// An old image that was opened and read whole, to be written to a new device. Nothing was written to the old device.
 #[derive(Drop)]
 pub struct OldImage<D: Device, S: WholeStore<D>> {
     store: S,
@@ -165,9 +164,8 @@ impl<D: Device, S: WholeStore<D>> Model for OldImage<D, S> {
 impl<D: ClosableDevice, S: WholeStore<D>> OldImage<D, S> {
     /// Opens an old device as a kernel does, and reads its image whole.
     ///
-    /// `Old` exactly if a kernel doesn't open the device, with its reason, but for want of
-    /// memory, and `NoMemory` where memory ran out; no other fault comes. A refusal closes the
-    /// device, which was only read.
+    /// Returns `NoMemory` if memory ran out, else `Old` with the reason, exactly if a kernel doesn't open the device;
+    /// there is no other fault. After a fault the device is closed, and was only read.
     pub fn open(alloc: Global, old: D, setting: S::Setting) -> Result<OldImage<D, S>, UpgradeFault>
         ensures opened { IfOk result (λ image. IsOpenedFrom D.disk old image) }
         ensures refused { IfErr result (λ fault. IsRefusedAsOld D.disk old fault) }
@@ -187,15 +185,15 @@ impl<D: ClosableDevice, S: WholeStore<D>> OldImage<D, S> {
         }
     }
 
-    /// How many sectors a device needs for what the image saves, in a new layout.
+    /// Returns how many sectors a device needs for the saved state of the image, in a new layout.
     pub fn sectors(&self, layout: NewLayout) -> u64
         ensures { result ≡ (new_plan layout (saved_by D.disk self.now).plan).total }
     {
         layout.lay_out(self.store.superblock()).total()
     }
 
-    /// Writes what the image saves over whatever a new device holds, as `upgrade` does, with its
-    /// faults but `Old`; answers how many sectors the new image has, and closes the old device.
+    /// Writes the saved state of the image over any content of a new device, as `upgrade` does, with the same faults
+    /// except `Old`. Returns how many sectors the new image has, and closes the old device.
     pub fn write_to<E: Device>(
         self,
         alloc: Global,
@@ -225,8 +223,8 @@ impl<D: ClosableDevice, S: WholeStore<D>> OldImage<D, S> {
     }
 }
 
-/// Opens an old device as a kernel does, and writes what its image saves over whatever a new one
-/// holds, in a new layout; answers how many sectors the new image has. Apart from that it is `upgrade`.
+/// Opens an old device as a kernel does, and writes its saved state over any content of a new device, in a new
+/// layout. Returns how many sectors the new image has. Apart from that it is `upgrade`.
 pub fn upgrade_and_count<D: ClosableDevice, E: Device, S: WholeStore<D>>(
     alloc: Global,
     old: D,
@@ -255,20 +253,19 @@ pub fn upgrade_and_count<D: ClosableDevice, E: Device, S: WholeStore<D>>(
     }
 }
 
-/// Opens an old device as a kernel does, and writes what its image saves over whatever a new one
-/// holds, in a new layout: the same frames, generation, entries and age, with the sequence number 0, the
-/// same home ranges from sector 5 on, and the slots of the log in order. From `Ok` on a read of the new
-/// device gives that, and so does each crash. An old image of the version to be written is taken too.
+/// Opens an old device as a kernel does, and writes its saved state over any content of a new device, in a new
+/// layout: the same frames, generation, entries and age, with the sequence number 0, the same home ranges from sector
+/// 5 on, and the slots of the log in order. After `Ok` a read of the new device returns that, even after a crash. The
+/// old image may have the new version already.
 ///
-/// `Old` exactly if a kernel doesn't open the old device, with its reason, but for want of memory;
-/// `Small` where the new device has fewer sectors than `upgraded_sectors` says of the old one;
-/// `Failed` exactly if the new device failed; and `NoMemory` where memory ran out. The new device
-/// is as it was, but after `Failed`: then the image's sectors may hold any bytes.
+/// Returns `Old` exactly if a kernel doesn't open the old device, with the reason, unless memory ran out; `Small` if
+/// the new device has fewer sectors than `upgraded_sectors` says for the old one; `Failed` exactly if the new device
+/// failed; and `NoMemory` if memory ran out. The new device is unchanged after each fault except `Failed`: then the
+/// image's sectors may hold any bytes.
 ///
-/// A crash of the new device at any moment leaves the image that it could have left before; or
-/// nothing that can be opened, as no header is committed; or the new image, whole. This holds after
-/// `Failed` too. The old device is only read: nothing is written to it at any moment. `upgrade`
-/// closes it in the end, and doesn't give it back.
+/// A crash of the new device at any moment leaves the image that it could have left before the call; or nothing that
+/// can be opened, as no header is committed; or the whole new image. This holds after `Failed` too. The old device is
+/// only read. At the end `upgrade` closes it, and doesn't return it.
 pub fn upgrade<D: ClosableDevice, E: Device, S: WholeStore<D>>(
     alloc: Global,
     old: D,

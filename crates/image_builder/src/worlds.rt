@@ -1,4 +1,4 @@
-// The worlds that descriptions name.
+// The worlds of descriptions.
 ghost use Rattle.std.specs.Prelude.{◌≡◌, ◌≢◌, IfOk, IfErr, OnOk};
 ghost use Rattle.description.specs.Rules.{IsWithinLimits};
 ghost use Rattle.image_builder.specs.Checked.{IsRefusedEarly, IsSoundDescription};
@@ -11,7 +11,8 @@ use layout::BadImage;
 use recovery::check;
 use std::alloc::Global;
 
-// The fault for a reason why frames are inconsistent. Processes are never one, nor are reasons 1 to 7.
+// Returns the fault for a reason why frames are inconsistent. Described processes are always consistent, and reasons
+// 1 to 7 don't occur.
 fn fault_for(why: BadImage) -> BuildFault
     ensures target { why ≡ BadImage.BadCapability → result ≡ BuildFault.Target }
     ensures owner { why ≡ BadImage.BadBank → result ≡ BuildFault.Owner }
@@ -22,7 +23,7 @@ fn fault_for(why: BadImage) -> BuildFault
     }
 }
 
-// Checks described frames.
+// Checks that described frames stand for a sound world.
 fn check_frames(
     alloc: Global,
     description: &Description,
@@ -45,7 +46,7 @@ fn check_frames(
     }
 }
 
-/// Lays the frames of a description that stand for a sound world.
+/// Lays out the world of a description, and checks that its frames stand for a sound world.
 pub(crate) fn lay_sound(alloc: Global, description: &Description) -> Result<World, BuildFault>
     requires { IsWithinLimits description.now }
     ensures laid { IfOk result (λ w. AreLaid description.now w.headers.items w.contents.items) }

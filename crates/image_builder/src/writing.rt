@@ -13,7 +13,7 @@ use image_writer::write_image;
 use layout::Superblock;
 use std::alloc::Global;
 
-// Writes described frames.
+// Writes the frames of a description as a new image.
 fn write<D: Device>(
     device: &mut D,
     superblock: &Superblock,
@@ -44,7 +44,7 @@ fn write<D: Device>(
     Ok(())
 }
 
-/// Builds the image of a description.
+/// Builds the image of a description with this superblock.
 pub(crate) fn build_described<D: Device>(
     alloc: Global,
     description: &Description,

@@ -12,7 +12,7 @@ added : (old new : List ℕ) (fs : List Field) → Adds old fs new → new ≡ o
 added old new [] adds = adds ∙ sym (append-nil old)
 added old new (f ∷ fs) adds = grind (arith, nat_tests, added adds.0 new fs adds.2, append_assoc)
 
--- and after the header of an object
+-- fields that are written after the header of an object
 pub object_added : (old begun new name : List ℕ) (fs : List Field) → begun ≡ old ++ begin_line name → Adds begun fs new →
     new ≡ old ++ (begin_line name ++ field_lines fs)
 object_added old begun new name fs header adds = added begun new fs adds ∙ ap (λ (text : List ℕ). text ++ field_lines fs) header
@@ -27,7 +27,7 @@ pub same_value : {A : Type 0} (old new key : List ℕ) (f : A → List ℕ) (x y
     new ≡ old ++ field_line (key, Some (f y))
 same_value {A = A} old new key f x y made is = made ∙ ap (λ (z : A). old ++ field_line (key, Some (f z))) (sym is)
 
--- items after a first one, each after a separator
+-- items after the first one, each after a separator
 pub joined_none : {A : Type 0} (f : A → List ℕ) (sep old : List ℕ) (xs : List A) → length xs ≡ 0 → old ≡ old ++ join_by f sep xs
 joined_none f sep old [] none = sym (append-nil old)
 joined_none f sep old (x ∷ xs) none = absurd (omega (arith, none))

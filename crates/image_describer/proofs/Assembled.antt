@@ -137,7 +137,7 @@ module _ (g : Geometry) (w : World) (sound : IsSound g w) where
     plain_numbers : List ℕ
     plain_numbers = map (λ n. n.number) d.nodes.items
 
-    -- what holds of each number of a kind holds of all numbers
+    -- a property of the number of each entry holds of all these numbers
     all_nodes : (P : ℕ → Type 0) → ((b : BankEntry) → Contains d.banks.items b → P b.number) →
         ((p : ProcessEntry) → Contains d.processes.items p → P p.root) → ((p : ProcessEntry) → Contains d.processes.items p → P p.annex) →
         ((n : NodeEntry) → Contains d.nodes.items n → P n.number) → All P (node_numbers d)
@@ -184,7 +184,7 @@ module _ (g : Geometry) (w : World) (sound : IsSound g w) where
         (λ p q one other same. sound.one_root p.root q.root (process_is p one) (process_is q other)
         (annex_is p one ∙ same ∙ sym (annex_is q other)))
 
-    -- numbers whose kinds aren't those of a second list
+    -- the numbers of one list, whose kinds don't occur in a second one
     other_kind : (r s : Role) (n : ℕ) → r ≢ s → kind_of n ≡ r → kind_of n ≡ s → ⊥
     other_kind r s n differ one other = differ (sym one ∙ other)
 
@@ -317,7 +317,7 @@ module _ (g : Geometry) (w : World) (sound : IsSound g w) where
         root_role (content.Root r) is = refl
         root_role other is = absurd cc
 
-    -- what isn't named is free
+    -- a number without an entry is free
     other_free : (n : ℕ) (c : Content Capability) → content_at w.objects n ≡ c → (Contains (node_numbers d ++ page_numbers d) n → ⊥) →
         c ≡ content.Free
     unfolding bank_numbers root_numbers plain_numbers

@@ -4,11 +4,11 @@ use Rattle.image_describer.proofs.Names.{IsTrue, list_any, Data, Members, get_me
 use Rattle.std.proofs.Common.{◌≡◌, ◌<◌, ◌&&◌, ◌∷◌, ◌++◌, ◌∙◌}
 use Rattle.image_describer.proofs.Puts.{Puts, falsely, left, right}
 
--- a key, and what is put there
+-- a key, and the value that is put there, if there is one
 abbrev pub Pair : Type 0
 Pair = List ℕ × Option Data
 
--- all of them are put, one after the other
+-- all pairs are put, one after the other
 abbrev pub Chain : List Pair → Members → Members → Type 0
 Chain [] old new = new ≡ old
 Chain (p ∷ ps) old new = (mid : Members) × Puts p.0 p.1 old mid × Chain ps mid new
@@ -26,20 +26,20 @@ abbrev pub are_known : List (List ℕ) → List Pair → Bool
 are_known keys [] = true
 are_known keys (p ∷ ps) = list_any (same_key p.0) keys && are_known keys ps
 
--- a key that is none of those keeps what it had
+-- a key that isn't in the pairs keeps its value
 pub chain_other : (ps : List Pair) (k : List ℕ) (old new : Members) → Chain ps old new → IsTrue (is_apart k ps) →
     get_member k new ≡ get_member k old
 chain_other [] k old new chain apart = ap (get_member k) chain
 chain_other (p ∷ ps) k old new chain apart = grind (arith, nat_tests, chain_other ps k chain.0 new chain.2, right, falsely, left)
 
--- a key of those isn't the first
+-- the first key isn't one of the rest
 apart_at : (k : List ℕ) (ps : List Pair) (i : ℕ) (d : Pair) → IsTrue (is_apart k ps) → i < length ps →
     same_key (slice_index_or ps i d).0 k ≡ false
 apart_at k [] i d apart inside = absurd (omega (arith, inside))
 apart_at k (p ∷ ps) zero d apart inside = falsely _ (left _ _ (right _ _ apart))
 apart_at k (p ∷ ps) (suc i) d apart inside = apart_at k ps i d (right _ _ (right _ _ apart)) (omega (arith, inside))
 
--- each key has what was put there
+-- each key has the value that was put there
 pub chain_at : (ps : List Pair) (i : ℕ) (d : Pair) (old new : Members) → Chain ps old new → IsTrue (are_apart ps) → i < length ps →
     get_member (slice_index_or ps i d).0 old ≡ None
     → get_member (slice_index_or ps i d).0 new ≡ (slice_index_or ps i d).1

@@ -215,7 +215,7 @@ module _ (d e : Description) (same : IsRenumbered d e) where
           let range = page_range p there in
           (described_of d (plain_frames os) (OfPage p) is there, range.0, range.1, page_fits p there)))
 
-      -- what is named of the number from which an object comes is named there
+      -- if the number from which an object comes has an entry, the object's new number has one
       comes_named : (m : ℕ) → m < object_count new → Contains (node_numbers d ++ page_numbers d) (origin old new m) →
           Contains (node_numbers e ++ page_numbers e) m
       comes_named m below there = elim (Contains-append_cases _ _ _ there) [

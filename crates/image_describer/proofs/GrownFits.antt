@@ -9,7 +9,7 @@ use Rattle.model.specs.declared.object.Content.TheVariants as content
 use Rattle.model.specs.declared.object.Role.TheVariants as role
 use Rattle.description.specs.declared.sizes.GrowthFault.TheVariants as fault
 
--- what has a role isn't free
+-- a content with a role isn't free
 role_not_free : {C : Type 0} (c : Content C) → role_of c ≢ role.Free → is_free c ≡ false
 role_not_free content.Free other = absurd (other refl)
 role_not_free one other = refl
@@ -28,7 +28,7 @@ entry_not_free (OfAnnex p) f is = first_not_free f p.owner (content.Annex is.0) 
 entry_not_free (OfNode n) f is = first_not_free f n.owner (content.Node is.0) (λ same. absurd cc) is.2
 entry_not_free (OfPage p) f is = first_not_free f p.owner (content.Page is.0) (λ same. absurd cc) is.2
 
--- a number is below a count if it is named among the nodes; and that of a page has a number there
+-- a number of a node's entry is below the new number of nodes, and that of a page's entry exists in the new image
 module _ (old new : Geometry) (d : Description) (w : World) (describes : Describes old w d) where
   role_is : (n : ℕ) → (frame_at (plain_frames w.objects) n).header.role ≡ role_of (content_at w.objects n)
   role_is n = ap (λ (f : Frame). f.header.role) (plain_at w.objects n) ∙ (mapped fresh_cap (content_at w.objects n)).role
@@ -77,7 +77,7 @@ module _ (old new : Geometry) (d : Description) (w : World) (describes : Describ
   fit_pages fits = all_from (λ (p : PageEntry). moved old new p.number < object_count new) d.pages.items (λ p there.
       fits p.number (named_not_free (OfPage p) there) (rw (← describes.geometry) (in_range d (OfPage p) describes.numbers there).0))
 
-  -- a description isn't renumbered for what its world has no image for
+  -- a description isn't renumbered if its world has no image of these sizes
   pub not_suited : (why : GrowthFault) → IsNotRenumbered d new why → IsUnsuited old new w why
   not_suited fault.Limits broken = broken
   not_suited fault.Nodes broken = (broken.0, λ fits. broken.1 (fit_nodes fits))

@@ -8,11 +8,11 @@ use Rattle.model.specs.declared.object.Content.TheVariants as content
 use Rattle.image_describer.proofs.Moved.{moved_frame, plain_moved}
 
 module _ (old new : Geometry) where
-  -- the number from which an object moves to a number, or one that no object has
+  -- the old number of the object that gets a new number; if there is none, a number without an object
   abbrev pub origin : ℕ → ℕ
   origin m = if nat_lt m new.nodes then if nat_lt m old.nodes then m else object_count old else m - new.nodes + old.nodes
 
-  -- what moves to a number there
+  -- the object of an old number has a new number
   abbrev pub Arrives : ℕ → Type 0
   Arrives n = (moved old new n < object_count new) × (origin (moved old new n) ≡ n)
 
@@ -46,7 +46,7 @@ module _ (old new : Geometry) where
     pub arrived : (n : ℕ) → Arrives n → object_at grown_objects (moved old new n) ≡ moved_object (moved old new) (object_at os n)
     arrived n is = grown_inside (moved old new n) is.0 ∙ ap (λ (k : ℕ). moved_object (moved old new) (object_at os k)) is.1
 
-    -- the same of frames
+    -- the same for frames
     pub frame_arrived : (n : ℕ) → Arrives n → frame_at (plain_frames grown_objects) (moved old new n) ≡ moved_frame (moved old new)
         (frame_at (plain_frames os) n)
     frame_arrived n is = plain_at _ _ ∙ ap (λ (o : Object). plain_frame o) (arrived n is) ∙ plain_moved (moved old new) _
@@ -79,7 +79,7 @@ module _ (old new : Geometry) (w : World) (sound : IsSound old w) where
   abbrev pub grown_world : World
   grown_world = record { objects = grown_objects old new w.objects sound.size; age = w.age }
 
-  -- what isn't there comes from what is free
+  -- a new number without an old one is free
   from_free : (m : ℕ) (b : Bool) → is_free (content_at w.objects (origin old new m)) ≡ b
       → ((n : ℕ) → is_free (content_at w.objects n) ≡ false → moved old new n ≢ m) → object_at w.objects (origin old new m) ≡ free
   from_free m true is none =

@@ -10,7 +10,7 @@ use Rattle.image_describer.proofs.Filled.{ArePairs, keyed, member_or, no_section
 
 -- ---- values
 
--- a text writes a value, which has few levels, no date, and no header of its own
+-- a text encodes a value, which has few levels, no date, and no header of its own
 pub record Spells (levels : ℕ) (text : List ℕ) (d : Data) : Type 0 where
   pub text_is : IsValueText false d text
   pub deep : depth d ≤ levels
@@ -78,7 +78,7 @@ SpellsOption None None = Unit {0}
 SpellsOption (Some text) (Some d) = Spells 2 text d
 SpellsOption _ _ = ⊥
 
--- a value that is left out where that is the same
+-- a text of a value with fewer levels than allowed
 pub deeper : (m n : ℕ) (text : List ℕ) (d : Data) → m ≤ n → Spells m text d → Spells n text d
 deeper m n text d few spells = record {
   text_is = spells.text_is;
@@ -87,7 +87,7 @@ deeper m n text d few spells = record {
   pair = spells.pair;
 }
 
--- keys with their values; each key stands for itself
+-- keys with their values, where each key is written without quotes
 abbrev pub SpellFields : List Field → List Pair → Type 0
 SpellFields [] [] = Unit {0}
 SpellFields [] (p ∷ ps) = ⊥

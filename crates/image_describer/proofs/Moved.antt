@@ -42,7 +42,7 @@ module _ (at : ℕ → ℕ) where
       IfSome (named (moved_capability at c)) IsWide
   named_moved on c h = grind (arith, nat_tests)
 
-  -- those that may be absent
+  -- capabilities that may be absent
   pub held_moved : (o : Option Capability) → unwrap_or (moved_held at o) Void ≡ moved_capability at (unwrap_or o Void)
   held_moved None = refl
   held_moved (Some c) = refl
@@ -65,7 +65,7 @@ module _ (at : ℕ → ℕ) where
       let same : moved_capability at c ≡ Void = ap (λ (p : Option Capability). unwrap_or p Void) is in
       h (ap (λ (d : Capability). Some d) (void_moved c same))
 
-  -- those of slots
+  -- the capabilities of slots
   pub indexes_moved : (es : List SlotEntry) → map (λ s. s.index) (map (moved_slot at) es) ≡ map (λ s. s.index) es
   indexes_moved [] = refl
   indexes_moved (e ∷ es) = ap (λ (ns : List ℕ). e.index ∷ ns) (indexes_moved es)

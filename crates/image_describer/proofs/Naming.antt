@@ -13,7 +13,7 @@ module _ {E V : Type 0} (index : E → ℕ) (value : E → V) (default : V) wher
   first_before [] e i differ = first_beyond index value default e [] i differ
   first_before (f ∷ es) e i differ = grind (arith, nat_tests, first_before es e i differ, first_there, first_beyond)
 
-  -- and names its index, which isn't named before
+  -- an entry at the end gives its index its value, if no earlier entry has this index
   first_last : (es : List E) (e : E) (i : ℕ) → All (λ f. index f < i) es → index e ≡ i →
       first_named index value default (es ++ e ∷ []) i ≡ value e
   first_last [] e i below is = first_there index value default e [] i is
@@ -28,7 +28,7 @@ module _ {E V : Type 0} (index : E → ℕ) (value : E → V) (default : V) wher
       let under : j < i = All-contains (λ n. n < i) _ j (All-map (λ n. n < i) index es below) there in
       absurd (omega (arith, under, le)))
 
-  -- the items before one are named
+  -- the items before an index have their entries
   pub record NamesBefore (xs : List V) (i : ℕ) (es : List E) : Type 0 where
     pub each : (j : ℕ) → j < i → first_named index value default es j ≡ slice_index_or xs j default
     pub some : All (λ e. value e ≢ default) es
@@ -36,12 +36,12 @@ module _ {E V : Type 0} (index : E → ℕ) (value : E → V) (default : V) wher
     pub within : All (λ e. index e < length xs) es
     pub rising : AreRising (map index es)
 
-  -- one at its default is left out
+  -- an item at its default gets no entry
   pub names_less : (xs : List V) (i : ℕ) (es : List E) → NamesBefore xs i es → slice_index_or xs i default ≡ default →
       NamesBefore xs (i + 1) es
   names_less xs i es names is = grind (arith, nat_tests, first_above, All-weaker)
 
-  -- another is named
+  -- another item gets an entry
   pub names_more : (xs : List V) (i : ℕ) (es : List E) (e : E) → NamesBefore xs i es → i < length xs → index e ≡ i →
       value e ≡ slice_index_or xs i default → value e ≢ default
       → NamesBefore xs (i + 1) (es ++ e ∷ [])
@@ -63,7 +63,7 @@ module _ {E V : Type 0} (index : E → ℕ) (value : E → V) (default : V) wher
         es names.below)));
   }
 
-  -- the next one is named or left out
+  -- the next item gets an entry, or none
   pub names_next : (xs : List V) (i : ℕ) (es next : List E) (o : Option E) (x : V) → NamesBefore xs i es → i < length xs →
       x ≡ slice_index_or xs i default → MayName index value default i x o
       → next ≡ es ++ option_to_list o → NamesBefore xs (i + 1) next
@@ -75,7 +75,7 @@ module _ {E V : Type 0} (index : E → ℕ) (value : E → V) (default : V) wher
   pub names_all : (xs : List V) (i : ℕ) (es : List E) → length xs ≤ i → NamesBefore xs i es → Names index value default xs es
   names_all xs i es done names = grind (arith, nat_tests, first_above, get_or_past)
 
-  -- an entry has what is at its index
+  -- an entry has the item at its index as its value
   pub named_is : (xs : List V) (es : List E) (e : E) → Names index value default xs es → Contains es e →
       value e ≡ slice_index_or xs (index e) default
   named_is xs es e names there = sym (first_of index value default es e (rising_distinct (map index es) names.rising) there)

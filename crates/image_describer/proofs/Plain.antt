@@ -22,7 +22,7 @@ no_calls os n = ap (λ (h : ObjectHeader). h.calls) (header_plain os n)
 no_count : (os : List Object) (c : Capability) → current_count (headers (plain_frames os)) c ≡ 0
 no_count os c = grind (arith, nat_tests, no_allocations, no_calls)
 
--- so each capability conveys what it is
+-- so each capability conveys itself
 conveyed_plain : (os : List Object) (c : Capability) → conveyed (headers (plain_frames os)) (fresh_cap c) ≡ c
 conveyed_plain os c = ap (λ (n : ℕ). if nat_lt 0 n then Void else c) (no_count os c)
 

@@ -19,13 +19,13 @@ pub falsely : (a : Bool) → IsTrue (not a) → a ≡ false
 falsely true is = sym is
 falsely false is = refl
 
--- a value is put at a key, where there is one
+-- a value is put at a key, if there is one
 pub record Puts (key : List ℕ) (o : Option Data) (old new : Members) : Type 0 where
   pub found : get_member key old ≡ None → get_member key new ≡ o
   pub others : (k : List ℕ) → same_key k key ≡ false → get_member k new ≡ get_member k old
   pub only : (keys : List (List ℕ)) → IsTrue (list_any (same_key key) keys) → IsTrue (has_only keys old) → IsTrue (has_only keys new)
 
--- what a table has at a key is what its nodes have there
+-- the value at a key of a table is that of its nodes
 member_here : (o : Ordering) (d : Option Data) (x : Node) (m : Option Node) → d ≡ option_map close_node m
     → match_ordering o d (Some (close_node x)) d ≡ option_map close_node (if is_eq o then Some x else m)
 member_here Equal d x m is = refl
@@ -43,7 +43,7 @@ none_mapped (Some x) is = absurd cc
 pub no_node : (k : List ℕ) (ns : Nodes) → get_member k (close ns) ≡ None → get_node k ns ≡ None
 no_node k ns none = none_mapped (get_node k ns) (sym (member_of k ns) ∙ none)
 
--- another key is sought further on
+-- the search for another key goes on
 skipped : (o : Ordering) (x y : Option Data) → is_eq o ≡ false → match_ordering o y x y ≡ y
 skipped Equal x y other = absurd cc
 skipped o x y other = refl
@@ -51,7 +51,7 @@ skipped o x y other = refl
 first_other : (j l : List ℕ) (d : Data) (ms : Members) → same_key j l ≡ false → get_member j (member l d ms) ≡ get_member j ms
 first_other j l d ms other = skipped (slice_cmp nat_cmp j l) (Some d) (get_member j ms) other
 
--- other keys have what they had
+-- other keys keep their values
 other_at : (j : List ℕ) (o : Ordering) (k l : List ℕ) (x y : Node) (ns next : Nodes) → o ≡ slice_cmp nat_cmp k l → same_key j k ≡ false
     → get_member j (close next) ≡ get_member j (close ns)
     → get_member j (close (match_ordering o (node k x (node l y ns)) (node l x ns) (node l y next))) ≡ get_member j (close (node l y ns))
@@ -63,7 +63,7 @@ inserted_other j k x no_nodes other = first_other j k (close_node x) no_members 
 inserted_other j k x (node l y ns) other = other_at j (slice_cmp nat_cmp k l) k l x y ns (insert k x ns) refl other
     (inserted_other j k x ns other)
 
--- the keys are among those that are known
+-- all keys are among the known ones
 only_at : (keys : List (List ℕ)) (o : Ordering) (k l : List ℕ) (x y : Node) (ns next : Nodes) → IsTrue (list_any (same_key k) keys)
     → IsTrue (has_only keys (close (node l y ns))) → IsTrue (has_only keys (close next))
     → IsTrue (has_only keys (close (match_ordering o (node k x (node l y ns)) (node l x ns) (node l y next))))
@@ -76,7 +76,7 @@ inserted_only : (keys : List (List ℕ)) (k : List ℕ) (x : Node) (ns : Nodes) 
 inserted_only keys k x no_nodes known all = both_true known refl
 inserted_only keys k x (node l y ns) known all = only_at keys _ k l x y ns _ known all (inserted_only keys k x ns known (right _ _ all))
 
--- a node that is inserted is put, and nothing is where there is none
+-- inserting a node puts its value; without a node nothing is put
 pub puts_inserted : (k : List ℕ) (x : Node) (ns : Nodes) → Puts k (Some (close_node x)) (close ns) (close (insert k x ns))
 puts_inserted k x ns = record {
   found = λ none. member_of k (insert k x ns) ∙ ap (option_map close_node) (get_node-insert k x ns);

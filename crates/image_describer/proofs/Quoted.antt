@@ -60,7 +60,7 @@ same_escaped quotes (c ∷ cs) safe =
       | inr none ↦ let never : false ≡ true = rw none at safe in absurd cc
     ]
 
--- such a text stands in quotes
+-- such a text is written in quotes
 string_safe : (text : List ℕ) → are_safe text ≡ true → string_text text ≡ quoted text
 unfolding string_text encoding_of
 string_safe text safe = rw (

@@ -36,7 +36,7 @@ parsed es text n s is printed ran =
     let read = read_lines false false es text text (no_nodes, []) (suc (length text)) is printed refl (omega arith) in
     document_some text (n, s) (rw (no_skip text (not_bom false es text is printed)) (read ∙ ran))
 
--- parts of a text, one after the other
+-- the parts of a text, joined
 joined : (a b c d e : List ℕ) → a ++ (b ++ (c ++ (d ++ (e ++ [])))) ≡ a ++ b ++ c ++ d ++ e
 joined a b c d e = ap (λ (t : List ℕ). a ++ (b ++ (c ++ (d ++ t)))) (append-nil e)
     ∙ sym (append_assoc _ d e ∙ append_assoc _ c _ ∙ append_assoc a b _)
@@ -108,7 +108,7 @@ module _ (d : Description) (fields : HasFields d) (may : CanBeSpelled d) where
   pages_may : ByRecursion SpellsPage d.pages.items
   pages_may = recursion_from_All SpellsPage d.pages.items may.pages
 
-  -- their text
+  -- the texts of the keys
   bare_bank : key_text (codes "bank") ≡ codes "bank"
   bare_bank = bare (codes "bank") refl
 
@@ -174,7 +174,7 @@ module _ (d : Description) (fields : HasFields d) (may : CanBeSpelled d) where
       (append_printed page_lines [] (printed_tables page_pairs page_fields page_text (codes "page") bare_page page_is d.pages.items
       page_fields_all) tt))))
 
-  -- what the reader has in the end
+  -- the state of the reader at the end
   ran : (n : Nodes) × (s : List (List ℕ)) × (run (no_nodes, []) all_lines ≡ Some (n, s)) × IsDescription (close n) d
   unfolding along_header
   ran =

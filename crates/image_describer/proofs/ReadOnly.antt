@@ -7,7 +7,7 @@ use Rattle.model.specs.declared.object.Content.TheVariants as content
 use Rattle.model.specs.declared.answer.Refusal.TheVariants as refusal
 
 module _ {S : Type 0} {parts : S → Parts} {Continues : S → S → Type 0} {s t : S} where
-  -- a call that ended well looked, and one that failed is passed on
+  -- a read that succeeded, and one whose failure is passed on
   pub looked_once : {T : Type 0} {x : T} → OnlyReads parts Continues s t (let r : Result T Refusal = Ok x in r) →
       HasLooked parts Continues s t
   looked_once reads = record { same = reads.same; continues = reads.snapshots.continues }

@@ -3,7 +3,7 @@ use Rattle.image_describer.proofs.Names.{nat_tests, ℕ, inl, inr, List, [], map
 use Rattle.image_describer.proofs.Names.{Contains-append_cases, AreDistinct, contains_here, contains_map, contains_there, map_contains, AreRising}
 use Rattle.std.proofs.Common.{◌≡◌, ◌<◌, ◌∷◌, ◌++◌}
 
--- one more, above all
+-- appending a number that is greater than all
 pub rising_more : (ns : List ℕ) (n : ℕ) → AreRising ns → All (λ m. m < n) ns → AreRising (ns ++ n ∷ [])
 rising_more [] n rising below = ((λ k d inside. absurd (omega (arith, inside))), tt)
 rising_more (m ∷ ns) n rising below = (
@@ -11,7 +11,7 @@ rising_more (m ∷ ns) n rising below = (
   rising_more ns n rising.1 (All-tail (λ x. x < n) m ns below),
 )
 
--- none comes twice
+-- no number occurs twice
 pub rising_distinct : (ns : List ℕ) → AreRising ns → AreDistinct ns
 rising_distinct [] rising = tt
 rising_distinct (n ∷ ns) rising = grind (arith, nat_tests, rising_distinct ns rising.1, All-contains)
@@ -28,7 +28,7 @@ distinct_both (n ∷ ns) ms one other apart = (
   distinct_both ns ms one.1 other (λ m left right. apart m (contains_there m n ns left) right),
 )
 
--- nor in other numbers of the same things, where two with the same have the same first number
+-- nor does another number of the same items, if items that share it have the same first number
 pub distinct_other : {E : Type 0} → (first second : E → ℕ) (es : List E) → AreDistinct (map first es)
     → ((e f : E) → Contains es e → Contains es f → second e ≡ second f → first e ≡ first f) → AreDistinct (map second es)
 distinct_other first second [] distinct same = tt
@@ -40,6 +40,6 @@ distinct_other first second (e ∷ es) distinct same = (
   distinct_other first second es distinct.1 (λ f h left right is. same f h (contains_there f e es left) (contains_there h e es right) is),
 )
 
--- lists share no number if one has a kind that the other hasn't
+-- two lists have no common number if the numbers of only one have a property
 pub apart_by : (P : ℕ → Type 0) (ns ms : List ℕ) → All (λ n. P n → ⊥) ns → All P ms → (n : ℕ) → Contains ns n → Contains ms n → ⊥
 apart_by P ns ms none all n left right = All-contains (λ m. P m → ⊥) ns n none left (All-contains P ms n all right)

@@ -15,7 +15,7 @@ use Rattle.model.specs.declared.object.Content.TheVariants as content
 use Rattle.model.specs.declared.object.Role.TheVariants as role
 use Rattle.image_describer.proofs.Plain.{sound_plain}
 
--- what can be held names a number of 64 bits
+-- a capability that may be held names a number of 64 bits
 follows_wide : (g : Geometry) (age count : ℕ) (c : Capability) → Follows g age count c → IfSome (named c) IsWide
 follows_wide g age count c h = grind (arith, nat_tests)
 
@@ -83,7 +83,7 @@ module _ (p : Plan) (plan : IsPlan p) (age : ℕ) (fs : List Frame) (d : Descrip
   numbers_few : object_count g ≤ 8192
   numbers_few = omega (arith, plan.geometry.most_nodes, plan.geometry.most_pages)
 
-  -- a frame that is described can be kept, and its owner is a bank
+  -- a described frame may be kept, and its owner is a bank
   module _ (n owner : ℕ) (c : Content Cap) (is : frame_at (plain_frames os) n ≡ first_frame owner c) where
     kept : n < object_count g → MayBeKept g age c
     kept inside = (subst (IsKeepable g age n) is (plain.keepable.each n inside)).kept.content

@@ -8,7 +8,7 @@ use Rattle.model.specs.declared.object.Role.TheVariants as role
 use Rattle.image_describer.proofs.Rising.{rising_more}
 
 module _ {E : Type 0} (number : E → ℕ) (Tells : E → Type 0) (kind : Role) (os : List Object) where
-  -- those below a number are described
+  -- the objects below a number are described
   pub record TellBelow (count : ℕ) (es : List E) : Type 0 where
     pub each : All Tells es
     pub whole : (n : ℕ) → n < count → role_of (content_at os n) ≡ kind → Contains (map number es) n
@@ -22,7 +22,7 @@ module _ {E : Type 0} (number : E → ℕ) (Tells : E → Type 0) (kind : Role) 
   pub tell_less : (count : ℕ) (es : List E) → TellBelow count es → role_of (content_at os count) ≢ kind → TellBelow (count + 1) es
   tell_less count es tell other = grind (arith, nat_tests, All-weaker)
 
-  -- one of this kind has an entry
+  -- one more object of this kind has an entry
   pub tell_more : (count : ℕ) (es : List E) (e : E) → TellBelow count es → number e ≡ count → Tells e → TellBelow (count + 1) (es ++ e ∷ [])
   tell_more count es e tell at entry_of = record {
     each = All-push Tells es e tell.each entry_of;

@@ -226,7 +226,7 @@ range_is r n count is =
 whole_is : (g : Geometry) (rs : List NumberRange) → are_whole g rs ≡ true → rs ≡ whole_ranges g
 whole_is g rs is = grind (arith, nat_tests, range_is, left, right)
 
--- as the code tests them
+-- two ranges, as the code tests them
 two_ranges : (g : Geometry) (rs : List NumberRange) (x : NumberRange) → 2 ≤ length rs → length rs < 3 →
     are_whole g rs ≡ (is_range (get_or rs 0 x) 0 g.nodes && is_range (get_or rs 1 x) g.nodes g.pages)
 two_ranges g (n ∷ p ∷ []) x least most = refl

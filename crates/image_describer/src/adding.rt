@@ -1,9 +1,9 @@
-// Lists that grow by one entry at a time.
+// Appending an optional entry to a list.
 ghost use Rattle.std.specs.Prelude.{◌≡◌, ◌++◌, OnOk, option_to_list};
 
 use std::alloc::AllocError;
 
-/// Adds an entry, if there is one. Fails only where memory runs out.
+/// Appends an entry, if there is one. Fails only if memory runs out.
 pub(crate) fn add<E: Drop>(entries: &mut Vec<E>, entry: Option<E>) -> Result<(), AllocError>
     ensures { OnOk result (entries.new.items ≡ entries.old.items ++ option_to_list entry) }
 {

@@ -1,4 +1,4 @@
-// The description of all objects.
+// Describing all objects of a store.
 ghost use Rattle.std.specs.Prelude.{◌≡◌, [], IfOk, OnOk};
 ghost use Rattle.layout.specs.Superblock.{version_number};
 ghost use Rattle.model.specs.Keepable.{IsSoundFrames, world_at};
@@ -16,8 +16,8 @@ use layout::Version;
 use model::Refusal;
 use std::alloc::Global;
 
-// Describes all objects of a kind, in order. It is `Fault` exactly if the device failed; so is
-// the one below.
+// Appends entries for all objects of a kind, in order. This and `tell_objects` return `Fault` exactly if the device
+// failed.
 fn tell_all<F: Frames, E: DescribedEntry>(
     alloc: Global,
     store: &mut F,
@@ -37,7 +37,7 @@ fn tell_all<F: Frames, E: DescribedEntry>(
     Ok(())
 }
 
-// Describes all objects in a description that has none yet.
+// Adds entries for all objects to a description that has none yet.
 fn tell_objects<F: Frames>(
     alloc: Global,
     store: &mut F,
@@ -56,12 +56,11 @@ fn tell_objects<F: Frames>(
     tell_all(alloc, store, &mut description.pages)
 }
 
-/// The description of the objects of a store, which are sound at an age, with these home ranges
-/// and by this version of the layout: the state of each object in use, by rising numbers. It names
-/// no slot that is void or stale, and no word that is 0. An image built from it has the same
-/// objects, with counts of 0.
+/// Returns the description of the objects of a store, which must be sound at this age, with these home ranges and
+/// this version of the layout. It has an entry for each object in use, in rising order, without slots that are void
+/// or stale and without words that are 0. An image built from it has the same objects, with counts of 0.
 ///
-/// `NoMemory` where memory ran out, and `Fault` exactly if the device failed. No object changes.
+/// Returns `NoMemory` if memory ran out, and `Fault` exactly if the device failed. No object changes.
 pub fn describe<F: Frames>(
     alloc: Global,
     store: &mut F,

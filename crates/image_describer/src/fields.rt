@@ -1,4 +1,4 @@
-// The keys of a description with their values. Each call fails only where memory runs out.
+// Writing the keys of a description with their values. Each function that writes fails only if memory runs out.
 ghost use Rattle.std.specs.Prelude.{◌≡◌, ◌++◌, ◌==◌, Some, OnOk, decimal, string_bytes};
 ghost use Rattle.std.specs.List.{All, list_all};
 ghost use Rattle.description.specs.Described.{IsSpaceEntry};
@@ -9,7 +9,7 @@ use crate::values::{Item, put_capability, put_items, put_wide, state_word};
 use model::{Capability, State};
 use std::alloc::AllocError;
 
-/// Writes the line that begins an object, after an empty one.
+/// Writes an empty line and the line that begins an object.
 pub(crate) fn put_header(text: &mut String, name: &str) -> Result<(), AllocError>
     ensures { OnOk result (string_bytes text.new ≡ string_bytes text.old ++ begin_line name.now) }
 {
@@ -24,7 +24,7 @@ pub(crate) fn put_number(text: &mut String, key: &str, number: u64) -> Result<()
     writeln!(text, "{key} = {number}")
 }
 
-/// Writes a key and a number, unless it is the default.
+/// Writes a key and a number, unless the number is the default.
 pub(crate) fn put_number_unless(
     text: &mut String,
     key: &str,
@@ -71,7 +71,7 @@ pub(crate) fn put_list<T: Item>(text: &mut String, key: &str, items: &[T]) -> Re
     text.push_str("\n")
 }
 
-/// Writes a key and a list, unless it is empty.
+/// Writes a key and a list, unless the list is empty.
 pub(crate) fn put_list_unless_empty<T: Item>(
     text: &mut String,
     key: &str,
@@ -107,7 +107,7 @@ pub(crate) fn put_words(text: &mut String, key: &str, words: &[u64; 4]) -> Resul
     }
 }
 
-/// Writes a key and an address space, unless it is void.
+/// Writes a key and an address space, unless the space is void.
 pub(crate) fn put_space(
     text: &mut String,
     key: &str,

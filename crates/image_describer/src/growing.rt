@@ -1,4 +1,4 @@
-// A description, renumbered for an image of other sizes.
+// Renumbering a description for an image of other sizes.
 ghost use Rattle.std.specs.Prelude.{◌≡◌, ◌≢◌, ℕ, ◌+◌, ◌≤◌, ◌<◌, ◌↔◌, ◌==◌, ◌&&◌, map, vec_capacity, IfErr, IsErrOf};
 ghost use Rattle.std.specs.Prelude.{IsTrue, OnErr, OnOk};
 ghost use Rattle.std.specs.List.{All, AllZip};
@@ -16,7 +16,7 @@ use layout::Version;
 use model::{Capability, Geometry};
 use std::alloc::{AllocError, Global};
 
-// The number of an object in an image of other sizes.
+// Returns the number of an object in an image of other sizes.
 fn moved(old: Geometry, new: Geometry, number: u64) -> u64
     requires old { object_count old ≤ 8192 }
     requires new { new.nodes ≤ 4096 }
@@ -29,7 +29,7 @@ fn moved(old: Geometry, new: Geometry, number: u64) -> u64
     }
 }
 
-// A capability that names the object at its number there.
+// Returns a capability to the same object in an image of other sizes.
 fn moved_capability(old: Geometry, new: Geometry, capability: Capability) -> Capability
     requires old { object_count old ≤ 8192 }
     requires new { new.nodes ≤ 4096 }
@@ -66,7 +66,7 @@ fn moved_capability(old: Geometry, new: Geometry, capability: Capability) -> Cap
     }
 }
 
-// The same of a capability that may be absent.
+// Returns the same for a capability that may be absent.
 fn moved_held(old: Geometry, new: Geometry, capability: Option<Capability>) -> Option<Capability>
     requires old { object_count old ≤ 8192 }
     requires new { new.nodes ≤ 4096 }
@@ -78,12 +78,12 @@ fn moved_held(old: Geometry, new: Geometry, capability: Option<Capability>) -> O
     }
 }
 
-// An entry that is renumbered.
+// An entry that can be renumbered.
 trait Renumbered {
-    /// What it becomes, by the new number of each object.
+    /// How the entry is renumbered, where the function gives the new number of each object.
     ghost IsMoved: { (ℕ → ℕ) → Self → Self → Type 0 };
 
-    /// Renumbers it, or the capabilities that it holds.
+    /// Renumbers the entry, or the capabilities that it holds.
     fn renumber(&mut self, old: Geometry, new: Geometry)
         requires old { object_count old ≤ 8192 }
         requires new { new.nodes ≤ 4096 }
@@ -143,7 +143,7 @@ impl Renumbered for PageEntry {
     }
 }
 
-// Whether banks, processes and nodes have numbers below a count.
+// Whether the numbers of banks, processes and nodes are below a count.
 fn names_nodes(count: u64, description: &Description) -> bool
     ensures { IsTrue result ↔ NamesNodes count description.now }
 {
@@ -155,7 +155,7 @@ fn names_nodes(count: u64, description: &Description) -> bool
         && description.nodes.iter().all(|node| node.number < count)
 }
 
-// Whether pages have numbers in an image of other sizes.
+// Whether the numbers of pages exist in an image of other sizes.
 fn names_pages(new: Geometry, description: &Description) -> bool
     requires old { object_count description.now.geometry ≤ 8192 }
     requires new { object_count new ≤ 8192 }
@@ -170,7 +170,7 @@ fn names_pages(new: Geometry, description: &Description) -> bool
         .all(|page| moved(old, new, page.number) < end)
 }
 
-// Two home ranges: all nodes, and all pages.
+// Returns two home ranges: all nodes, and all pages.
 fn whole_ranges(geometry: Geometry) -> [NumberRange; 2]
     ensures { result ≡ whole_ranges geometry }
 {
@@ -186,14 +186,14 @@ fn whole_ranges(geometry: Geometry) -> [NumberRange; 2]
     ]
 }
 
-// Whether an image of other sizes has as many nodes and as many pages.
+// Whether two images have the same numbers of nodes and pages.
 fn has_as_many(old: Geometry, new: Geometry) -> bool
     ensures { result ≡ (old.nodes == new.nodes && old.pages == new.pages) }
 {
     old.nodes == new.nodes && old.pages == new.pages
 }
 
-// The home ranges of an image of other sizes: the old ones, or `whole`.
+// Returns the home ranges of an image of other sizes: the old ones if they fit, else `whole`.
 fn ranges_for<'a>(
     old: Geometry,
     new: Geometry,
@@ -206,7 +206,7 @@ fn ranges_for<'a>(
     if has_as_many(old, new) { ranges } else { whole }
 }
 
-// Puts the two whole ranges in the place of others. There is memory for two.
+// Replaces the ranges by that of all nodes and that of all pages. There must be memory for two.
 fn put_whole(geometry: Geometry, ranges: &mut Vec<NumberRange>)
     requires { 2 ≤ vec_capacity ranges.old }
     ensures { ranges.new.items ≡ whole_ranges geometry }
@@ -215,7 +215,7 @@ fn put_whole(geometry: Geometry, ranges: &mut Vec<NumberRange>)
     let _ = ranges.extend_from_slice(&whole_ranges(geometry));
 }
 
-// Makes memory for two ranges, if there isn't enough. What the ranges were may be lost.
+// Makes sure that there is memory for two ranges. The ranges themselves may be lost.
 fn make_room(alloc: Global, ranges: &mut Vec<NumberRange>) -> Result<(), AllocError>
     ensures ok { OnOk result (2 ≤ vec_capacity ranges.new) }
     ensures same { OnErr result (ranges.new ≡ ranges.old) }
@@ -228,8 +228,8 @@ fn make_room(alloc: Global, ranges: &mut Vec<NumberRange>) -> Result<(), AllocEr
     Ok(())
 }
 
-// Puts the home ranges of an image of other sizes in the place of the old ones. It needs more memory only if that of
-// the old ones isn't enough for two.
+// Replaces the home ranges by those for an image of other sizes. It needs memory only if the old ranges have none for
+// two.
 fn set_ranges(
     alloc: Global,
     old: Geometry,
@@ -260,7 +260,7 @@ fn check_sizes(description: &Description, new: Geometry) -> Result<(), GrowthFau
 {
     let whole = whole_ranges(new);
     let ranges = ranges_for(description.geometry, new, &description.ranges, &whole);
-    // What may be laid out in one version may be in each.
+    // Ranges that can be laid out in one version can be laid out in each.
     if let None = lay_out(Version::NEWEST, new, ranges) {
         return Err(GrowthFault::Limits);
     }
@@ -273,15 +273,16 @@ fn check_sizes(description: &Description, new: Geometry) -> Result<(), GrowthFau
     Ok(())
 }
 
-/// Renumbers a description for an image of other sizes. Nodes keep their numbers. The number of a page
-/// moves with the number of nodes: as an object, and in each capability. Home ranges stay if the
-/// numbers of nodes and pages do. Otherwise they are one of all nodes and one of all pages.
+/// Renumbers a description for an image of other sizes. Nodes keep their numbers. If the number of nodes changes, the
+/// number of each page changes by as much: that of the object, and in each capability to it. If the numbers of nodes
+/// and pages stay, the home ranges stay too. Otherwise they become one of all nodes and one of all pages.
 ///
-/// Errors, the least first; then nothing has changed:
-/// - `Limits` if no image has these sizes;
-/// - `Nodes` if a bank, a process or a node has no number there;
-/// - `Pages` if a page has none;
-/// - `NoMemory` if memory ran out. It needs memory only if that of the old home ranges isn't enough for two.
+/// Returns the first of these errors that holds, and then changes nothing:
+///
+/// - `Limits` if no image may have these sizes;
+/// - `Nodes` if the number of a bank, a process or a node is beyond the new number of nodes;
+/// - `Pages` if the number of a page doesn't exist in such an image;
+/// - `NoMemory` if memory ran out. It needs memory only if the old home ranges have none for two.
 pub fn grow(
     alloc: Global,
     description: &mut Description,

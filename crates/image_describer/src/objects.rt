@@ -1,4 +1,4 @@
-// One object after another, as a description names it.
+// The entries of single objects.
 ghost use Rattle.std.specs.Prelude.{◌≡◌, ◌≢◌, ◌↔◌, ℕ, ◌<◌, List, length, IfOk, IsTrue};
 ghost use Rattle.std.proofs.Common.{rules};
 ghost use Rattle.model.specs.declared.object.Object.{Object};
@@ -16,7 +16,7 @@ use description::{BankEntry, NodeEntry, PageEntry, ProcessEntry, SlotEntry};
 use model::{Content, Object, Refusal, Role};
 use std::alloc::Global;
 
-// Whether an object is of a kind, by the table of headers. Nothing is fetched.
+// Whether an object is of a kind, according to the table of headers. Fetches nothing.
 fn has_role<F: Frames>(store: &F, number: u64, role: Role) -> bool
     requires { HaveTheirRoles (frames_of (F.parts store.now)) }
     ensures { IsTrue result
@@ -25,7 +25,7 @@ fn has_role<F: Frames>(store: &F, number: u64, role: Role) -> bool
     store.table().header(number).role == role
 }
 
-// An object, fetched, its stale capabilities void.
+// Fetches an object, and returns it with its stale capabilities void.
 fn object<F: Frames>(alloc: Global, store: &mut F, number: u64) -> Result<Object, Refusal>
     requires usable { F.IsUsable store.old }
     requires sound { AreSound (F.parts store.old) }
@@ -38,7 +38,7 @@ fn object<F: Frames>(alloc: Global, store: &mut F, number: u64) -> Result<Object
     Ok(view::object(alloc, store, number)?)
 }
 
-// The registers of a process that aren't void, by its annex, which is fetched.
+// Fetches an annex, and returns those of its registers that aren't void.
 fn registers<F: Frames>(alloc: Global, store: &mut F, annex: u64) -> Result<Vec<SlotEntry>, Refusal>
     requires usable { F.IsUsable store.old }
     requires sound { AreSound (F.parts store.old) }
@@ -55,16 +55,16 @@ fn registers<F: Frames>(alloc: Global, store: &mut F, annex: u64) -> Result<Vec<
 
 /// An entry that describes an object of a kind.
 pub(crate) trait DescribedEntry: Drop {
-    /// The number of the object.
+    /// The number of the entry's object.
     ghost number_of: { Self → ℕ };
 
-    /// It is what the entry says, of these.
+    /// Whether the entry describes its object in this list.
     ghost Tells: { List Object → Self → Type 0 };
 
     ghost kind: { Role };
 
-    /// The entry for a number, or nothing where no object of this kind is there. It is `Fault`
-    /// exactly if the device failed.
+    /// Returns the entry for a number, or `None` if it has no object of this kind. Returns `Fault` exactly if the
+    /// device failed.
     fn entry_of<F: Frames>(
         alloc: Global,
         store: &mut F,
@@ -77,7 +77,7 @@ pub(crate) trait DescribedEntry: Drop {
             IfOk result (MayTell number_of (Tells objects) kind objects number) }
         ensures only_reads { OnlyReads F.parts F.ContinuesTo store.old store.new result };
 
-    /// A free object has no entry.
+    /// The kind isn't `Free`: a free number has no entry.
     ghost is_kept: { kind ≢ role.Free };
 }
 
@@ -110,7 +110,7 @@ impl DescribedEntry for BankEntry {
     }
 }
 
-// The entry of a process has the number of its root, and the registers of its annex.
+// The entry of a process has the root's number, and the registers of the annex.
 impl DescribedEntry for ProcessEntry {
     ghost number_of = { λ p. p.root };
 

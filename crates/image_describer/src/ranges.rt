@@ -1,4 +1,4 @@
-// The home ranges of an image, as a description names them.
+// The home ranges of an image, in the form of a description.
 ghost use Rattle.std.specs.Prelude.{◌≡◌, map, IfOk};
 ghost use Rattle.home_ranges.specs.Laid.{MayBeLaid, numbers_of};
 
@@ -6,7 +6,7 @@ use home_ranges::NumberRange;
 use layout::{HomeRange, Superblock};
 use std::alloc::{AllocError, Global};
 
-// The numbers of ranges, wherever they lie.
+// Returns the numbers in these ranges, without their sectors.
 fn collected(alloc: Global, homes: &[HomeRange]) -> Result<Vec<NumberRange>, AllocError>
     ensures { IfOk result (λ ranges. ranges.items ≡ map numbers_of homes.now) }
 {
@@ -19,8 +19,8 @@ fn collected(alloc: Global, homes: &[HomeRange]) -> Result<Vec<NumberRange>, All
         .collect(alloc)
 }
 
-/// The home ranges of an image, as a description names them: an image may have them again. Fails
-/// only where memory runs out.
+/// Returns the home ranges of an image, in the form of a description, so that another image can have the same. Fails
+/// only if memory runs out.
 pub fn ranges_of(alloc: Global, superblock: &Superblock) -> Result<Vec<NumberRange>, AllocError>
     ensures ranges { IfOk result (λ ranges.
         ranges.items ≡ map numbers_of superblock.now.ranges) }

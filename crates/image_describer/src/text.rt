@@ -1,4 +1,4 @@
-// The text of a description. Each call fails only where memory runs out.
+// Writing the text of a description. Each function that writes fails only if memory runs out.
 ghost use Rattle.std.specs.Prelude.{◌≡◌, ℕ, ◌++◌, List, Some, IfOk, OnOk, codes, string_bytes};
 ghost use Rattle.std.specs.List.{All, flat_map};
 ghost use Rattle.toml.specs.Data.{Members};
@@ -19,15 +19,15 @@ use home_ranges::NumberRange;
 use model::Geometry;
 use std::alloc::{AllocError, Global};
 
-/// An object with its lines.
+/// An entry that is written as lines.
 trait Lines {
-    /// The lines.
+    /// The lines of the entry.
     ghost text_of: { Self → List ℕ };
 
-    /// They can be written.
+    /// Whether the entry can be written.
     ghost MayBePut: { Self → Type 0 };
 
-    /// Writes them.
+    /// Writes the lines of the entry.
     fn put(&self, text: &mut String) -> Result<(), AllocError>
         requires { MayBePut self.now }
         ensures { OnOk result (string_bytes text.new ≡ string_bytes text.old ++ text_of self.now) };
@@ -94,14 +94,14 @@ impl Lines for PageEntry {
     }
 }
 
-// Whether a range is this one.
+// Whether a range has this first number and this count.
 fn is_range(range: &NumberRange, first: u64, count: u64) -> bool
     ensures { result ≡ is_range range.now first count }
 {
     range.first == first && range.count == count
 }
 
-// Whether ranges are one of all nodes and one of all pages.
+// Whether the ranges are that of all nodes and that of all pages.
 #[tactic(auto, using(crate::proofs::Written::second_range))]
 fn are_whole(geometry: Geometry, ranges: &[NumberRange]) -> bool
     ensures { result ≡ are_whole geometry ranges.now }
@@ -114,7 +114,7 @@ fn are_whole(geometry: Geometry, ranges: &[NumberRange]) -> bool
     }
 }
 
-// Writes the ranges, unless they are those.
+// Writes the ranges, unless they are that of all nodes and that of all pages.
 fn put_ranges(
     text: &mut String,
     geometry: Geometry,
@@ -130,7 +130,7 @@ fn put_ranges(
     }
 }
 
-// Writes the keys of the image.
+// Writes the keys that are about the whole image.
 fn put_image(text: &mut String, description: &Description) -> Result<(), AllocError>
     ensures { OnOk result (string_bytes text.new
         ≡ string_bytes text.old ++ field_lines (image_fields description.now)) }
@@ -144,7 +144,7 @@ fn put_image(text: &mut String, description: &Description) -> Result<(), AllocEr
     put_ranges(text, geometry, &description.ranges)
 }
 
-// Writes objects of a kind.
+// Writes all entries of a kind.
 fn put_all<T: Lines>(text: &mut String, entries: &[T]) -> Result<(), AllocError>
     requires { All T.MayBePut entries.now }
     ensures { OnOk result
@@ -156,7 +156,7 @@ fn put_all<T: Lines>(text: &mut String, entries: &[T]) -> Result<(), AllocError>
     Ok(())
 }
 
-// Writes the whole.
+// Writes the whole description.
 #[tactic(auto, unfolding(crate::specs::Text::description_text))]
 fn put_description(text: &mut String, description: &Description) -> Result<(), AllocError>
     requires { HasFields description.now }
@@ -170,8 +170,8 @@ fn put_description(text: &mut String, description: &Description) -> Result<(), A
     put_all(text, &description.pages)
 }
 
-/// The text of a description, in TOML: each key once, in the order of the manual, and none that has
-/// its default. What is read from it is this description. Fails only where memory runs out.
+/// Returns the text of a description, in TOML: each key once, in the order of the manual; keys at their default are
+/// left out. Reading the text gives the same description. Fails only if memory runs out.
 pub fn text_of(alloc: Global, description: &Description) -> Result<String, AllocError>
     requires { HasFields description.now }
     ensures text { IfOk result (λ text. string_bytes text ≡ description_text description.now) }

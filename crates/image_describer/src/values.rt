@@ -1,4 +1,4 @@
-// The values of a description. Each call fails only where memory runs out.
+// Writing the values of a description. Each function that writes fails only if memory runs out.
 ghost use Rattle.std.specs.Prelude.{◌≡◌, ℕ, ◌++◌, List, OnOk, codes, string_bytes};
 ghost use Rattle.std.specs.List.{All, flat_map, join_by};
 ghost use Rattle.model.specs.Capability.{IsAccess, IsWellFormed};
@@ -11,7 +11,7 @@ use home_ranges::NumberRange;
 use model::{Access, Capability, State};
 use std::alloc::AllocError;
 
-// The word for an access, with the space before it.
+// Returns the word for an access, with a space before it; no text for full access.
 fn access_word(access: Access) -> &'static str
     requires { IsAccess access }
     ensures { result.now ≡ access_text access }
@@ -25,7 +25,7 @@ fn access_word(access: Access) -> &'static str
     }
 }
 
-// Writes a space.
+// Writes the capability to an address space.
 #[tactic(auto, using(std::proofs::Common::append_assoc), unfolding(model::specs::Text::capability_text))]
 fn put_space_text(
     text: &mut String,
@@ -72,7 +72,7 @@ pub(crate) fn put_capability(text: &mut String, capability: Capability) -> Resul
     }
 }
 
-/// The word for a state.
+/// Returns the word for a state.
 pub(crate) fn state_word(state: State) -> &'static str
     ensures { result.now ≡ state_text state }
 {
@@ -83,7 +83,7 @@ pub(crate) fn state_word(state: State) -> &'static str
     }
 }
 
-/// Writes a number, or from 2^63 on, where those of TOML end, the text of its capability.
+/// Writes a number. From 2^63 on, where TOML has no integers, writes the text of its number capability.
 #[tactic(auto, unfolding(model::specs::Text::capability_text))]
 pub(crate) fn put_wide(text: &mut String, number: u64) -> Result<(), AllocError>
     ensures { OnOk result (string_bytes text.new ≡ string_bytes text.old ++ wide_text number) }
@@ -97,13 +97,13 @@ pub(crate) fn put_wide(text: &mut String, number: u64) -> Result<(), AllocError>
 
 /// A value in a list.
 pub(crate) trait Item {
-    /// Its text.
+    /// The text of the value.
     ghost text_of: { Self → List ℕ };
 
-    /// It can be written.
+    /// Whether the value can be written.
     ghost MayBePut: { Self → Type 0 };
 
-    /// Writes it.
+    /// Writes the value.
     fn put(&self, text: &mut String) -> Result<(), AllocError>
         requires { MayBePut self.now }
         ensures { OnOk result (string_bytes text.new ≡ string_bytes text.old ++ text_of self.now) };

@@ -40,7 +40,7 @@ arrow_held os holder at c a holds h =
     let is : IsArrow os made = (holds, found.1) in
     subst (IsArrow os) found.2 is
 
--- where arrows begin
+-- the holder and the place of an arrow
 holder_is : (holder : ℕ) (at : Place) (c : Capability) (a : Arrow) → Contains (arrow_of holder at c) a →
     (a.holder ≡ holder) × (a.place ≡ at)
 holder_is holder at c a h =
@@ -81,7 +81,7 @@ process_holder p a h = elim (Contains-append_cases _ _ a h) [
   | inr register ↦ (slots_holder _ place.Register p.registers.items a register).0
 ]
 
--- whether it begins at a slot
+-- whether an arrow begins at a slot
 abbrev IsAtSlot : Place → Type 0
 IsAtSlot (place.Slot i) = Unit {0}
 IsAtSlot _ = ⊥
@@ -130,7 +130,7 @@ module _ (g : Geometry) (w : World) (d : Description) (describes : Describes g w
       let is = slots_holder other.0.number place.Slot other.0.slots.items a other.2 in
       not_at_slot one.0 a one.2 (rw is.2 tt))
 
-  -- what a process holds
+  -- the capabilities that a process holds
   root_is : (p : ProcessEntry) → Contains d.processes.items p → IsTrue (is_process w.objects p.root)
   root_is p there = ap (λ (o : Object). is_root o.content) (root_reported g w d describes p there).3
 
@@ -155,7 +155,7 @@ module _ (g : Geometry) (w : World) (d : Description) (describes : Describes g w
   node_is : (n : NodeEntry) → Contains d.nodes.items n → IsTrue (is_node (content_at w.objects n.number))
   node_is n there = ap (λ (o : Object). is_node o.content) (node_reported g w d describes n there).2
 
-  -- each arrow is held
+  -- each arrow belongs to a held capability
   of_process : (p : ProcessEntry) (a : Arrow) → Contains d.processes.items p → Contains (process_arrows p) a → IsArrow w.objects a
   of_process p a there h = elim (Contains-append_cases _ _ a h) [
     | inl space ↦ arrow_held _ p.root place.Space (unwrap_or p.space Void) a (root_is p there, space_is p there) space
@@ -212,7 +212,7 @@ module _ (g : Geometry) (w : World) (d : Description) (describes : Describes g w
     | inr blank ↦ absurd (not_both _ is (ap (λ (o : Object). is_node o.content) (free_reported g w d describes n blank)))
   ]
 
-  -- all that is held has its arrow
+  -- each held capability has its arrow
   abbrev HasArrow : ℕ → Place → Capability → ℕ → Type 0
   HasArrow holder at c target = Contains (arrows d) (record { holder = holder; place = at; capability = c; target = target })
 

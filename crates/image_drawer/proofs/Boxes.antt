@@ -11,7 +11,7 @@ use Rattle.image_drawer.proofs.Once.{contains_flat, flat_contains, once_append, 
 use Rattle.image_drawer.proofs.Texts.{flat_map-four}
 use Rattle.image_drawer.proofs.Reported.{annex_reported, bank_reported, free_reported, node_reported, page_reported, root_reported}
 
--- what has a box, after its owner
+-- the objects with a box, each after its owner
 abbrev bank_parts : Description → List (ℕ × ℕ)
 bank_parts d = map (λ b. (b.owner, b.number)) d.banks.items
 
@@ -57,7 +57,7 @@ boxes_once d distinct =
       | inr right ↦ Contains-append_right _ N n right
     ]) two)
 
--- a pair is joined where its numbers differ
+-- an object is joined to its owner if their numbers differ
 joined_none : (owner number : ℕ) → owner ≡ number → joined owner number ≡ []
 joined_none owner number is = let test : (owner == number) ≡ true = grind (arith, nat_tests) in rw test refl
 

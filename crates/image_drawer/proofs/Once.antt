@@ -3,7 +3,7 @@ use Rattle.image_drawer.proofs.Names.{ℕ, inl, inr, List, [], map, sym, subst, 
 use Rattle.image_drawer.proofs.Names.{Contains-append_right, AreDistinct, contains_cases, contains_here, contains_map, contains_none, contains_there, IsOnce}
 use Rattle.std.proofs.Common.{◌≡◌, ◌∷◌, ◌++◌, ◌∙◌}
 
--- what is in one of the lists
+-- an item of joined lists is in one of them
 pub contains_flat : {X Y : Type 0} (f : X → List Y) (y : Y) (xs : List X) → Contains (flat_map f xs) y →
     (x : X) × Contains xs x × Contains (f x) y
 contains_flat f y [] h = absurd (contains_none y h)

@@ -8,7 +8,7 @@ use Rattle.image_drawer.proofs.Names.{plain_frames, unwrap_or, plain_at}
 use Rattle.std.proofs.Common.{◌≡◌, ◌≢◌, ◌<◌, ◌≤◌, ◌∷◌, ◌∙◌}
 use Rattle.model.specs.declared.object.Content.TheVariants as content
 
--- a capability after its count
+-- the capability in a held one, without its count
 abbrev pub what : Cap → Capability
 what c = c.what
 
@@ -43,7 +43,7 @@ slots_said entries caps holds = record {
 abbrev value_of : SlotEntry → Capability
 value_of s = unwrap_or s.capability Void
 
--- what is named for an index is what an entry has
+-- the value at an index is that of an entry
 entry_of : (entries : List SlotEntry) (i : ℕ) → named_at entries i ≢ Void →
     (s : SlotEntry) × Contains entries s × (s.index ≡ i) × (value_of s ≡ named_at entries i)
 entry_of [] i some = absurd (some refl)
@@ -107,6 +107,6 @@ module _ (g : Geometry) (w : World) (d : Description) (describes : Describes g w
       there in
       (page.0, object_back _ _ _ (sym (plain_at _ _) ∙ page.2))
 
-  -- what isn't named is free
+  -- a number without an entry is free
   pub free_reported : (n : ℕ) → frame_at (plain_frames w.objects) n ≡ blank_frame → object_at w.objects n ≡ free
   free_reported n is = object_back (object_at w.objects n) 0 content.Free (sym (plain_at w.objects n) ∙ is)

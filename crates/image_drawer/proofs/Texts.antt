@@ -48,7 +48,7 @@ pub fails_after : (a b c : Written) (e : RunFault) (first second : List ℕ) →
     Writes a c (Err e) (first ++ second)
 fails_after a b c e first second one w = writes_after a b c (Err e) first second one w
 
--- Four texts, each after the one before it.
+-- Four texts, written one after another.
 module _ (A B C D whole : List ℕ) (is : whole ≡ ((A ++ B) ++ C) ++ D) (a b : Written) where
   pub first_fails : (e : RunFault) → Writes a b (Err e) A → Writes a b (Err e) whole
   first_fails e w = text_fails a b e ((A ++ B) ++ C) D whole is (fails_before a b e (A ++ B) C (fails_before a b e A B w))
@@ -82,7 +82,7 @@ flat_map-four {A} {B} f ps qs rs ss =
     ∙ ap (λ (l : List B). l ++ flat_map f ss) (flat_map-append f (ps ++ qs) rs)
     ∙ ap (λ (l : List B). (l ++ flat_map f rs) ++ flat_map f ss) (flat_map-append f ps qs)
 
--- Lines as they are put together.
+-- Lines, in the form in which the code appends their parts.
 pub arrow_put : (holder target : ℕ) (place kind style : List ℕ)
     → (((((((decimal holder ++ 32 ∷ codes "->") ++ 32 ∷ decimal target) ++ 32 ∷ codes "[label=\"") ++ place) ++ kind) ++ codes "\"") ++
     style) ++ codes "]"

@@ -1,4 +1,4 @@
-// Capabilities that name an object, as arrows.
+// Arrows, each for a capability that names an object.
 ghost use Rattle.std.specs.Prelude.{◌≡◌, ◌+◌, ◌≤◌, ◌++◌, length};
 ghost use Rattle.std.specs.List.{flat_map};
 ghost use Rattle.model.specs.Capability.{access_bits};
@@ -24,11 +24,11 @@ pub enum Place {
 /// A capability that names an object.
 #[derive(Clone, Copy)]
 pub struct Arrow {
-    /// The number of the process or the node that holds it.
+    /// The number of the process or the node that holds the capability.
     pub holder: u64,
     pub place: Place,
     pub capability: Capability,
-    /// The number of the object that it names.
+    /// The number of the object that the capability names.
     pub target: u64,
 }
 
@@ -51,7 +51,7 @@ fn push_place(line: &mut LineText, place: Place)
     }
 }
 
-// Adds what the object alone doesn't show: the height of a space, the key of a start, and that it is a resume.
+// Appends what the two boxes don't show: the height of a space, the key of a start capability, or `resume`.
 #[tactic(auto, using(std::proofs::Common::append_assoc))]
 fn push_kind(line: &mut LineText, capability: Capability)
     requires { length line.old ≤ 200 }
@@ -66,7 +66,7 @@ fn push_kind(line: &mut LineText, capability: Capability)
     }
 }
 
-// What a capability is restricted to.
+// Returns the access of a capability.
 fn access_of(capability: Capability) -> Access
     ensures { result.0 ≡ access_bits capability }
 {
@@ -78,7 +78,7 @@ fn access_of(capability: Capability) -> Access
     }
 }
 
-// Adds how an arrow is drawn that isn't full.
+// Appends the line style of an arrow, if its access isn't full.
 fn push_style(line: &mut LineText, access: Access)
     requires { length line.old ≤ 300 }
     ensures text { line.new ≡ line.old ++ style_text access.0 }
@@ -110,7 +110,7 @@ impl Arrow {
     }
 }
 
-/// Writes the line of a capability that is held, where it names an object.
+/// Writes the arrow of a capability, if it names an object.
 pub(crate) fn draw_arrow<W: Output>(
     holder: u64,
     place: Place,

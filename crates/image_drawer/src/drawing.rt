@@ -7,7 +7,7 @@ use crate::part::Part;
 use description::Description;
 use script::{Output, RunFault};
 
-// Writes the boxes of parts, in order.
+// Writes the boxes of all parts, in order.
 fn draw_boxes<P: Part, W: Output>(parts: &[P], writer: &mut W) -> Result<(), RunFault>
     ensures { Writes (W.written writer.old) (W.written writer.new) result
         (flat_map P.box_of parts.now) }
@@ -18,7 +18,7 @@ fn draw_boxes<P: Part, W: Output>(parts: &[P], writer: &mut W) -> Result<(), Run
     Ok(())
 }
 
-// Writes who owns them.
+// Writes the lines that put all parts into the clusters of their owners.
 fn draw_owners<P: Part, W: Output>(parts: &[P], writer: &mut W) -> Result<(), RunFault>
     ensures { Writes (W.written writer.old) (W.written writer.new) result
         (flat_map owner_line (flat_map P.owner_of parts.now)) }
@@ -29,7 +29,7 @@ fn draw_owners<P: Part, W: Output>(parts: &[P], writer: &mut W) -> Result<(), Ru
     Ok(())
 }
 
-// Writes their arrows.
+// Writes the arrows of all parts.
 fn draw_arrows<P: Part, W: Output>(parts: &[P], writer: &mut W) -> Result<(), RunFault>
     ensures { Writes (W.written writer.old) (W.written writer.new) result
         (flat_map arrow_line (flat_map P.arrows_of parts.now)) }
@@ -40,7 +40,7 @@ fn draw_arrows<P: Part, W: Output>(parts: &[P], writer: &mut W) -> Result<(), Ru
     Ok(())
 }
 
-// Writes all boxes.
+// Writes the boxes of all objects.
 fn draw_all_boxes<W: Output>(description: &Description, writer: &mut W) -> Result<(), RunFault>
     ensures { Writes (W.written writer.old) (W.written writer.new) result
         (box_lines description.now) }
@@ -51,7 +51,7 @@ fn draw_all_boxes<W: Output>(description: &Description, writer: &mut W) -> Resul
     draw_boxes(description.pages.as_slice(), writer)
 }
 
-// Writes who owns what.
+// Writes the lines that put all objects into the clusters of their owners.
 fn draw_all_owners<W: Output>(description: &Description, writer: &mut W) -> Result<(), RunFault>
     ensures { Writes (W.written writer.old) (W.written writer.new) result
         (owner_lines description.now) }
@@ -62,7 +62,7 @@ fn draw_all_owners<W: Output>(description: &Description, writer: &mut W) -> Resu
     draw_owners(description.pages.as_slice(), writer)
 }
 
-// Writes all arrows.
+// Writes the arrows of all objects.
 fn draw_all_arrows<W: Output>(description: &Description, writer: &mut W) -> Result<(), RunFault>
     ensures { Writes (W.written writer.old) (W.written writer.new) result
         (arrow_lines description.now) }
@@ -74,8 +74,8 @@ fn draw_all_arrows<W: Output>(description: &Description, writer: &mut W) -> Resu
 /// Writes the graph of a description in DOT: a box for each object that it names, in the cluster of
 /// the bank that owns it, and an arrow for each capability that names an object.
 ///
-/// `Err(RunFault::Write)` where the writer fails or takes nothing: what was written is then a
-/// beginning of that text. It takes no memory.
+/// Returns `Err(RunFault::Write)` if the writer fails or accepts no bytes; then it accepted only a beginning of the
+/// text. It takes no memory.
 pub fn draw<W: Output>(description: &Description, writer: &mut W) -> Result<(), RunFault>
     ensures { Writes (W.written writer.old) (W.written writer.new) result
         (graph_text description.now) }

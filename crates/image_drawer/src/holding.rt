@@ -1,4 +1,4 @@
-// Who holds an object.
+// Finding the holders of an object.
 ghost use Rattle.std.specs.Prelude.{◌≡◌, ◌<◌, ◌^◌, ◌||◌, ◌==◌, ℕ, length, IfOk, IsTrue};
 ghost use Rattle.std.specs.List.{All, list_any};
 ghost use Rattle.collections.specs.Marks.{is_marked};
@@ -38,7 +38,8 @@ fn holds(object: u64, process: &ProcessEntry) -> bool
     names(object, process.space) || holds_in(object, &process.registers)
 }
 
-// The numbers of the processes that hold a capability to an object. Fails only if memory runs out, as the one below.
+// Returns the numbers of the processes that hold a capability to an object. This and `holding_nodes` fail only if
+// memory runs out.
 fn holding_processes(
     alloc: Global,
     object: u64,
@@ -104,8 +105,8 @@ pub fn has_box(description: &Description, number: u64) -> bool
     is_bank || is_process || is_node || is_page
 }
 
-/// The set of an object that has a box, and of the processes and nodes that hold a capability to it.
-/// Fails only if memory runs out.
+/// Returns a set with an object that has a box, and with the processes and nodes that hold a capability to it. Fails
+/// only if memory runs out.
 pub fn holders(
     alloc: Global,
     description: &Description,

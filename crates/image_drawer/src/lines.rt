@@ -1,10 +1,10 @@
-// Numbers in lines.
+// Lines that begin or continue with a number.
 ghost use Rattle.std.specs.Prelude.{◌≡◌, ◌+◌, ◌++◌, ◌≤◌, decimal, length};
 
 use itoa::Buffer;
 use script::LineText;
 
-/// A line that begins with the number.
+/// Returns a line that begins with a number.
 pub(crate) fn begin(number: u64) -> LineText
     ensures text { result ≡ decimal number }
     ensures short { length result ≤ 20 }
@@ -13,7 +13,7 @@ pub(crate) fn begin(number: u64) -> LineText
     LineText::new(buffer.format(number).as_bytes())
 }
 
-/// Adds the number, with no space before it.
+/// Appends a number, with no space before it.
 pub(crate) fn push_number(line: &mut LineText, number: u64)
     requires { length line.old ≤ 300 }
     ensures text { line.new ≡ line.old ++ decimal number }

@@ -1,4 +1,4 @@
-// Banks and what they own.
+// Lines that join banks to the objects that they own.
 ghost use Rattle.std.specs.List.{flat_map};
 ghost use Rattle.script.specs.Writing.{Writes};
 ghost use Rattle.image_drawer.specs.Graph.{joined, owner_line};
@@ -6,7 +6,7 @@ ghost use Rattle.image_drawer.specs.Graph.{joined, owner_line};
 use crate::lines::push_number;
 use script::{LineText, Output, RunFault};
 
-// Writes the line that puts what a bank owns into the cluster of that bank.
+// Writes the line that puts an object into the cluster of the bank that owns it.
 fn draw_joined<W: Output>(owner: u64, number: u64, writer: &mut W) -> Result<(), RunFault>
     ensures { Writes (W.written writer.old) (W.written writer.new) result (owner_line (owner, number)) }
 {
@@ -20,7 +20,7 @@ fn draw_joined<W: Output>(owner: u64, number: u64, writer: &mut W) -> Result<(),
     line.print(writer)
 }
 
-/// Writes the line of an owner and what it owns, unless the object owns itself.
+/// Writes the line that joins an object to its owner, unless the object owns itself.
 pub(crate) fn draw_owner<W: Output>(owner: u64, number: u64, writer: &mut W) -> Result<(), RunFault>
     ensures { Writes (W.written writer.old) (W.written writer.new) result
         (flat_map owner_line (joined owner number)) }

@@ -1,4 +1,4 @@
-// What each kind of entry is in the graph.
+// How each kind of entry is drawn.
 ghost use Rattle.std.specs.Prelude.{◌≡◌, ℕ, ◌≤◌, List, [], ◌∷◌, ◌++◌, codes, decimal, length};
 ghost use Rattle.std.specs.List.{flat_map};
 ghost use Rattle.model.specs.Text.{spaced};
@@ -16,27 +16,27 @@ use description::{BankEntry, NodeEntry, PageEntry, ProcessEntry};
 use model::State;
 use script::{LineText, Output, RunFault, state_word};
 
-/// A part of the graph: a box, who owns it, and its arrows.
+/// A part of the graph: an object's box, its owner, and its arrows.
 pub(crate) trait Part {
-    /// The line of its box.
+    /// The line of the object's box.
     ghost box_of: { Self → List ℕ };
 
-    /// Its owner and its number, unless it owns itself.
+    /// The object's owner and number; empty if it owns itself.
     ghost owner_of: { Self → List (ℕ × ℕ) };
 
-    /// Its arrows.
+    /// The object's arrows.
     ghost arrows_of: { Self → List Arrow };
 
-    /// Writes its box.
+    /// Writes the object's box.
     fn draw_box<W: Output>(&self, writer: &mut W) -> Result<(), RunFault>
         ensures { Writes (W.written writer.old) (W.written writer.new) result (box_of self.now) };
 
-    /// Writes who owns it.
+    /// Writes the line that joins the object to its owner.
     fn draw_owner<W: Output>(&self, writer: &mut W) -> Result<(), RunFault>
         ensures { Writes (W.written writer.old) (W.written writer.new) result
             (flat_map owner_line (owner_of self.now)) };
 
-    /// Writes its arrows.
+    /// Writes the object's arrows.
     fn draw_arrows<W: Output>(&self, writer: &mut W) -> Result<(), RunFault>
         ensures { Writes (W.written writer.old) (W.written writer.new) result
             (flat_map arrow_line (arrows_of self.now)) };
@@ -69,7 +69,7 @@ impl Part for BankEntry {
     }
 }
 
-// The word of a state, or nothing.
+// Returns the word for a state, or no text.
 fn word_of(state: Option<State>) -> &'static [u8]
     ensures word { result.now ≡ word_of_state state }
     ensures short { length result.now ≤ 9 }
@@ -80,7 +80,7 @@ fn word_of(state: Option<State>) -> &'static [u8]
     }
 }
 
-// The box of a process: the part that is the same for all.
+// Returns the beginning of a process's box, up to its registers.
 fn begin_process(process: &ProcessEntry) -> LineText
     ensures text { result ≡ spaced (decimal process.now.root
         ∷ (codes "[label=\"" ++ spaced (codes "process" ∷ decimal process.now.root ∷ codes "annex"
@@ -121,7 +121,7 @@ impl Part for ProcessEntry {
     }
 }
 
-// The box of a node: the part that is the same for all.
+// Returns the beginning of a node's box, up to its slots.
 fn begin_node(number: u64) -> LineText
     ensures text { result
         ≡ spaced (decimal number ∷ (codes "[label=\"" ++ spaced (codes "node" ∷ decimal number ∷ [])) ∷ []) }

@@ -1,4 +1,4 @@
-// The part of a description that is drawn.
+// Restricting a description to the part that is drawn.
 ghost use Rattle.std.specs.Prelude.{◌≡◌, ℕ, Bool, None, Some};
 ghost use Rattle.std.specs.List.{AllZip, filter};
 ghost use Rattle.collections.specs.Marks.{is_marked};
@@ -8,14 +8,14 @@ use collections::NumberSet;
 use description::{Description, NodeEntry, ProcessEntry, SlotEntry};
 use model::Capability;
 
-// Whether a number is in a set. One past the set isn't.
+// Whether a number is in a set. The number may be out of range.
 fn has(inside: &NumberSet, number: u64) -> bool
     ensures { result ≡ is_marked inside.now number }
 {
     inside.next(number as usize) == Some(number as usize)
 }
 
-// Whether a capability names nothing, or an object of a set.
+// Whether a capability names no object, or one in a set.
 fn leads_inside(inside: &NumberSet, capability: Option<Capability>) -> bool
     ensures { result ≡ leads_inside (is_marked inside.now) capability }
 {
@@ -28,7 +28,7 @@ fn leads_inside(inside: &NumberSet, capability: Option<Capability>) -> bool
     }
 }
 
-// An address space, or none if it names an object outside a set.
+// Returns an address space, or a void one if it names an object outside a set.
 fn space_inside(inside: &NumberSet, space: Option<Capability>) -> Option<Capability>
     ensures { result ≡ space_inside (is_marked inside.now) space }
 {
@@ -39,7 +39,7 @@ fn space_inside(inside: &NumberSet, space: Option<Capability>) -> Option<Capabil
     }
 }
 
-// Leaves the slots whose capabilities name nothing, or an object of a set.
+// Removes the slots whose capabilities name objects outside a set.
 fn restrict_slots(inside: &NumberSet, slots: &mut Vec<SlotEntry>)
     ensures { slots.new.items
         ≡ filter (λ s. leads_inside (is_marked inside.now) s.capability) slots.old.items }
@@ -47,12 +47,12 @@ fn restrict_slots(inside: &NumberSet, slots: &mut Vec<SlotEntry>)
     slots.retain(|slot| leads_inside(inside, slot.capability));
 }
 
-// An entry that is restricted.
+// An entry that can be restricted to a set.
 trait Restricted {
-    /// What it becomes, by whether a number is in the set.
+    /// How the entry is restricted, where the function says whether a number is in the set.
     ghost IsPartOf: { (ℕ → Bool) → Self → Self → Type 0 };
 
-    /// Leaves what it holds of a set.
+    /// Removes the capabilities that name objects outside a set.
     fn restrict(&mut self, inside: &NumberSet)
         ensures { IsPartOf (is_marked inside.now) self.old self.new };
 }
@@ -83,9 +83,8 @@ fn restrict_all<T: Restricted>(inside: &NumberSet, entries: &mut [T])
     }
 }
 
-/// Restricts a description to a set of numbers: it leaves the objects that have one, and of what they
-/// hold the capabilities that name nothing or such an object. In the graph of what is left the boxes
-/// are those of the set, and the arrows those between them.
+/// Restricts a description to a set of numbers: removes all other objects, and the capabilities that name an object
+/// outside the set. The graph of the result has the boxes of the set, and the arrows between them.
 pub fn restrict(description: &mut Description, inside: &NumberSet)
     ensures { IsPart (is_marked inside.now) description.old description.new }
 {

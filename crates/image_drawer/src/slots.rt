@@ -1,4 +1,4 @@
-// Registers and slots.
+// Drawing registers and slots.
 ghost use Rattle.std.specs.Prelude.{◌≡◌, ◌≤◌, length, unwrap_or};
 ghost use Rattle.std.specs.List.{flat_map};
 ghost use Rattle.model.specs.declared.capability.Capability.TheVariants.{Void};
@@ -11,7 +11,7 @@ use description::SlotEntry;
 use model::Capability;
 use script::{LineText, Output, RunFault};
 
-/// What is held, or nothing where no capability is named.
+/// Returns the capability, or void if there is none.
 pub(crate) fn held(capability: Option<Capability>) -> Capability
     ensures { result ≡ unwrap_or capability Void }
 {
@@ -21,7 +21,7 @@ pub(crate) fn held(capability: Option<Capability>) -> Capability
     }
 }
 
-// Writes the line of a box for a capability that names nothing, unless it is void.
+// Writes the line in a box for a capability that names no object, unless it is void.
 fn draw_plain<W: Output>(
     name: &[u8],
     index: u64,
@@ -44,7 +44,7 @@ fn draw_plain<W: Output>(
     }
 }
 
-/// Writes the lines of a box for what names nothing.
+/// Writes the lines in a box for all capabilities that name no object and aren't void.
 pub(crate) fn draw_plain_slots<W: Output>(
     name: &[u8],
     slots: &[SlotEntry],
@@ -60,7 +60,7 @@ pub(crate) fn draw_plain_slots<W: Output>(
     Ok(())
 }
 
-// The place of a slot of a node, or of a register of a process.
+// Returns the place of a slot of a node, or of a register of a process.
 fn place_in(is_node: bool, index: u64) -> Place
     ensures { result ≡ place_in is_node index }
 {
@@ -71,7 +71,7 @@ fn place_in(is_node: bool, index: u64) -> Place
     }
 }
 
-/// Writes the arrows of the slots of a node, or of the registers of a process.
+/// Writes the arrows of all slots of a node, or of all registers of a process.
 pub(crate) fn draw_slots<W: Output>(
     holder: u64,
     is_node: bool,

@@ -18,7 +18,7 @@ module _ (log : ℕ) (first first_gate second second_gate : List ℕ) (slot : �
         → MatchControlFlow r (HasHeaderIn log first first_gate second second_gate) (HasNoneIn log first first_gate second second_gate)
     chosen r is = grind (arith, nat_tests)
 
--- of an image whose first sectors these are
+-- facts about an image whose first sectors these are
 module _ (image : Image) (size log : ℕ) (p : Plan) (same : log ≡ p.geometry.log) where
   pub at_slot : (slot : ℕ) → slot < 2 → picked slot (image 1) (image 3) ≡ image (1 + 2 * slot)
   at_slot slot lt = grind (arith, nat_tests)
@@ -39,11 +39,11 @@ module _ (image : Image) (size log : ℕ) (p : Plan) (same : log ≡ p.geometry.
         → HasPlan image size p → MatchControlFlow r (HasHeader image p) (IsFault size image)
     header_found r is plan = grind (arith, nat_tests, found_header, no_header)
 
--- a header that was read has as many entries as there may be
+-- a header that was read has at most as many entries as allowed
 pub header_fits : (log : ℕ) (a b c d : List ℕ) (r : ControlFlow SectorFault CheckpointHeader)
     → MatchControlFlow r (HasHeaderIn log a b c d) (HasNoneIn log a b c d) → MatchControlFlow r (IsHeader log) (λ _. ⊤)
 header_fits log a b c d r is = grind (arith, nat_tests)
 
--- what is so where nothing was found
+-- a fact that holds if nothing was found
 pub if_none : {T : Type 0} (A : Type 0) (found : Option T) → found ≡ None → IfNone found A → A
 if_none A found is so = subst (λ (o : Option _). IfNone o A) is so

@@ -11,7 +11,7 @@ all_matched fs notes n noted past each p = elim (cases_lt p n) [
   | inr beyond ↦ λ a root. absurd (none_noted fs notes noted p a (get_or_past notes p None (omega (arith, past, beyond))) root)
 ]
 
--- what holds below a number, and of it, holds below the next
+-- a property of all numbers below one, and of this number, holds of all numbers below the next
 pub below_more : (P : ℕ → Type 0) (n : ℕ) → ((m : ℕ) → m < n → P m) → P n → (m : ℕ) → m < n + 1 → P m
 below_more P n before here m lt = grind (arith, nat_tests)
 
@@ -29,7 +29,7 @@ whole_of_matched fs matched rooted = record {
   some_root = rooted;
 }
 
--- what was found of roots, and then of annexes
+-- the flaw that was found, first of roots and then of annexes
 pub matches : (fs : List Frame) (found : Option Unmatched) → ((p : ℕ) → IsMatched fs p) → IfSome found (IsUnmatched fs) →
     IfSome found (λ u. ((p : ℕ) → IsMatched fs p) → IsFirstUnmatched fs u) → IfNone found ((a : ℕ) → HasRoot fs a) → MatchesOr fs found
 matches fs found matched is first rooted = grind (arith, nat_tests, whole_of_matched)

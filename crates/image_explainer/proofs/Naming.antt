@@ -13,13 +13,13 @@ pub misnamed_here : (p : Parts) (n i : ℕ) (held : List Cap) (d : Cap) (hs ks :
 misnamed_here p n i held d hs ks h current all inside table is other reported broken =
     grind (arith, nat_tests, get_or_default, header_read, table_read)
 
--- those before it are named
+-- the capabilities before this one name objects of their kinds
 pub named_before : (fs : List Frame) (n i : ℕ) (held : List Cap) → held ≡ caps_in (frame_at fs n).content →
     ((k : ℕ) (d : Cap) → k < i → IsNamed fs (slice_index_or held k d)) →
     (k : ℕ) → k < i → IsNamed fs (cap_at (caps_in (frame_at fs n).content) k)
 named_before fs n i held all before k lt = subst (λ (cs : List Cap). IsNamed fs (cap_at cs k)) all (before k void_held lt)
 
--- what an object holds
+-- the capabilities that an object holds
 module _ (fs : List Frame) (c : Content Cap) (n : ℕ) (is : c ≡ (frame_at fs n).content) where
   pub held_there : (held : List Cap) → caps_in c ≡ held → held ≡ caps_in (frame_at fs n).content
   held_there held all = sym all ∙ ap (λ (d : Content Cap). caps_in d) is

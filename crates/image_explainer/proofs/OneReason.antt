@@ -23,7 +23,7 @@ module _ (size : ℕ) (image : Image) where
       let there : HasBadDirectory image q g = subst (λ (x : Plan). HasBadDirectory image x g) plans broken in
       subst (HasBadDirectory image q) (same_header image q g h first_there second) there
 
-  -- a lesser reason doesn't hold beside a greater one
+  -- no lesser reason holds together with a greater one
   pub one_reason : (a b : BadImage) → IsBadBy image size a → IsBadBy image size b → a ≡ b
   one_reason bad.Small bad.Small x y = refl
   one_reason bad.Small bad.NotASuperblock x y = absurd (y.0 x)
@@ -97,7 +97,7 @@ module _ (size : ℕ) (image : Image) where
       let whole_both : AreWhole q h ds = subst (λ (x : CheckpointHeader). AreWhole q x ds) headers whole_there in
       subst (λ (x : List Entry). AreWhole q h x) directories whole_both
 
-  -- where nothing is wrong, there is no reason
+  -- an image without flaws is bad for no reason
   pub whole_not_bad : (reason : BadImage) → IsWhole size image → IsBadBy image size reason → ⊥
   whole_not_bad bad.Small w x = not_small size image w.0 w.3 x
   whole_not_bad bad.NotASuperblock w x = x.1 (has_mark size image w.0 w.3)

@@ -51,7 +51,7 @@ keepable size c saved holds = grind (arith, nat_tests)
 pub within_age : (size : ℕ) (c : Image) (saved : SavedFrames) → Holds size c saved → saved.age ≤ 2 ^ 62
 within_age size c saved holds = subst (λ (x : SavedFrames). x.age ≤ 2 ^ 62) holds.2 holds.1.header.fits.age
 
--- what was found among the frames of a store is so of the device beneath
+-- a fault that was found in the frames of a store is one of the image on the device
 explained_found : (size : ℕ) (c : Image) (saved : SavedFrames) (found : Option ImageFault) → Holds size c saved →
     IsConsistentOr saved.frames found → IsExplainedBy size c found
 explained_found size c saved None holds is = (
@@ -70,7 +70,7 @@ explained_found size c saved None holds is = (
 )
 explained_found size c saved (Some f) holds is = explained_frames size c saved f holds is
 
--- what a store holds that was made of a device can be kept at each age
+-- the objects of a store that was opened on a device may be kept at each age
 pub opened_keepable : {D : Type 0} (disk : D → Disk) (device : D) (parts : Parts) (view : View D) → OpensStore disk device parts view →
     parts.geometry ≡ view.snapshots.saved.geometry → AreKeepable parts.geometry (2 ^ 64 - 1) (frames_of parts)
 opened_keepable disk device parts view opens geometry =
@@ -82,7 +82,7 @@ opened_keepable disk device parts view opens geometry =
     (keepable_later saved.geometry saved.age (2 ^ 64 - 1) saved.frames (omega (arith, within_age size c saved opens.holds))
     (keepable size c saved opens.holds)))
 
--- a store that was made of a device, and the device beneath it after a read
+-- a store that was opened on a device, and the device after it was read
 module _ {D : Type 0} (disk : D → Disk) (device back : D) (parts : Parts) (view : View D) (opens : OpensStore disk device parts view)
     (same : back ≡ view.beneath) where
   looked : OnlyReads (disk device) (disk back)
@@ -108,11 +108,11 @@ module _ {D : Type 0} (disk : D → Disk) (device back : D) (parts : Parts) (vie
   explains_refused opening.NoMemory other good = (record { is_why = unfailed; only_reads = looked }, tt)
   explains_refused (opening.Bad reason) other good = absurd (good reason refl)
 
--- frames are inconsistent for one reason
+-- frames are inconsistent for at most one reason
 one_inconsistency : (fs : List Frame) (a b : BadImage) → IsInconsistent fs a → IsInconsistent fs b → a ≡ b
 one_inconsistency fs a b x y = grind (arith, nat_tests)
 
--- an image is bad for one reason
+-- an image is bad for at most one reason
 pub one_reason : AreBadForOneReason
 one_reason size c a b x y = ⊎_elim
     (λ first. ⊎_elim

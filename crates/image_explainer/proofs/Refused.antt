@@ -15,7 +15,7 @@ bad_still disk before mid reason refuses =
     (subst (λ (c : Image). IsBadBy c (disk before).sectors reason) (sym (agrees_is (disk mid).seen (disk before).seen
     refuses.only_reads.seen)) refuses.why.1)
 
--- and was then only read
+-- after the refusal the device was only read
 module _ {D : Type 0} (disk : D → Disk) (before mid back : D) (reason : BadImage)
     (refuses : Refuses disk before mid (open_fault.Bad reason))
     (reads : ReadsOnly (disk mid) (disk back)) (now : CountsNow (disk mid)) where

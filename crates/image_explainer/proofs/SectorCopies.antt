@@ -3,7 +3,7 @@ use Rattle.image_explainer.proofs.Names.{ℕ, zero, suc, List, [], length, take,
 use Rattle.image_explainer.proofs.Names.{IsCopy}
 use Rattle.std.proofs.Common.{◌≡◌, ◌+◌, ◌-◌, ◌*◌, ◌≤◌, ◌++◌, ◌∙◌}
 
--- the sector of an image at a place of its copy
+-- a sector of an image, in a copy of all sectors
 copied : (image : Image) (bytes : List ℕ) (i : ℕ) → IsCopy image bytes → 512 * (i + 1) ≤ length bytes →
     take 512 (drop (512 * i) bytes) ≡ image i
 copied image bytes i copy inside = let place : 0 + i ≡ i = omega arith in copy i (omega (arith, inside)) ∙ ap image place
@@ -11,7 +11,7 @@ copied image bytes i copy inside = let place : 0 + i ≡ i = omega arith in copy
 take_none : (bytes : List ℕ) → take 0 bytes ≡ []
 take_none bytes = refl
 
--- some sectors of it
+-- some sectors of an image, in a copy of all sectors
 pub run_in : (image : Image) (bytes : List ℕ) (at n : ℕ) → IsCopy image bytes → 512 * (at + n) ≤ length bytes →
     take (512 * n) (drop (512 * at) bytes) ≡ sectors_from image at n
 unfolding sectors_from
@@ -29,7 +29,7 @@ run_in image bytes at (suc n) copy inside =
     ∙ ap (λ (r : List ℕ). take 512 (drop (512 * at) bytes) ++ r) rest
     ∙ ap (λ (b : List ℕ). b ++ sectors_from image (at + 1) n) first
 
--- as the code cuts it
+-- the same in the form in which the code cuts them out
 pub sectors_in : (image : Image) (bytes : List ℕ) (at n : ℕ) → IsCopy image bytes → 512 * (at + n) ≤ length bytes →
     take (at * 512 + 512 * n - at * 512) (drop (at * 512) bytes) ≡ sectors_from image at n
 sectors_in image bytes at n copy inside =

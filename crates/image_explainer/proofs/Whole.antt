@@ -42,7 +42,7 @@ module _ (image : Image) (size : ℕ) (p : Plan) (h : CheckpointHeader) (es : Li
     (p, h, es, plan, header, place, len ∙ count, fits, spelt_there, broken, first),
   )
 
--- what is so where it goes on
+-- a fact that holds if the search continues
 pub on_continue : {F T : Type 0} (A B : Type 0) (P : F → Type 0) (r : ControlFlow F T) → (A → B) → MatchControlFlow r (λ _. A) P →
     MatchControlFlow r (λ _. B) P
 on_continue {F} {T} A B P r leads is = grind (arith, nat_tests)

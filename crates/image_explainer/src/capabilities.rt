@@ -1,4 +1,4 @@
-// Which held capability names what it can't.
+// Finding a held capability that may not be in an image.
 ghost use Rattle.std.specs.Prelude.{◌≡◌, ◌<◌, length, IfNone, IfOk, IfSome};
 ghost use Rattle.std.specs.List.{All};
 ghost use Rattle.model.specs.Frame.{frame_at};
@@ -14,7 +14,7 @@ use capability::Frames;
 use model::{Cap, ContentRef, Refusal};
 use recovery::{Noted, is_named};
 
-// The first of the capabilities that an object holds, which are these, that names what it can't.
+// Returns the first of these capabilities of an object that is misnamed (see `find_misnamed`), or `None`.
 fn find_in<F: Frames>(
     store: &F,
     notes: &[Option<Noted>],
@@ -41,7 +41,7 @@ fn find_in<F: Frames>(
     None
 }
 
-// The first that an object holds, which is fetched.
+// Returns the first misnamed capability of a fetched object, or `None`.
 fn find_there<F: Frames>(store: &F, notes: &[Option<Noted>], number: u64) -> Option<Misnamed>
     requires fetched { F.IsFetched store.now number }
     requires notes { AreNoted (frames_of (F.parts store.now)) notes.now }
@@ -58,7 +58,7 @@ fn find_there<F: Frames>(store: &F, notes: &[Option<Noted>], number: u64) -> Opt
     }
 }
 
-// The first that an object holds, which is fetched for it.
+// Fetches an object, and returns its first misnamed capability, or `None`.
 fn find_at<F: Frames>(
     store: &mut F,
     notes: &[Option<Noted>],
@@ -77,8 +77,8 @@ fn find_at<F: Frames>(
     Ok(find_there(store, notes, number))
 }
 
-/// The first held capability, by holder and slot, whose count is greater than that of the object
-/// that it names, or that is live and names what it isn't for. Objects are fetched one at a time.
+/// Returns the first held capability, by holder and slot, whose count is greater than its object's, or that is live
+/// and names an object of another kind than its own; or `None`. Fetches objects one at a time.
 pub(crate) fn find_misnamed<F: Frames>(
     store: &mut F,
     notes: &[Option<Noted>],

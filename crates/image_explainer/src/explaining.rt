@@ -1,4 +1,4 @@
-// Why an image is refused, and where.
+// Finding why an image is refused, and where.
 ghost use Rattle.std.specs.Prelude.{◌≡◌, ◌↔◌, ◌*◌, ◌≤◌, length, IfErr, IfOk};
 ghost use Rattle.layout.specs.declared.bad_image.BadImage.{BadImage};
 ghost use Rattle.layout.specs.Image.{IsBadBy};
@@ -20,7 +20,7 @@ use migrator::WholeStore;
 use std::alloc::{AllocError, Global};
 use std::ops::ControlFlow;
 
-// What is wrong with the objects of a store that was made of a device, and the device beneath.
+// Returns what is wrong with the objects of a store, and the store's device.
 fn explain_objects<D: Device, S: WholeStore<D>>(
     alloc: Global,
     store: S,
@@ -38,7 +38,7 @@ fn explain_objects<D: Device, S: WholeStore<D>>(
     }
 }
 
-// Memory for a copy of `size` sectors, for a directory and for a frame.
+// Reserves memory for a copy of `size` sectors, for a directory and for a frame.
 fn reserve(alloc: Global, size: u64) -> Result<(Vec<u8>, Vec<Entry>, Scratch), AllocError>
     requires { size ≤ 131072 }
     ensures copy { IfOk result (λ three. length three.0.items ≡ 512 * size) }
@@ -50,7 +50,7 @@ fn reserve(alloc: Global, size: u64) -> Result<(Vec<u8>, Vec<Entry>, Scratch), A
     Ok((copy, entries, scratch))
 }
 
-// What is wrong with the sectors of a device, in a copy of them.
+// Copies the sectors of a device into `copy`, and returns what is wrong with them.
 fn find_in_copy<D: Device>(
     device: &mut D,
     copy: &mut [u8],
@@ -76,7 +76,7 @@ fn find_in_copy<D: Device>(
     }
 }
 
-// What is wrong with the sectors of a device, in memory that is taken for it.
+// Copies the sectors of a device into new memory, and returns what is wrong with them.
 fn find_on<D: Device>(alloc: Global, device: &mut D) -> Result<SectorFault, OpenFault>
     requires { (reason : BadImage) × IsBadBy (D.disk device.old).seen (D.disk device.old).sectors reason }
     ensures found { IfOk result (IsFault (D.disk device.old).sectors (D.disk device.old).seen) }
@@ -92,7 +92,7 @@ fn find_on<D: Device>(alloc: Global, device: &mut D) -> Result<SectorFault, Open
     find_in_copy(device, &mut copy, &mut entries, &mut scratch)
 }
 
-// What is wrong with the sectors of a device that was refused for one of the reasons 1 to 7.
+// Returns what is wrong with the sectors of a device that was refused for one of the reasons 1 to 7, and the device.
 fn explain_sectors<D: Device>(
     alloc: Global,
     device: D,
@@ -108,11 +108,11 @@ fn explain_sectors<D: Device>(
     }
 }
 
-/// Why the image on a device is refused: `None` if a kernel opens it, else what is wrong, and where. The
-/// reason of the fault is the least of the ten that holds. It holds for what the fault names, which is the first
-/// such place. Copies the sectors into memory.
+/// Returns why the image on a device is refused: `None` if a kernel opens it, else what is wrong, and where. The
+/// reason is the least of the ten that holds, and the place is the first for which it holds. Copies the sectors into
+/// memory.
 ///
-/// The device is returned. Nothing is written to it at any moment. `Failed` exactly if the device failed, and
+/// The device is returned. Nothing is written to it at any moment. Returns `Failed` exactly if the device failed, and
 /// `NoMemory` if memory ran out; never `Bad`.
 #[tactic(auto, using(crate::proofs::Refused::bad_still))]
 pub fn explain<D: Device, S: WholeStore<D>>(

@@ -1,4 +1,4 @@
-// Which root and annex don't belong together.
+// Finding a root and an annex that don't belong together.
 ghost use Rattle.std.specs.Prelude.{◌≡◌, ℕ, ◌<◌, ◌≤◌, Some, IfNone, IfSome};
 ghost use Rattle.capability.specs.Parts.{frames_of};
 ghost use Rattle.recovery.specs.Noted.{AreNoted};
@@ -10,7 +10,7 @@ use capability::Frames;
 use model::Role;
 use recovery::{Noted, has_role, is_annex_for};
 
-// The annex that is noted of a number.
+// Returns the annex of the root with a number, from the notes of all roots; `None` for other objects.
 fn annex_of(notes: &[Option<Noted>], number: usize) -> Option<u64>
     ensures { result ≡ annex_noted notes.now number }
 {
@@ -20,7 +20,7 @@ fn annex_of(notes: &[Option<Noted>], number: usize) -> Option<u64>
     }
 }
 
-// The first root with this annex from a number on.
+// Returns the first root with this annex whose number is at least `from`, or `None`.
 fn root_of(notes: &[Option<Noted>], from: usize, annex: u64) -> Option<usize>
     ensures some { IfSome result (λ root. (from ≤ root) × (annex_noted notes.now root ≡ Some annex)) }
     ensures first { IfSome result (λ root. (p : ℕ) → from ≤ p → p < root → annex_noted notes.now p ≡ Some annex → ⊥) }
@@ -34,7 +34,7 @@ fn root_of(notes: &[Option<Noted>], from: usize, annex: u64) -> Option<usize>
     None
 }
 
-// What is wrong with a root and its annex, or with another root of that. It is the first flaw if no root before it has one.
+// Returns what is wrong with a root and its annex, or that a later root has the same annex; or `None`.
 fn flaw_of_root<F: Frames>(store: &F, notes: &[Option<Noted>], root: usize) -> Option<Unmatched>
     requires { AreNoted (frames_of (F.parts store.now)) notes.now }
     ensures found { IfSome result (IsUnmatched (frames_of (F.parts store.now))) }
@@ -59,7 +59,7 @@ fn flaw_of_root<F: Frames>(store: &F, notes: &[Option<Noted>], root: usize) -> O
     }
 }
 
-// The first root that doesn't belong to an annex of its own.
+// Returns the flaw of the first root that has one, or `None`.
 fn find_root<F: Frames>(store: &F, notes: &[Option<Noted>]) -> Option<Unmatched>
     requires { AreNoted (frames_of (F.parts store.now)) notes.now }
     ensures found { IfSome result (IsUnmatched (frames_of (F.parts store.now))) }
@@ -75,7 +75,7 @@ fn find_root<F: Frames>(store: &F, notes: &[Option<Noted>]) -> Option<Unmatched>
     None
 }
 
-// Whether an annex has no root.
+// Returns the flaw of an annex that no root names, or `None`.
 fn flaw_of_annex<F: Frames>(store: &F, notes: &[Option<Noted>], annex: u64) -> Option<Unmatched>
     requires { AreNoted (frames_of (F.parts store.now)) notes.now }
     ensures found { IfSome result (IsUnmatched (frames_of (F.parts store.now))) }
@@ -91,7 +91,7 @@ fn flaw_of_annex<F: Frames>(store: &F, notes: &[Option<Noted>], annex: u64) -> O
     }
 }
 
-// The first annex that no root names.
+// Returns the flaw of the first annex that no root names, or `None`.
 fn find_annex<F: Frames>(store: &F, notes: &[Option<Noted>]) -> Option<Unmatched>
     requires { AreNoted (frames_of (F.parts store.now)) notes.now }
     ensures found { IfSome result (IsUnmatched (frames_of (F.parts store.now))) }
@@ -108,7 +108,8 @@ fn find_annex<F: Frames>(store: &F, notes: &[Option<Noted>]) -> Option<Unmatched
     None
 }
 
-/// The first root and annex that don't belong together: roots come first, by number, and then annexes.
+/// Returns the first root and annex that don't belong together, or `None`: first roots by number, then annexes by
+/// number.
 #[tactic(auto, using(crate::proofs::Matching::matches))]
 pub(crate) fn find_unmatched<F: Frames>(store: &F, notes: &[Option<Noted>]) -> Option<Unmatched>
     requires { AreNoted (frames_of (F.parts store.now)) notes.now }

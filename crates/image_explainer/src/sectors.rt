@@ -1,4 +1,4 @@
-// What is wrong in the sectors of an image, and where, for the reasons 1 to 7 to refuse it.
+// Finding what is wrong in the sectors of an image, and where: the reasons 1 to 7 to refuse it.
 mod directory;
 mod fault;
 mod finding;

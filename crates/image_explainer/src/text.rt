@@ -17,7 +17,7 @@ use model::{Capability, Role};
 use recovery::Unbanked;
 use script::LineText;
 
-// What is wrong with the superblock.
+// Returns the line about a sector 0 that isn't a superblock.
 fn superblock_line(part: SuperblockPart) -> LineText
     ensures text { result ≡ superblock_text part }
     ensures short { length result ≤ 60 }
@@ -29,7 +29,7 @@ fn superblock_line(part: SuperblockPart) -> LineText
     }
 }
 
-// A number of the superblock that is outside its limits.
+// Returns a line that says that a number of the superblock is outside its limits.
 fn outside(word: &[u8], number: u64, limits: &[u8]) -> LineText
     requires word { length word.now ≤ 20 }
     requires limits { length limits.now ≤ 30 }
@@ -41,7 +41,7 @@ fn outside(word: &[u8], number: u64, limits: &[u8]) -> LineText
     line
 }
 
-// What is outside the limits of the superblock.
+// Returns the line about a field of the superblock that is outside its limits.
 fn geometry_line(part: GeometryPart) -> LineText
     ensures text { result ≡ geometry_text part }
     ensures short { length result ≤ 90 }
@@ -57,7 +57,7 @@ fn geometry_line(part: GeometryPart) -> LineText
     }
 }
 
-// Adds why the header of a slot doesn't count.
+// Appends why the header of a slot doesn't count.
 fn add_not_counted(line: &mut LineText, why: NotCounted)
     requires { length line.old ≤ 100 }
     ensures text { line.new ≡ line.old ++ not_counted_text why }
@@ -73,7 +73,7 @@ fn add_not_counted(line: &mut LineText, why: NotCounted)
     }
 }
 
-// Why no header counts.
+// Returns the line that says why no header counts.
 fn no_header_line(first: NotCounted, second: NotCounted) -> LineText
     ensures text { result ≡ no_header_text first second }
     ensures short { length result ≤ 200 }
@@ -85,7 +85,7 @@ fn no_header_line(first: NotCounted, second: NotCounted) -> LineText
     line
 }
 
-// Adds what is wrong in a header.
+// Appends what is wrong with a header.
 fn add_header_part(line: &mut LineText, part: HeaderPart)
     requires { length line.old ≤ 40 }
     ensures text { line.new ≡ line.old ++ header_part_text part }
@@ -119,7 +119,7 @@ fn add_header_part(line: &mut LineText, part: HeaderPart)
     }
 }
 
-// What is wrong with the committed header.
+// Returns the line about the committed header.
 fn header_line(sector: u64, part: HeaderPart) -> LineText
     ensures text { result ≡ header_text sector part }
     ensures short { length result ≤ 150 }
@@ -129,7 +129,7 @@ fn header_line(sector: u64, part: HeaderPart) -> LineText
     line
 }
 
-// Adds which entry isn't above the one before it, with the objects of both.
+// Appends that the object of an entry isn't greater than that of the entry before it.
 fn add_order(line: &mut LineText, entry: u64, object: u64, before: u64)
     requires { length line.old ≤ 70 }
     ensures text { line.new ≡ line.old ++ 32 ∷ decimal entry ++ codes ": object" ++ 32 ∷ decimal object
@@ -144,7 +144,7 @@ fn add_order(line: &mut LineText, entry: u64, object: u64, before: u64)
     line.push(b" of the entry before");
 }
 
-// Adds what is wrong with an entry of a directory.
+// Appends what is wrong with an entry of a directory.
 fn add_entry(line: &mut LineText, part: DirectoryPart)
     requires { length line.old ≤ 60 }
     ensures text { line.new ≡ line.old ++ directory_part_text part }
@@ -181,7 +181,7 @@ fn add_entry(line: &mut LineText, part: DirectoryPart)
     }
 }
 
-// What is wrong with a directory.
+// Returns the line about a directory.
 fn directory_line(sector: u64, part: DirectoryPart) -> LineText
     ensures text { result ≡ directory_text sector part }
     ensures short { length result ≤ 220 }
@@ -191,7 +191,7 @@ fn directory_line(sector: u64, part: DirectoryPart) -> LineText
     line
 }
 
-// Adds what is wrong in a frame.
+// Appends what is wrong with a frame.
 fn add_part(line: &mut LineText, part: FramePart)
     requires { length line.old ≤ 40 }
     ensures text { line.new ≡ line.old ++ frame_part_text part }
@@ -227,7 +227,7 @@ fn add_part(line: &mut LineText, part: FramePart)
     }
 }
 
-// What is wrong with a frame.
+// Returns the line about a frame.
 fn frame_line(number: u64, is_page: bool, part: FramePart) -> LineText
     ensures text { result ≡ frame_text number is_page part }
     ensures short { length result ≤ 150 }
@@ -238,7 +238,7 @@ fn frame_line(number: u64, is_page: bool, part: FramePart) -> LineText
     line
 }
 
-// The place of a capability.
+// Returns a line that begins with the place of a capability.
 fn holder_line(misnamed: Misnamed) -> LineText
     ensures text { result ≡ holder_text misnamed.role misnamed.holder misnamed.index }
     ensures short { length result ≤ 80 }
@@ -264,7 +264,7 @@ fn holder_line(misnamed: Misnamed) -> LineText
     }
 }
 
-// What a capability is for.
+// Returns the word for the kind of object that a capability must name.
 fn kind_of(what: Capability) -> &'static [u8]
     ensures text { result.now ≡ kind_text what }
     ensures short { length result.now ≤ 15 }
@@ -281,7 +281,7 @@ fn kind_of(what: Capability) -> &'static [u8]
     }
 }
 
-// Adds what is wrong with a capability.
+// Appends what is wrong with a capability.
 fn add_misnamed(line: &mut LineText, misnamed: Misnamed)
     requires { length line.old ≤ 80 }
     ensures text { line.new ≡ line.old ++ misnamed_text misnamed }
@@ -301,7 +301,7 @@ fn add_misnamed(line: &mut LineText, misnamed: Misnamed)
     }
 }
 
-// What is wrong with a process.
+// Returns the line about a process.
 fn process_line(unmatched: Unmatched) -> LineText
     ensures text { result ≡ unmatched_text unmatched }
     ensures short { length result ≤ 150 }
@@ -334,7 +334,7 @@ fn process_line(unmatched: Unmatched) -> LineText
     }
 }
 
-// What is wrong with a bank.
+// Returns the line about a bank.
 fn bank_line(unbanked: Unbanked) -> LineText
     ensures text { result ≡ unbanked_text unbanked }
     ensures short { length result ≤ 150 }
@@ -364,7 +364,7 @@ fn bank_line(unbanked: Unbanked) -> LineText
     }
 }
 
-// What is wrong in the sectors.
+// Returns the line about a fault in the sectors.
 fn sectors_line(fault: SectorFault) -> LineText
     ensures text { result ≡ sectors_text fault }
     ensures short { length result ≤ 220 }
@@ -389,7 +389,7 @@ fn sectors_line(fault: SectorFault) -> LineText
     }
 }
 
-// The reason to refuse an image for what is wrong in its sectors.
+// Returns the reason why an image with this fault in its sectors is refused.
 fn sector_reason_of(fault: SectorFault) -> BadImage
     ensures { result ≡ sector_reason fault }
 {
@@ -405,7 +405,7 @@ fn sector_reason_of(fault: SectorFault) -> BadImage
 }
 
 impl ImageFault {
-    /// The reason to refuse an image with the fault.
+    /// Returns the reason why an image with this fault is refused.
     pub fn reason(self) -> BadImage
         ensures { result ≡ reason_of self }
     {
@@ -417,7 +417,7 @@ impl ImageFault {
         }
     }
 
-    // What is wrong, and where.
+    // Returns the line with the place of the fault, and what is wrong there.
     fn place(self) -> LineText
         ensures text { result ≡ place_text self }
         ensures short { length result ≤ 220 }
@@ -434,7 +434,7 @@ impl ImageFault {
         }
     }
 
-    /// The line about the fault: the place, what is wrong there, and the number of the reason.
+    /// Returns the whole line about the fault: the place, what is wrong there, and the number of the reason.
     pub fn line(self) -> LineText
         ensures text { result ≡ fault_text self }
         ensures short { length result ≤ 260 }

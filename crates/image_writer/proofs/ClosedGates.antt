@@ -16,16 +16,16 @@ still_closed at n old new beside change closed = search (arith, spared)
 torn_closed : (at n : ℕ) (disk : Disk) → AreBeside at n → LeavesClosed disk → (c : Image) → IsTorn at n disk c → AreClosed c
 torn_closed at n disk beside closed c torn = still_closed at n torn.0 c beside torn.2 (closed torn.0 torn.1)
 
--- a write beside the gates leaves them closed,
+-- a write of other sectors leaves the gates closed,
 pub leaves_closed : (at n : ℕ) {old new : Disk} → AreBeside at n → LeavesClosed old → WritesAt at n old new → LeavesClosed new
 leaves_closed at n {old} {new} beside closed writes = λ c left. torn_closed at n old beside closed c (writes.crash c left)
 
--- at each of its moments
+-- and does so at each of its moments
 pub closed_run : (at n : ℕ) {old new : Disk} → AreBeside at n → LeavesClosed old → WritesAt at n old new →
     LeavesOnly old new (λ c. AreClosed c)
 closed_run at n {old} {new} beside closed writes = search (arith, leaves_weaker, torn_closed)
 
--- one more of them
+-- one more such write
 pub closed_on : (at n : ℕ) {old mid new : Disk} → LeavesOnly old mid (λ c. AreClosed c) → AreBeside at n → LeavesClosed mid →
     WritesAt at n mid new → LeavesOnly old new (λ c. AreClosed c)
 closed_on at n {old} {mid} {new} first beside closed writes = search (arith, leaves_on, closed_run)
@@ -40,7 +40,7 @@ before_or_none disk c (d, left, kept) = ⊎_elim (λ same. inl (d, left, record 
 pub closing : {old new : Disk} → LeavesOnly old new (λ c. WasKeptOrHasNone old c) → LeavesOnly old new (λ c. IsBeforeOrNone old c)
 closing {old} {new} run = search (arith, leaves_weaker, before_or_none)
 
--- and what is written after it
+-- writes after the gates were closed
 pub after_closing : {old mid new : Disk} → LeavesOnly old mid (λ c. IsBeforeOrNone old c) → LeavesOnly mid new (λ c. AreClosed c) →
     LeavesOnly old new (λ c. IsBeforeOrNone old c)
 after_closing {old} {mid} {new} first second = search (arith, leaves_on, leaves_weaker, none_committed)

@@ -10,7 +10,7 @@ use Rattle.std.proofs.Common.{◌≡◌, ◌⊎◌, ◌^◌, ◌<◌, ◌≤◌,
 use Rattle.image_writer.proofs.SlotFrames.{slot_behind}
 use Rattle.std.specs.Prelude.{◌==◌, ◌&&◌}
 
--- of two headers the first is committed, where it counts and the other doesn't
+-- of two headers the first is committed, if it counts and the other doesn't
 first_alone : (first second : Bool) (m n : ℕ) → first ≡ true → second ≡ false → committed_of first m second n ≡ Some 0
 first_alone first second m n is isnt = rw (is, isnt) refl
 
@@ -77,7 +77,7 @@ pub not_yet : {old mid : Disk} (saved : SavedFrames) → LeavesOnly old mid (λ 
     LeavesOnly old mid (λ c. IsLeftWriting old saved c)
 not_yet {old} {mid} saved run = search (arith, leaves_weaker)
 
--- and with it
+-- a run that opens the gate
 pub opening_run : (p : Plan) (h : CheckpointHeader) (es : List Entry) (frames : List Frame) {old mid new : Disk} →
     IsWritten p h es frames mid.seen → h.sequence ≡ 0 → IsHeader p.geometry.log h → IsDirectory p.geometry es → length es ≡ h.entries
     → p.total ≤ old.sectors → AreKeepable p.geometry h.age frames
@@ -94,7 +94,7 @@ opening_run p h es frames {old} {mid} {new} is first_header header directory cou
 pub no_directory : (g : Geometry) → IsDirectory g []
 no_directory g = search arith
 
--- and its header is within the limits
+-- the new header is within the limits
 pub header_fits : (room age : ℕ) → age ≤ 2 ^ 62 → IsHeader room (first_header age)
 header_fits room age most = record {
   entries = omega arith;
@@ -106,12 +106,12 @@ header_fits room age most = record {
 
 -- ---- what is so where a call succeeds
 
--- once all is durable, what is seen is what a crash leaves
+-- once all is durable, a crash leaves what a read returns
 pub durable_is : {T E : Type 0} (result : Result T E) (left P : Image → Type 0) (seen : Image) → OnOk result (P seen) →
     OnOk result ((c : Image) → left c → Agrees c seen) → OnOk result ((c : Image) → left c → P c)
 durable_is {T} {E} result left P seen is only = search (arith, agrees_is)
 
--- what was written is whole once it is durable
+-- once it is durable, the image is complete
 pub all_written : (p : Plan) (h : CheckpointHeader) (es : List Entry) (frames : List Frame) (front behind now : Image) → IsPlan p →
     HasOpeningSectors p h front → Elsewhere 5 (p.total - 5) front behind
     → directory_in behind p h.generation (length es) ≡ directory_bytes es →
@@ -146,7 +146,7 @@ still_zeros p generation es old new fits change zeros = record {
 
 -- ---- sectors of the image
 
--- a change of some sectors of an image is one of the image
+-- a change of some sectors of an image is a change within the image
 pub widened : (total at n : ℕ) (old new : Image) → at + n ≤ total → Elsewhere at n old new → Elsewhere 0 total old new
 widened total at n old new inside change = record {
   before = λ i lt. absurd (omega (arith, lt));

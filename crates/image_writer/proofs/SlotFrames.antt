@@ -83,7 +83,7 @@ module _ (p : Plan) (generation : ℕ) (es : List Entry) (i : ℕ) (mid new : Im
         subst (λ (k : ℕ). LieAt p frames (entry_at es k).object (slot_sector p generation (entry_at es k).slot) new) same here
   ]
 
-  -- and stays in the half
+  -- all changes stay in the half
   pub stays_in_half : (old : Image) → Elsewhere (half_sector p generation) (9 * p.geometry.log) old mid →
       Elsewhere (half_sector p generation) (9 * p.geometry.log) old new
   stays_in_half old so_far = search (arith, fits, slot_length)
@@ -138,7 +138,7 @@ all_slotted p generation es frames homes new fits change home slots a lt = by (f
       subst (λ (s : ℕ). bytes_at new (slot_sector p generation s) p a ≡ frame_bytes p.geometry a (frame_at frames a)) entry.slot_is
       ((slots entry.index entry.within).frame a lt (sym entry.home_is)))
 
--- and each block has zeros after its frames
+-- each block has zeros after its frames
 pub all_end : (p : Plan) (generation : ℕ) (es : List Entry) (frames : List Frame) (homes new : Image) → IsPlan p →
     Elsewhere (half_sector p generation) (half_extent p.geometry 0).length homes new → EndAtHome p (object_count p.geometry) homes
     → AreInSlots p generation es frames (length es) new → EndInZeros p generation es new

@@ -1,4 +1,4 @@
-// Writing the frames that share a home to any sectors.
+// Writing all frames that share a home, into any sectors.
 ghost use Rattle.std.specs.Prelude.{◌≡◌, ◌+◌, ◌≤◌, length, OnOk};
 ghost use Rattle.device.specs.Calls.{Counts};
 ghost use Rattle.layout.specs.Homes.{place_length};
@@ -16,8 +16,8 @@ use home_ranges::Home;
 use layout::{BLOCK_BYTES, put_frame, write_sectors};
 use model::{Cap, Content, ObjectHeader};
 
-// Fills a block of zeros with the frames of all objects with the home of `number`. Each frame has the
-// header and the content of its number.
+// Fills a block of zeros with the frames of all objects that share the home of `number`. Each frame has the header
+// and the content of its object in `headers` and `contents`.
 fn fill_block(
     home: &Home,
     number: u64,
@@ -50,8 +50,8 @@ fn fill_block(
     }
 }
 
-/// Writes the frames of all objects with the home of `number` into the sectors from `at` on, as they lie at home,
-/// and zeros after them. Returns `Failed` exactly if the device failed.
+/// Writes the frames of all objects that share the home of `number` into the sectors from `at` on, in the form that
+/// they have at home, with zeros after them. Returns `Failed` exactly if the device failed.
 pub(crate) fn write_shared<D: Device>(
     device: &mut D,
     home: &Home,

@@ -13,10 +13,9 @@ use device::{Device, Failed};
 use home_ranges::Home;
 use model::{Cap, Content, ObjectHeader};
 
-/// Writes the homes of all `count` objects, each home once. Each frame has the header and the content
-/// of its number, and blocks end in zeros. The gates of both headers are closed, and a crash at any
-/// moment leaves them so.
-/// Returns `Failed` exactly if the device failed.
+/// Writes the homes of all `count` objects, each home once. Each frame has the header and the content of its object,
+/// and the rest of a block is zeros. The gates of both headers must be closed, and a crash at any moment leaves them
+/// closed. Returns `Failed` exactly if the device failed.
 #[tactic(auto, using(crate::proofs::HomeFrames::stays_between))]
 pub(crate) fn write_homes<D: Device>(
     device: &mut D,

@@ -25,8 +25,8 @@ use home_ranges::Home;
 use layout::{CheckpointHeader, Entry, Superblock};
 use model::{Cap, Content, Geometry, ObjectHeader};
 
-// Writes the homes of all `count` objects, and the half of the log of a generation. The gates of both
-// headers are closed, and a crash at any moment leaves them so.
+// Writes the homes of all `count` objects, and the log half of a generation. The gates of both headers must be
+// closed, and a crash at any moment leaves them closed.
 #[tactic(auto, using(crate::proofs::SlotFrames::log_between))]
 fn write_frames<D: Device>(
     device: &mut D,
@@ -66,8 +66,8 @@ fn write_frames<D: Device>(
     write_log(device, &log, &home, generation, entries, headers, contents)
 }
 
-// Closes the gates of both headers, then writes an image whose gate is still closed, and makes that
-// durable. A crash at any moment leaves the old image, or none that opens.
+// Closes the gates of both headers, writes a new image except that its gate stays closed, and makes all this durable.
+// A crash at any moment leaves the old image, or none that opens.
 fn write_parts<D: Device>(
     device: &mut D,
     superblock: &Superblock,
@@ -107,16 +107,16 @@ fn write_parts<D: Device>(
     device.sync()
 }
 
-/// Writes an image over the content of the device, and allocates nothing. Each frame has the header and
-/// the content of its number. The image holds:
+/// Writes an image over the content of the device, and allocates nothing. Each frame has the header and the content
+/// of its object. The image holds:
 ///
-/// - one committed checkpoint with this header, of sequence number 0, and this directory
+/// - one committed checkpoint with this header, whose sequence number is 0, and with this directory
 /// - at home, the frames of all objects
-/// - in the slot of each entry, the frames of all objects with the home of the entry's object
+/// - in the slot of each entry, the frames of all objects that share the home of the entry's object
 /// - in each cluster that has frames, zeros after them
 ///
-/// After `Ok` a read gives that state, also after a crash. There are three steps, each durable before
-/// the next begins:
+/// After `Ok` a read returns what was written, even after a crash. There are three steps, each durable before the
+/// next begins:
 ///
 /// 1. It closes the old gates, the committed header's last. A crash leaves the old image as it was, or
 ///    no committed header.
@@ -157,8 +157,8 @@ pub fn write_saved<D: Device>(
         (D.disk device.old).seen (D.disk device.new).seen }
     ensures size { (D.disk device.new).sectors ≡ (D.disk device.old).sectors }
 
-    // A crash at any moment leaves no committed header, or the whole image, or what it could have left
-    // before. That may differ in the gates, but has the same committed header.
+    // A crash at any moment leaves no committed header, or the whole image, or what it could have left before the
+    // call. The last may differ in the gates, but has the same committed header.
     ensures any_moment { LeavesOnly (D.disk device.old) (D.disk device.new)
         (λ c. IsLeftWriting (D.disk device.old) (kept_of
         (state_of superblock.now header entries.now (frames_in headers.now contents.now))) c) }
@@ -168,11 +168,11 @@ pub fn write_saved<D: Device>(
     open_gate(device)
 }
 
-/// Writes a fresh image over the content of the device, in the steps of `write_saved`, and allocates
-/// nothing. All frames are at home, each with the header and the content of its number. The committed
-/// checkpoint has this age, generation 0, sequence number 0 and no entries.
+/// Writes a new image over the content of the device, in the steps of `write_saved`, and allocates nothing. All
+/// frames are at home, each with the header and the content of its object. The committed checkpoint has this age,
+/// generation 0, sequence number 0 and no entries.
 ///
-/// After `Ok` a read gives that state, also after a crash.
+/// After `Ok` a read returns what was written, even after a crash.
 ///
 /// Returns `Failed` exactly if the device failed; then the image's sectors may hold any bytes. Even
 /// then a crash leaves the old image, the new one, or none that opens. Sectors from the image's total
@@ -206,8 +206,8 @@ pub fn write_image<D: Device>(
         (D.disk device.old).seen (D.disk device.new).seen }
     ensures size { (D.disk device.new).sectors ≡ (D.disk device.old).sectors }
 
-    // A crash at any moment leaves no committed header, or the fresh image, or what it could have left
-    // before. That may differ in the gates, but has the same committed header.
+    // A crash at any moment leaves no committed header, or the new image, or what it could have left before the call.
+    // The last may differ in the gates, but has the same committed header.
     ensures any_moment { LeavesOnly (D.disk device.old) (D.disk device.new)
         (λ c. IsLeftWriting (D.disk device.old)
         (first_saved superblock.now.geometry age (frames_in headers.now contents.now)) c) }

@@ -3,13 +3,13 @@
 
 ghost use Rattle.image_writer.specs.Laws.{KeptHoldsTheSame, NoneIsHeld};
 
-/// If only the gates of an image changed, and its committed header stayed, it holds the same saved
-/// frames, or none as before.
+/// If only the gates of an image changed, and it still has the same committed header, it holds the same saved frames;
+/// if it held none, it holds none.
 pub fn kept_holds_the_same()
     ensures { KeptHoldsTheSame }
 {}
 
-/// An image without a committed header holds no saved frames, so it doesn't open.
+/// An image without a committed header holds no saved frames, so it can't be opened.
 #[tactic(auto, using(crate::proofs::OldImages::none_is_held))]
 pub fn none_is_held()
     ensures { NoneIsHeld }

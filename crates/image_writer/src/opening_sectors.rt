@@ -16,7 +16,7 @@ use layout::{
     write_sectors,
 };
 
-// Writes a sector before the gates, which are closed. No other sector changes.
+// Writes a sector that lies before the gates, while both gates are closed. No other sector changes.
 #[tactic(auto, using(layout::proofs::Sectors::one_from))]
 fn write_sector<D: Device>(device: &mut D, at: u64, bytes: &[u8]) -> Result<(), Failed>
     requires one { length bytes.now ≡ 512 }
@@ -33,7 +33,7 @@ fn write_sector<D: Device>(device: &mut D, at: u64, bytes: &[u8]) -> Result<(), 
     write_sectors(device, at, 1, bytes)
 }
 
-// Writes the superblock under closed gates.
+// Writes the superblock, while both gates are closed.
 fn write_superblock<D: Device>(device: &mut D, superblock: &Superblock) -> Result<(), Failed>
     requires inside { 5 ≤ (D.disk device.old).sectors }
     requires closed { LeavesClosed (D.disk device.old) }
@@ -50,7 +50,7 @@ fn write_superblock<D: Device>(device: &mut D, superblock: &Superblock) -> Resul
     write_sector(device, 0, &sector)
 }
 
-// Writes the first header under closed gates.
+// Writes the first header, while both gates are closed.
 fn write_header<D: Device>(device: &mut D, header: CheckpointHeader) -> Result<(), Failed>
     requires inside { 5 ≤ (D.disk device.old).sectors }
     requires closed { LeavesClosed (D.disk device.old) }
@@ -67,7 +67,7 @@ fn write_header<D: Device>(device: &mut D, header: CheckpointHeader) -> Result<(
     write_sector(device, HeaderSlot::First.header(), &sector)
 }
 
-/// Writes the superblock and the first header under closed gates. A crash at any moment leaves them
+/// Writes the superblock and the first header, while both gates are closed. A crash at any moment leaves these
 /// closed. Returns `Failed` exactly if the device failed.
 pub(crate) fn write_opening_sectors<D: Device>(
     device: &mut D,
@@ -101,8 +101,8 @@ fn write_gate<D: Device>(device: &mut D, gate: Gate) -> Result<(), Failed>
     write_sectors(device, HeaderSlot::First.gate(), 1, &sector)
 }
 
-/// Opens the gate of the first header, and makes it durable. All earlier writes must be durable. A
-/// crash at any moment leaves all other sectors. Returns `Failed` exactly if the device failed.
+/// Opens the gate of the first header, and makes it durable. All earlier writes must be durable already. A crash at
+/// any moment leaves all other sectors unchanged. Returns `Failed` exactly if the device failed.
 pub(crate) fn open_gate<D: Device>(device: &mut D) -> Result<(), Failed>
     requires inside { 5 ≤ (D.disk device.old).sectors }
     requires durable { Only (D.disk device.old).seen (D.disk device.old) }

@@ -17,8 +17,8 @@ use home_ranges::Home;
 use layout::Entry;
 use model::{Cap, Content, ObjectHeader};
 
-// Writes the slots of all entries of a directory. The gates of both headers are closed, and a crash
-// at any moment leaves them so.
+// Writes the slots of all entries of a directory. The gates of both headers must be closed, and a crash at any moment
+// leaves them closed.
 #[tactic(auto, using(crate::proofs::SlotFrames::stays_in_half))]
 fn write_slots<D: Device>(
     device: &mut D,
@@ -53,9 +53,9 @@ fn write_slots<D: Device>(
     Ok(())
 }
 
-/// Writes the half of the log of a generation: the slots of a directory's entries, and the directory.
-/// Each slot has the frames of all objects with the home of its object. The gates of both headers are
-/// closed, and a crash at any moment leaves them so. Returns `Failed` exactly if the device failed.
+/// Writes the log half of a generation: the slots of a directory's entries, and the directory. Each slot gets the
+/// frames of all objects that share the home of the entry's object. The gates of both headers must be closed, and a
+/// crash at any moment leaves them closed. Returns `Failed` exactly if the device failed.
 pub(crate) fn write_log<D: Device>(
     device: &mut D,
     log: &Log,

@@ -8,7 +8,7 @@ pub refused_cause : (why : BuildFault) (P : Type 0) → ((let r : Result (Unit {
     (why ≡ Failed) ↔ P
 refused_cause why P caused = (λ is. caused.0 (ap (λ (f : BuildFault). Err f) is), λ rose. let is = caused.1 rose in cc)
 
--- an image was built, and its total is told
+-- an image was built, and its total was written
 pub built_told : {D : Type 0} (disk : D → Disk) (ms : Members) (old new : D) (needed : ℕ)
     → (d : Description) × IsDescription ms d × IsWithinLimits d × (needed ≡ (plan_for d).total) → BuildsFrom ms (disk old) (disk new)
     → (Reported : List ℕ → Type 0) → Reported (line_of (built_text needed)) → BuildsFrom ms (disk old) (disk new) × TellsTotal ms Reported

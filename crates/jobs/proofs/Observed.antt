@@ -5,7 +5,7 @@ use Rattle.jobs.proofs.Names.{SeesImage, Result, IfErr, SavesImage}
 use Rattle.std.proofs.Common.{◌≡◌, ◌≢◌, ◌∷◌, ◌∙◌}
 use Rattle.script.specs.declared.fault.RunFault.TheVariants as run
 
--- an observer that lets each run go on never ends one
+-- an observer that never ends a run sees it to its end
 goes_on_to_end : {O : Type 0} (sees : Turn → O → O → Bool → Type 0) → ((t : Turn) (old new : O) (on : Bool) → sees t old new on → on ≡ true)
     → (first last : O) (turns : List Turn) (on : Bool) → AreSeen sees first last turns on → on ≡ true
 goes_on_to_end sees always first last [] on seen = seen.1
@@ -36,7 +36,7 @@ unstopped (Err run.Stopped) is = absurd (is refl)
 module _ {D S : Type 0} (disk : D → Disk) (view : S → View D) (parts : S → Parts) (device back : D) where
   module _ {O : Type 0} (sees : Geometry → Turn → O → O → Bool → Type 0) (before after : O) (input input_left : Option (List ℕ))
       (output output_left : Written) where
-    -- such an observer needs no place where it ended the run
+    -- for such an observer it doesn't matter where it would have ended the run
     pub needs_no_stop : ((g : Geometry) (t : Turn) (old new : O) (on : Bool) → sees g t old new on → on ≡ true) →
         (outcome : Result (Result (Unit {0}) RunFault) OpenFault) →
         SeesImage disk view parts sees device back before after input input_left output output_left outcome → HasStop outcome None

@@ -25,12 +25,12 @@ module _ {D E : Type 0} (l : NewLayout) (disk : D → Disk) (new_disk : E → Di
   total_reported (Ok a) reported front is = told_of (Wrote output output_left) reported
   total_reported (Err f) reported front is = rw is (told_of (WroteFront output output_left) front)
 
--- that isn't reported as a failure of the old device
+-- this isn't reported as a failure of the old device
 pub never_old : (result : Result (Unit {0}) Fault) → IfErr result (λ f. f ≡ fault.CannotWriteOutput) → IsErrOf result old_failed → ⊥
 never_old (Ok a) is reported = cc
 never_old (Err f) is reported = let same : f ≡ old_failed = cc in let other : fault.CannotWriteOutput ≡ old_failed = sym is ∙ same in cc
 
--- what was only read was so whichever way its failure is reported
+-- a device that was only read was so however its failure is reported
 pub read_reported : {D : Type 0} (disk : D → Disk) (was_closed : D → Type 0) (old : D) (reported other : Type 0) → (other → reported) →
     (reported → other) → ReadsAndCloses disk was_closed old reported → ReadsAndCloses disk was_closed old other
 read_reported disk was_closed old reported other back on read = (
@@ -43,7 +43,7 @@ read_reported disk was_closed old reported other back on read = (
   },
 )
 
--- its failure isn't reported of an upgrade
+-- after an upgrade that succeeded, no failure of the old device is reported
 pub read_upgraded : {D : Type 0} (disk : D → Disk) (was_closed : D → Type 0) (old : D) (total : ℕ) →
     (let r : Result ℕ UpgradeFault = Ok total in ReadsAndCloses disk was_closed old (IsErrOf r (upgrade.Old opening.Failed)))
     → (reported : Result (Unit {0}) Fault) → (IsErrOf reported old_failed → ⊥) →
@@ -53,7 +53,7 @@ read_upgraded disk was_closed old total read reported never =
     read_reported disk was_closed old (IsErrOf r (upgrade.Old opening.Failed)) (IsErrOf reported old_failed) (λ is. absurd (never is))
     (λ is. cc) read
 
--- of none it is
+-- after an upgrade that failed, the report says whether the old device failed
 pub read_refused : {D T : Type 0} (disk : D → Disk) (was_closed : D → Type 0) (old : D) (why : UpgradeFault) →
     (let r : Result T UpgradeFault = Err why in ReadsAndCloses disk was_closed old (IsErrOf r (upgrade.Old opening.Failed)))
     → (let reported : Result (Unit {0}) Fault = Err (fault.Upgrade why) in ReadsAndCloses disk was_closed old (IsErrOf reported old_failed))

@@ -2,7 +2,7 @@
 use Rattle.jobs.proofs.Names.{Writes, Written, Wrote, WroteFront, RunFault, Fault, after_write, Result, Ok, Err, ℕ, List}
 use Rattle.jobs.specs.declared.fault.Fault.TheVariants as fault
 
--- what holds of an outcome where a text was written, and where not all of it was
+-- a property of the outcome of a write, whether the text was written or only a part of it
 pub text_written : (old new : Written) (text : List ℕ) (Tells : Result (Unit {0}) Fault → Type 0) →
     ((a : Unit {0}) → Wrote old new text → Tells (Ok a)) → (WroteFront old new text → Tells (Err fault.CannotWriteOutput)) →
     (wrote : Result (Unit {0}) RunFault) → Writes old new wrote text → Tells (after_write wrote)

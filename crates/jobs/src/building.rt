@@ -12,7 +12,7 @@ use image_builder::Blueprint;
 use script::{LineText, Output};
 use std::alloc::Global;
 
-// Builds an image, and reports how many sectors it has.
+// Builds an image, and writes how many sectors it has.
 fn build_and_tell<D: Device, W: Output>(
     alloc: Global,
     blueprint: &Blueprint,
@@ -35,13 +35,12 @@ fn build_and_tell<D: Device, W: Output>(
     of_write(line.write_to(writer))
 }
 
-/// Builds the image of a description that was read, whichever its table is, on a device, and writes
-/// `built T sectors`. A fault is returned after one line was written to `errors`: `bad description`
-/// with a number from 1 to 6, `cannot write image` if the device is too small, `device failed`,
-/// `no memory`, or, with the image built, `cannot write output` if the writer fails.
+/// Builds the image of a description on a device, and writes `built T sectors`. Before a fault is returned, one line
+/// is written to `errors`: `bad description` with a number from 1 to 6, `cannot write image` if the device is too
+/// small, `device failed`, `no memory`, or `cannot write output` if the writer fails; in the last case the image is
+/// built.
 ///
-/// A crash at any moment leaves the image that was there, as it was; or nothing that can be opened;
-/// or the described one, whole.
+/// A crash at any moment leaves the old image unchanged; or nothing that can be opened; or the whole described image.
 pub fn build_image<D: Device, W: Output, V: Output>(
     alloc: Global,
     blueprint: &Blueprint,

@@ -13,7 +13,7 @@ use recovery::recover;
 use script::{LineText, Output};
 use std::alloc::Global;
 
-// The line for an image that can be opened.
+// Returns the line for an image that can be opened.
 fn checked_line(saved: Checkpoint) -> LineText
     ensures text { result ≡ checked_text Text saved.generation saved.age saved.entries }
     ensures short { length result ≤ 120 }
@@ -24,7 +24,7 @@ fn checked_line(saved: Checkpoint) -> LineText
     line
 }
 
-// The same in a format.
+// Returns this line in a format.
 fn line_of_saved(format: Format, saved: Checkpoint) -> LineText
     ensures text { result ≡ checked_text format saved.generation saved.age saved.entries }
     ensures short { length result ≤ 300 }
@@ -41,10 +41,10 @@ fn line_of_saved(format: Format, saved: Checkpoint) -> LineText
     }
 }
 
-/// Opens a device as a run does, and writes `ok generation G age A entries E` of the checkpoint
-/// that it holds, or these values as an object in JSON; then the status is 0. After a fault one
-/// line is written to `errors`, and the status is 1: `bad image` with a number from 1 to 10,
-/// `device failed` or `no memory` where the device isn't opened, and `cannot write output` where the writer fails.
+/// Opens a device as a run does, and writes `ok generation G age A entries E` of its checkpoint, or these values as a
+/// JSON object; then the status is 0. After a fault one line is written to `errors`, and the status is 1: `bad image`
+/// with a number from 1 to 10, `device failed` or `no memory` if the device isn't opened, and `cannot write output`
+/// if the writer fails.
 ///
 /// The device is returned. Nothing is written to it at any moment.
 pub fn check_image<D: Device, S: ObjectStore<D>, W: Output, V: Output>(

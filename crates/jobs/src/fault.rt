@@ -1,4 +1,4 @@
-// Why a command of `eros` fails.
+// The faults of the commands of `eros`.
 ghost use Rattle.std.specs.Prelude.{◌≡◌, ◌≤◌, ◌∷◌, [], codes, length};
 ghost use Rattle.json_lines.specs.Objects.{text_object};
 ghost use Rattle.model.specs.Text.{line_of};
@@ -18,40 +18,39 @@ use script::{LineText, Output, RunFault, refusal_line};
 /// Why a command of `eros` failed.
 #[derive(Clone, Copy)]
 pub enum Fault {
-    /// The file of the description can't be read.
+    /// The description's file can't be read.
     CannotReadDescription,
     /// The description isn't TOML.
     NotToml,
-    /// The file of the image can't be made, or is too small.
+    /// The image's file can't be made, or is too small.
     CannotWriteImage,
-    /// The file of the image can't be opened as a device.
+    /// The image's file can't be opened as a device.
     CannotOpenImage,
-    /// The file of the script can't be read.
+    /// The script's file can't be read.
     CannotReadScript,
     /// Standard output can't be written.
     CannotWriteOutput,
     /// Memory ran out.
     NoMemory,
-    /// No image was built.
+    /// No image was built, for this reason.
     Build(BuildFault),
-    /// The device isn't opened.
+    /// The device could not be opened, for this reason.
     Open(OpenFault),
-    /// No image was upgraded.
+    /// No image was upgraded, for this reason.
     Upgrade(UpgradeFault),
     /// A strict run ended at a line.
     Stopped(Stop),
     /// This number isn't the number of a process.
     NoProcess(u64),
-    /// No object with this number is drawn.
+    /// The graph has no object with this number.
     NoObject(u64),
-    /// There is no image of these sizes for what is saved.
+    /// The description can't be renumbered for these sizes.
     Sizes(GrowthFault),
     /// A stage of saving was refused.
     NotSaved(Refusal),
 }
 
-/// The end of a run, where the device was opened, as a fault of the command. A run that its observer
-/// ended has the place where it did.
+/// Returns the outcome of a run as the outcome of its command. If an observer ended the run, `stop` is where.
 pub(crate) fn of_run(
     outcome: Result<Result<(), RunFault>, OpenFault>,
     stop: Option<Stop>,
@@ -71,7 +70,7 @@ pub(crate) fn of_run(
     }
 }
 
-/// The outcome of a command that ends with this write.
+/// Returns the outcome of a command whose last step is this write.
 pub fn of_write(wrote: Result<(), RunFault>) -> Result<(), Fault>
     ensures { result ≡ after_write wrote }
 {
@@ -81,7 +80,7 @@ pub fn of_write(wrote: Result<(), RunFault>) -> Result<(), Fault>
     }
 }
 
-// The message where no image was built.
+// Returns the message for an image that was not built.
 fn build_line(fault: BuildFault) -> LineText
     ensures text { result ≡ build_text fault }
     ensures short { length result ≤ 60 }
@@ -99,7 +98,7 @@ fn build_line(fault: BuildFault) -> LineText
     }
 }
 
-// The message where a device isn't opened.
+// Returns the message for a device that was not opened.
 fn open_line(fault: OpenFault) -> LineText
     ensures text { result ≡ open_text fault }
     ensures short { length result ≤ 60 }
@@ -111,7 +110,7 @@ fn open_line(fault: OpenFault) -> LineText
     }
 }
 
-// The same in JSON.
+// Returns the JSON object for a device that was not opened.
 fn open_json(fault: OpenFault) -> LineText
     ensures text { result ≡ open_json fault }
     ensures short { length result ≤ 300 }
@@ -126,7 +125,7 @@ fn open_json(fault: OpenFault) -> LineText
     }
 }
 
-// A fault about a number, in JSON.
+// Returns the JSON object for a fault about a number.
 fn numbered_json(name: &[u8], number: u64) -> LineText
     requires { length name.now ≤ 40 }
     ensures text { result ≡ text_object (codes "fault") name.now (Member.Number Key.Number number ∷ []) }
@@ -135,7 +134,7 @@ fn numbered_json(name: &[u8], number: u64) -> LineText
     text_object(b"fault", name, &[Member::Number(Key::Number, number)])
 }
 
-// The message where no image was upgraded.
+// Returns the message for an image that was not upgraded.
 fn upgrade_line(fault: UpgradeFault) -> LineText
     ensures text { result ≡ upgrade_text fault }
     ensures short { length result ≤ 60 }
@@ -148,7 +147,7 @@ fn upgrade_line(fault: UpgradeFault) -> LineText
     }
 }
 
-// The message where no description is renumbered.
+// Returns the message for a description that can't be renumbered.
 fn sizes_line(fault: GrowthFault) -> LineText
     ensures text { result ≡ sizes_text fault }
     ensures short { length result ≤ 60 }
@@ -161,7 +160,7 @@ fn sizes_line(fault: GrowthFault) -> LineText
     }
 }
 
-// The line of a strict run that ended.
+// Returns the message for a strict run that ended.
 fn stop_line(stop: Stop) -> LineText
     ensures text { result ≡ stop_text stop }
     ensures short { length result ≤ 120 }
@@ -172,7 +171,7 @@ fn stop_line(stop: Stop) -> LineText
     line
 }
 
-// The line where a stage of saving was refused.
+// Returns the message for a stage of saving that was refused.
 fn unsaved_line(refusal: Refusal) -> LineText
     ensures text { result ≡ not_saved_text refusal }
     ensures short { length result ≤ 60 }
@@ -183,7 +182,7 @@ fn unsaved_line(refusal: Refusal) -> LineText
 }
 
 impl Fault {
-    // The message of this fault.
+    // Returns the message of this fault.
     fn line(self) -> LineText
         ensures text { result ≡ fault_text self }
         ensures short { length result ≤ 120 }
@@ -207,7 +206,7 @@ impl Fault {
         }
     }
 
-    // The object in JSON of this fault. The faults of commands without `--json` have only a name.
+    // Returns the JSON object of this fault. For faults of commands without `--json` it has only a name.
     fn json(self) -> LineText
         ensures text { result ≡ fault_json self }
         ensures short { length result ≤ 300 }
@@ -233,7 +232,8 @@ impl Fault {
         }
     }
 
-    /// Writes it as an object in JSON, on a line. `RunFault::Write` where the writer fails or takes nothing.
+    /// Writes the fault as a JSON object, on a line. Returns `RunFault::Write` if the writer fails or accepts no
+    /// bytes.
     pub fn tell_json<W: Output>(self, writer: &mut W) -> Result<(), RunFault>
         ensures { Writes (W.written writer.old) (W.written writer.new) result
             (line_of (fault_json self)) }
@@ -241,7 +241,7 @@ impl Fault {
         self.json().write_to(writer)
     }
 
-    /// Writes it as a line. `RunFault::Write` where the writer fails or takes nothing.
+    /// Writes the message of the fault as a line. Returns `RunFault::Write` if the writer fails or accepts no bytes.
     pub fn tell<V: Output>(self, errors: &mut V) -> Result<(), RunFault>
         ensures { Writes (V.written errors.old) (V.written errors.new) result
             (line_of (fault_text self)) }
@@ -250,8 +250,8 @@ impl Fault {
     }
 }
 
-/// The exit status of a command with this outcome: 0 for success and 1 for a fault. The message of
-/// a fault is written first.
+/// Returns the exit status of a command with this outcome: 0 for success and 1 for a fault. Writes the message of a
+/// fault first.
 pub fn status<V: Output>(outcome: Result<(), Fault>, errors: &mut V) -> u8
     ensures status { result ≡ status_of outcome }
     ensures reported { IsReported outcome (V.written errors.old) (V.written errors.new) }

@@ -1,5 +1,5 @@
-//! What each command of `eros` that runs, builds, checks or upgrades an image does once its files are open, over any
-//! device, reader and writer; the faults and the status of every command.
+//! The commands of `eros` that run, build, check or upgrade an image, from the moment that their files are open; over
+//! any device, reader and writer. Also the faults and the status of every command.
 #![tactic(auto)]
 
 mod building;

@@ -13,7 +13,7 @@ use runs::{Observer, Script, Silent, Tracer, run_observed};
 use script::{Output, RunFault};
 use std::alloc::Global;
 
-// Opens a device, runs a script over it, and gives it back.
+// Opens a device, runs a script over it, and returns it.
 fn open_and_run<D: Device, S: ObjectStore<D>, R: Script, W: Output, O: Observer>(
     alloc: Global,
     device: D,
@@ -33,13 +33,12 @@ fn open_and_run<D: Device, S: ObjectStore<D>, R: Script, W: Output, O: Observer>
     (Ok(outcome), kernel.into_device())
 }
 
-/// Opens a device that holds an image, runs a script over it, and writes the answers; then the
-/// status is 0, whatever they are. After a fault one line is written to `errors`, and the status is
-/// 1: `bad image` with a number from 1 to 10, `device failed` or `no memory` where the device isn't
-/// opened, and nothing was read or written; `cannot read script` and `cannot write output`
-/// where the reader or the writer fails.
+/// Opens a device that holds an image, runs a script over it, and writes the answers; then the status is 0, whatever
+/// the answers are. After a fault one line is written to `errors`, and the status is 1: `bad image` with a number
+/// from 1 to 10, `device failed` or `no memory` if the device isn't opened, and then nothing was read or written;
+/// `cannot read script` or `cannot write output` if the reader or the writer fails.
 ///
-/// The device is given back as the last answer left it. One that isn't opened is as it was.
+/// The device is returned as the last answer left it. A device that can't be opened is returned unchanged.
 pub fn run_image<D: Device, S: ObjectStore<D>, R: Script, W: Output, V: Output>(
     alloc: Global,
     device: D,
@@ -65,13 +64,11 @@ pub fn run_image<D: Device, S: ObjectStore<D>, R: Script, W: Output, V: Output>(
     Done::report(of_run(outcome, None), device, errors)
 }
 
-/// Runs a script as `run_image` does, and traces it. Where the run is strict it ends at the first
-/// line that is bad or refused, or whose order has a result code other than 0. Answers up to and
-/// with that of this line are written, the line `stopped at line` with its number and the reason is
-/// written to `errors`, and the status is 1.
+/// Runs a script as `run_image` does, and traces it. A strict run ends at the first line that is bad or refused, or
+/// whose order has a result code other than 0. Then all answers up to that of this line are written, the line
+/// `stopped at line` with its number and the reason is written to `errors`, and the status is 1.
 ///
-/// What is written to `writer`, and what becomes of the device, is that of `run_image` for the lines
-/// taken.
+/// The text written to `writer`, and the changes of the device, are those of `run_image` for the lines taken.
 pub fn run_traced<D: Device, S: ObjectStore<D>, R: Script, W: Output, T: Output, V: Output>(
     alloc: Global,
     device: D,

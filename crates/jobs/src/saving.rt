@@ -1,4 +1,4 @@
-// The command that runs a script and saves all.
+// The command that runs a script and then saves.
 ghost use Rattle.std.specs.Prelude.{◌≡◌, Result};
 ghost use Rattle.jobs.specs.Faults.{IsEnd, IsReported};
 ghost use Rattle.jobs.specs.Saving.{EndsSaved, SavesAndTells, SavesImage, first_fault, saved_end, saved_text};
@@ -14,7 +14,7 @@ use runs::{Script, Tracer, run_observed, save};
 use script::{Output, RunFault, print_answer, refusal_line};
 use std::alloc::Global;
 
-// The fault of a command whose saving was refused, where that was written or not.
+// Returns the fault of a command whose saving was refused. `wrote` is whether the refusal could be written.
 fn of_refusal(refusal: Refusal, wrote: Result<(), RunFault>) -> Result<(), Fault>
     ensures { result ≡ saved_end (Err refusal) wrote }
 {
@@ -24,7 +24,7 @@ fn of_refusal(refusal: Refusal, wrote: Result<(), RunFault>) -> Result<(), Fault
     }
 }
 
-// Saves all, and writes the answer.
+// Saves the present state, and writes the answer.
 fn save_and_tell<D: Device, S: ObjectStore<D>, W: Output>(
     kernel: &mut Kernel<D, S>,
     writer: &mut W,
@@ -37,7 +37,7 @@ fn save_and_tell<D: Device, S: ObjectStore<D>, W: Output>(
     }
 }
 
-// Opens a device, runs a script over it, saves all if the script was read to its end, and gives the device back.
+// Opens a device, runs a script over it, saves if the script was read to its end, and returns the device.
 fn open_run_and_save<D: Device, S: ObjectStore<D>, R: Script, W: Output, T: Output>(
     alloc: Global,
     device: D,
@@ -66,7 +66,7 @@ fn open_run_and_save<D: Device, S: ObjectStore<D>, R: Script, W: Output, T: Outp
     }
 }
 
-// The fault of the run if it has one, and else that of saving.
+// Returns the fault of the run if it has one, else the outcome of saving.
 fn end_of(ran: Result<(), Fault>, saved: Result<(), Fault>) -> Result<(), Fault>
     ensures { result ≡ first_fault ran saved }
 {
@@ -76,11 +76,11 @@ fn end_of(ran: Result<(), Fault>, saved: Result<(), Fault>) -> Result<(), Fault>
     }
 }
 
-/// Runs a script as `run_traced` does. If the script is read to its end, all is saved: a checkpoint, its commit and its
-/// migration. The last line written is the answer to the commit. If a stage is refused, the last line is the refusal, the
-/// line `not saved` with it is written to `errors`, and the status is 1.
+/// Runs a script as `run_traced` does. If the script was read to its end, saves the present state: a checkpoint, its
+/// commit and its migration. The last line written is the answer to the commit. If a stage is refused, the last line
+/// is the refusal, the line `not saved` with it is written to `errors`, and the status is 1.
 ///
-/// If the run ends before, nothing is saved beside what the script committed.
+/// If the run ends before the script does, only what the script committed is saved.
 pub fn run_and_save<D: Device, S: ObjectStore<D>, R: Script, W: Output, T: Output, V: Output>(
     alloc: Global,
     device: D,

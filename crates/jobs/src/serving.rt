@@ -1,4 +1,4 @@
-// The command that serves the lines of a shell.
+// The command that runs a shell.
 ghost use Rattle.std.specs.Prelude.{◌≡◌, None, Result};
 ghost use Rattle.layout.specs.declared.open_fault.OpenFault.{OpenFault};
 ghost use Rattle.jobs.specs.Faults.{HasStop, IsEnd, IsReported, IsRunEnd};
@@ -17,7 +17,7 @@ use script::{Output, RunFault};
 use shell::{Shell, TypedLines};
 use std::alloc::Global;
 
-// Opens a device, serves lines over it, and gives it back.
+// Opens a device, carries out the lines of a shell over it, and returns it.
 fn open_and_serve<D: Device, S: ObjectStore<D>, R: RawReader, N: Output, W: Output>(
     alloc: Global,
     device: D,
@@ -38,7 +38,7 @@ fn open_and_serve<D: Device, S: ObjectStore<D>, R: RawReader, N: Output, W: Outp
     (Ok(outcome), kernel.into_device())
 }
 
-// Says in the end that something isn't committed, if so. A line that can't be written is left out.
+// Writes a line if there are uncommitted invocations or stores. A failure to write it is ignored.
 fn tell_unsaved<V: Output>(unsaved: Unsaved, errors: &mut V)
     ensures { TellsUnsaved unsaved (V.written errors.old) (V.written errors.new) }
 {
@@ -47,12 +47,13 @@ fn tell_unsaved<V: Output>(unsaved: Unsaved, errors: &mut V)
     }
 }
 
-/// Opens a device that holds an image, and serves a shell's lines over it; then the status is 0, whatever the answers are.
-/// After a fault one line is written to `errors`, and the status is 1: `bad image` with a number from 1 to 10, `device
-/// failed` or `no memory` where the device isn't opened, and nothing was read or written; `cannot read script` and `cannot
-/// write output` where the reader or the writer fails. If a process did something that isn't committed, one line says so.
+/// Opens a device that holds an image, and carries out a shell's lines over it; then the status is 0, whatever the
+/// answers are. After a fault one line is written to `errors`, and the status is 1: `bad image` with a number from 1
+/// to 10, `device failed` or `no memory` if the device isn't opened, and then nothing was read or written; `cannot
+/// read script` or `cannot write output` if the reader or the writer fails. If there are uncommitted invocations or
+/// stores at the end, one line says so.
 ///
-/// The device is given back as the last line left it. One that isn't opened is as it was.
+/// The device is returned as the last line left it. A device that can't be opened is returned unchanged.
 pub fn run_shell<D: Device, S: ObjectStore<D>, R: RawReader, N: Output, W: Output, V: Output>(
     alloc: Global,
     device: D,

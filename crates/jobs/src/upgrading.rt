@@ -1,4 +1,4 @@
-// The commands that write an image to a new one.
+// The commands that write the saved state of an image to a new image.
 ghost use Rattle.std.specs.Prelude.{◌≡◌, ◌≤◌, length, IfErr, IsErrOf, OnErr, OnOk};
 ghost use Rattle.model.specs.Text.{line_of};
 ghost use Rattle.device.specs.Moments.{LeavesOnly};
@@ -14,7 +14,7 @@ use migrator::WholeStore;
 use script::{LineText, Output};
 use std::alloc::Global;
 
-// The line for a new image with this count of sectors.
+// Returns the line that says how many sectors the new image has.
 fn total_line(layout: NewLayout, total: u64) -> LineText
     ensures text { result ≡ upgraded_text layout total }
     ensures short { length result ≤ 60 }
@@ -27,7 +27,7 @@ fn total_line(layout: NewLayout, total: u64) -> LineText
     line
 }
 
-// Writes how many sectors a new image has.
+// Writes the line that says how many sectors the new image has.
 fn tell_total<W: Output>(layout: NewLayout, total: u64, writer: &mut W) -> Result<(), Fault>
     ensures reported { OnOk result (Wrote (W.written writer.old) (W.written writer.new)
         (line_of (upgraded_text layout total))) }
@@ -38,7 +38,8 @@ fn tell_total<W: Output>(layout: NewLayout, total: u64, writer: &mut W) -> Resul
     of_write(total_line(layout, total).write_to(writer))
 }
 
-// Writes what an old image saves to a new device in a new layout, and reports how many sectors the new image has.
+// Writes the saved state of an old image to a new device in a new layout, and then how many sectors the new image
+// has.
 fn write_and_tell<D: ClosableDevice, S: WholeStore<D>, E: Device, W: Output>(
     alloc: Global,
     image: OldImage<D, S>,
@@ -61,16 +62,17 @@ fn write_and_tell<D: ClosableDevice, S: WholeStore<D>, E: Device, W: Output>(
     }
 }
 
-/// Writes what an opened old image saves over a new device, in a new layout. Then it closes the old device, and
-/// writes `upgraded T sectors`, of the new image, or `copied T sectors` if the version of the layout is kept.
+/// Writes the saved state of an opened image over a new device, in a new layout, and closes the old device. Then
+/// writes `upgraded T sectors`, or `copied T sectors` if the version of the layout is kept, where T is the size of
+/// the new image.
 ///
 /// A fault is returned after one line was written to `errors`:
 /// - `cannot write image` if the new device is too small;
 /// - `device failed` or `no memory`;
 /// - `cannot write output` if the writer fails; the new image is written.
 ///
-/// A crash of the new device at any moment leaves the image that was there, as it was; or nothing
-/// that can be opened; or the new image, whole. Nothing is written to the old device at any moment.
+/// A crash of the new device at any moment leaves its old image unchanged; or nothing that can be opened; or the
+/// whole new image. Nothing is written to the old device at any moment.
 pub fn upgrade_opened<D: ClosableDevice, S: WholeStore<D>, E: Device, W: Output, V: Output>(
     alloc: Global,
     image: OldImage<D, S>,

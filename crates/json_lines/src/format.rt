@@ -1,10 +1,10 @@
-// How answers are written.
+// The formats in which answers are written.
 
-/// How a command writes its answers.
+/// The format in which a command writes its answers.
 #[derive(Clone, Copy)]
 pub enum Format {
-    /// Lines for people.
+    /// Lines for people to read.
     Text,
-    /// An object a line.
+    /// JSON Lines: one JSON object in each line.
     Json,
 }

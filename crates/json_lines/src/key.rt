@@ -1,8 +1,8 @@
-// The names of members that follow the first.
+// The names of members of a JSON object, except the first member's.
 ghost use Rattle.std.specs.Prelude.{◌≡◌, ◌≤◌, length};
 ghost use Rattle.json_lines.specs.Objects.{key_text};
 
-/// The name of a member that follows the first.
+/// The name of a member of a JSON object, except the first.
 #[derive(Clone, Copy)]
 pub enum Key {
     Age,
@@ -23,7 +23,7 @@ pub enum Key {
 }
 
 impl Key {
-    /// The name.
+    /// Returns the name as text.
     pub fn name(self) -> &'static [u8]
         ensures name { result.now ≡ key_text self }
         ensures short { length result.now ≤ 10 }

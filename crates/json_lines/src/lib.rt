@@ -1,4 +1,4 @@
-//! Answers as JSON Lines: each line is an object.
+//! Answers as JSON Lines: each line is a JSON object.
 #![tactic(auto)]
 
 mod format;

@@ -1,4 +1,4 @@
-// Objects of a few members, each put together as a line.
+// JSON objects with a few members, each assembled as a line.
 ghost use Rattle.std.specs.Prelude.{◌≡◌, ◌≤◌, ◌+◌, ◌++◌, ◌∷◌, length, codes};
 ghost use Rattle.model.specs.Text.{capability_text};
 ghost use Rattle.json_lines.specs.Objects.{next_text, number_line, number_object, quoted, rest_text, text_object};
@@ -8,18 +8,18 @@ use crate::key::Key;
 use model::Capability;
 use script::LineText;
 
-/// A member that follows the first.
+/// A member of a JSON object, except the first.
 #[derive(Clone, Copy)]
 pub enum Member {
     /// A number.
     Number(Key, u64),
     /// A capability, as `show` prints it.
     Capability(Key, Capability),
-    /// `false`.
+    /// The value `false`.
     No(Key),
 }
 
-// Adds the name of a member, and the colon.
+// Appends the name of a member, and a colon.
 fn add_name(line: &mut LineText, name: &[u8])
     requires { length line.old + length name.now + 3 ≤ 320 }
     ensures text { line.new ≡ line.old ++ quoted name.now ++ codes ":" }
@@ -30,7 +30,7 @@ fn add_name(line: &mut LineText, name: &[u8])
     line.push(b"\":");
 }
 
-// Adds a capability as a text.
+// Appends a capability as a JSON string.
 fn add_capability(line: &mut LineText, capability: Capability)
     requires { length line.old ≤ 240 }
     ensures text { line.new ≡ line.old ++ 32 ∷ quoted (capability_text capability) }
@@ -43,7 +43,7 @@ fn add_capability(line: &mut LineText, capability: Capability)
     line.push(b"\"");
 }
 
-// Adds a member that follows another.
+// Appends a member that isn't the first.
 fn add_member(line: &mut LineText, member: Member)
     requires { length line.old ≤ 220 }
     ensures text { line.new ≡ line.old ++ next_text member }
@@ -66,7 +66,7 @@ fn add_member(line: &mut LineText, member: Member)
     }
 }
 
-// Adds the members that follow the first, and ends the object.
+// Appends all members but the first, and ends the object.
 fn add_rest(mut line: LineText, rest: &[Member]) -> LineText
     requires first { length line ≤ 70 }
     requires few { length rest.now ≤ 3 }
@@ -80,7 +80,7 @@ fn add_rest(mut line: LineText, rest: &[Member]) -> LineText
     line
 }
 
-/// The object whose first member is a text, which has no character that JSON escapes.
+/// Returns the object whose first member is a string. The string must have no character that JSON escapes.
 pub fn text_object(name: &[u8], text: &[u8], rest: &[Member]) -> LineText
     requires name { length name.now ≤ 20 }
     requires first { length text.now ≤ 40 }
@@ -96,7 +96,7 @@ pub fn text_object(name: &[u8], text: &[u8], rest: &[Member]) -> LineText
     add_rest(line, rest)
 }
 
-/// The object whose first member is a number.
+/// Returns the object whose first member is a number.
 pub fn number_object(name: &[u8], number: u64, rest: &[Member]) -> LineText
     requires name { length name.now ≤ 20 }
     requires few { length rest.now ≤ 3 }
@@ -109,7 +109,7 @@ pub fn number_object(name: &[u8], number: u64, rest: &[Member]) -> LineText
     add_rest(line, rest)
 }
 
-/// A number after its name, in a format.
+/// Returns the line of a number after its name, in a format.
 pub fn number_line(format: Format, name: &[u8], number: u64) -> LineText
     requires { length name.now ≤ 20 }
     ensures text { result ≡ number_line format name.now number }

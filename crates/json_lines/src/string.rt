@@ -1,10 +1,10 @@
-// Objects with a text of any characters.
+// JSON objects with a string of any characters.
 ghost use Rattle.std.specs.Prelude.{◌≡◌, ◌++◌, ◌≤◌, ◌<◌, IfOk, OnOk};
 ghost use Rattle.json_lines.specs.Strings.{escaped, hex_digit, string_object};
 
 use std::alloc::{AllocError, Global};
 
-// A digit of a number in base 16.
+// Returns the byte of a digit in base 16.
 fn hex_digit(digit: u8) -> u8
     requires { digit < 16 }
     ensures { result ≡ hex_digit digit }
@@ -16,7 +16,7 @@ fn hex_digit(digit: u8) -> u8
     }
 }
 
-// Adds a byte of a text, as JSON writes it between quotes.
+// Appends a byte of a text, escaped for a JSON string.
 fn push_escaped(byte: u8, object: &mut Vec<u8>) -> Result<(), AllocError>
     ensures { OnOk result (object.new.items ≡ object.old.items ++ escaped byte) }
 {
@@ -35,7 +35,7 @@ fn push_escaped(byte: u8, object: &mut Vec<u8>) -> Result<(), AllocError>
     }
 }
 
-/// The object whose one member is a text in UTF-8. Fails only if memory runs out.
+/// Returns the object whose only member is this UTF-8 string. Fails only if memory runs out.
 #[tactic(auto, using(crate::proofs::Rests::rest_more, crate::proofs::Rests::rest_all), unfolding(crate::specs::Strings::string_object))]
 pub fn string_object(alloc: Global, name: &[u8], text: &[u8]) -> Result<Vec<u8>, AllocError>
     ensures { IfOk result (λ object. object.items ≡ string_object name.now text.now) }

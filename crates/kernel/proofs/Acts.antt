@@ -19,7 +19,7 @@ use Rattle.kernel.proofs.Stages.{same_running, saved_moved, some_left, some_ther
 use Rattle.kernel.proofs.Stages.{evict_step, migrate_step, none_to_commit, none_to_stabilize, not_home, not_stable, running_already, second_of_commit}
 use Rattle.kernel.proofs.Stages.{stabilize_step}
 
--- the same but for the store
+-- a kernel's state with another store
 abbrev pub with_store : {S : Type 0} → Live S → S → Live S
 with_store l s = record { store = s; banks = l.banks; age = l.age; frozen_age = l.frozen_age }
 
@@ -45,7 +45,7 @@ module _ {D S : Type 0} (disk : D → Disk) (view : S → View D) (parts : S →
         (only_now (view l.store).beneath) up.leaves;
   }
 
-  -- one of a store that is as it was
+  -- a refusal that leaves the store unchanged
   pub refused_again : (l : Live S) (s : S) (c : Command) (why : Refusal) → s ≡ l.store →
       ((g : Geometry) → IsUp disk view parts g l → refusal_of g (running disk view parts l) c ≡ Some why) →
       ServesUp disk view parts l c (answer.Refused why) (with_store l s)
@@ -180,10 +180,10 @@ module _ {D S : Type 0} (disk : D → Disk) (view : S → View D) (parts : S →
         to_move = (beside i).to_move;
       }
 
-  -- a stage that writes: what it leaves of the present objects, and what a crash leaves
+  -- a stage that writes: the present objects afterwards, and what a crash leaves
   module _ (l : Live S) (s : S) (size : (disk (view s).beneath).sectors ≡ (disk (view l.store).beneath).sectors)
     where
-      -- it came to another state beside the objects
+      -- the store has other snapshots and the same objects
       came : parts s ≡ parts l.store → (g : Geometry) (b : Snapshots FrozenFrames) → (view s).snapshots ≡ b → (view s).usable →
           AreSoundTogether g (parts l.store) b l.banks l.age l.frozen_age → IsUp disk view parts g (with_store l s)
       came same g b beside store sound = is_up g (with_store l s) store (stays_sound same beside sound)
@@ -203,7 +203,7 @@ module _ {D S : Type 0} (disk : D → Disk) (view : S → View D) (parts : S →
         unfolding now_frozen
         is_frozen = frozen_some (view l.store).snapshots.frozen f l.frozen_age frozen
 
-        -- some more of it is in the log
+        -- more frozen frames are in the log
         module _ (moments : LeavesSaved (disk (view l.store).beneath) (disk (view s).beneath) (view l.store).snapshots.saved) (n : ℕ)
           where
             stabilize_along : (g : Geometry) → IsUp disk view parts g l →
@@ -229,7 +229,7 @@ module _ {D S : Type 0} (disk : D → Disk) (view : S → View D) (parts : S →
             pub stabilize_failed : ServesUp disk view parts l (command.Stabilize n) (answer.Refused refusal.Fault) (with_store l s)
             stabilize_failed = failed l (with_store l s) (command.Stabilize n) stabilize_along
 
-        -- all of it is saved
+        -- all frozen frames are saved
         module _ (stable : f.left ≡ 0)
             (moments : LeavesEither (disk (view l.store).beneath) (disk (view s).beneath) (view l.store).snapshots.saved
             (next_saved whole l.frozen_age f (view l.store).snapshots.saved)) where
@@ -264,7 +264,7 @@ module _ {D S : Type 0} (disk : D → Disk) (view : S → View D) (parts : S →
           pub commit_failed : ServesUp disk view parts l command.Commit (answer.Refused refusal.Fault) (with_store l s)
           commit_failed = failed l (with_store l s) command.Commit commit_along
 
-      -- what is saved goes home
+      -- saved frames go home
       module _ (n : ℕ) (moments : LeavesEither (disk (view l.store).beneath) (disk (view s).beneath) (view l.store).snapshots.saved
           (moved_saved n (view l.store).snapshots)) where
         migrate_along : (g : Geometry) → IsUp disk view parts g l →
@@ -308,7 +308,7 @@ module _ {D S : Type 0} (disk : D → Disk) (view : S → View D) (parts : S →
     freeze_refused why same young reported = absurd reported
 
     module _ (size : (disk (view s).beneath).sectors ≡ (disk (view l.store).beneath).sectors) where
-      -- nothing is written to the log, or not all of it
+      -- the stage fails: no frame, or not all of them, got into the log
       pub stabilize_refused : (why : Refusal) (n : ℕ) → IsStabilizeAnswer (disk (view l.store).beneath) (disk (view s).beneath)
           (left_in whole (view l.store).snapshots) n (Err why) → (IsRefused {T = ℕ} (Err why) → s ≡ l.store) →
           LeavesSaved (disk (view l.store).beneath) (disk (view s).beneath) (view l.store).snapshots.saved →
@@ -319,7 +319,7 @@ module _ {D S : Type 0} (disk : D → Disk) (view : S → View D) (parts : S →
       stabilize_refused refusal.Fault n reported again moments = search (arith, nat_tests, some_there, stabilize_failed)
       stabilize_refused why n reported again moments = absurd reported
 
-      -- nothing is saved, or it isn't reported
+      -- the commit fails: nothing was saved, or it was but isn't reported
       pub commit_refused : (why : Refusal) → IsCommitAnswer (disk (view l.store).beneath) (disk (view s).beneath)
           (left_in whole (view l.store).snapshots) (view l.store).snapshots.saved.generation (Err why) →
           (IsRefused {T = ℕ} (Err why) → s ≡ l.store) → ((f : FrozenFrames) → (view l.store).snapshots.frozen ≡ Some f → f.left ≡ 0 →
@@ -367,7 +367,7 @@ pub commit_cause : (old new : Disk) (left : Option ℕ) (saved : ℕ) (why : Ref
     IsCaused old new (answer.Refused why)
 commit_cause old new left saved why reported = search (arith, nat_tests, other_cause, failed_cause)
 
--- none of them needs no look at an object
+-- these refusals come before any look at an object
 pub freeze_looks : (left : Option ℕ) (entries : ℕ) (why : Refusal) → IsFreezeAnswer {T = ℕ} left entries (Err why) →
     MakesNoDeviceCall (answer.Refused why) → ⊥
 freeze_looks left entries why reported is = search (arith, nat_tests)
@@ -380,7 +380,7 @@ pub commit_looks : (old new : Disk) (left : Option ℕ) (saved : ℕ) (why : Ref
     MakesNoDeviceCall (answer.Refused why) → ⊥
 commit_looks old new left saved why reported is = search (arith, nat_tests)
 
--- what is frozen can be committed at its age
+-- a frozen state may be committed at its age
 pub may_commit : {D S : Type 0} (disk : D → Disk) (view : S → View D) (parts : S → Parts) (l : Live S) →
     ((g : Geometry) × IsUp disk view parts g l) → (f : FrozenFrames) → (view l.store).snapshots.frozen ≡ Some f →
     MayCommit whole l.frozen_age f (view l.store).snapshots.saved
@@ -392,11 +392,11 @@ may_commit disk view parts l up f frozen =
       keepable = λ stable. subst (λ (g : Geometry). AreKeepable g l.frozen_age f.frames) (sym sound.saved.geometry) held.sound.keepable;
     }
 
--- the count of failures that a store has is that of its device: neither rose
+-- the store and its device count the same failures, and neither count rose
 pub unfailed : {old new p q : ℕ} → p ≡ old → q ≡ new → new ≡ old → q ≡ p
 unfailed before after stayed = after ∙ stayed ∙ sym before
 
--- what was only read is counted as it was
+-- after a call that only reads, the counts of banks still hold
 pub counted_still : {p q : Parts} {banks : BanksState} → AreSameUnlessFailed p q → AreCounted p.geometry (objects_in p) banks →
     q.failures ≡ p.failures → AreCounted q.geometry (objects_in q) banks
 counted_still {p} {q} {banks} same counted stayed = subst (λ (r : Parts). AreCounted r.geometry (objects_in r) banks) (sym (same stayed))
@@ -419,7 +419,7 @@ pub up_sound : {D S : Type 0} (disk : D → Disk) (view : S → View D) (parts :
 up_sound disk view parts l up = subst (λ (g : Geometry). IsSoundFrames g l.age (frames_of (parts l.store))) (sym up.1.sound.geometry)
     up.1.sound.now
 
--- what is counted of the banks of a store that is up
+-- the counts of the banks of a store that is up
 pub up_counted : {D S : Type 0} (disk : D → Disk) (view : S → View D) (parts : S → Parts) (l : Live S) →
     ((g : Geometry) × IsUp disk view parts g l) → AreCounted (parts l.store).geometry (objects_in (parts l.store)) l.banks
 up_counted disk view parts l up = search (arith, nat_tests)

@@ -70,7 +70,7 @@ module _ (g : Geometry) (s : Running) (n : ℕ) where
             unfolding refusal_of carried_out
             journal_step saved = search (arith, nat_tests, done_step)
 
-        -- what it may have saved besides
+        -- the state that a journal may have saved
         abbrev seconds : Bool → Option Frozen → Bool → Bool → Bool → List Saved
         seconds young frozen home page saved = elim (unless young refusal.Worn (elim frozen [
           | Some f ↦ Some refusal.CheckpointRunning
@@ -266,24 +266,24 @@ module _ {g : Geometry} {p : Parts} {a : Snapshots FrozenFrames} {banks : BanksS
             (running_of p a age frozen_age) { now = now; saved = machine.journaled (running_of p a age frozen_age) n; to_move = 1 } in x)
         running_next = search (arith, nat_tests, base_next, renewed_after, base_saved, saved_next)
 
--- what is saved besides, where nothing but what is saved may refuse it
+-- the state that is saved next, if nothing refuses the journal
 pub next_is : {F : Type 0} (age n : ℕ) (words : List ℕ) (o : Option F) (s : SavedFrames) (page saved b : Bool) → o ≡ None → s.entries ≡ 0 →
     page ≡ true → saved ≡ b →
     next_journaled age n words o s page saved ≡ (if b then Some (journaled_saved age n words s) else None)
 next_is age n words o s page saved b none home is_page is_saved = search (arith, nat_tests)
 
--- the same but for the store and the age
+-- a kernel's state with another store and another age
 abbrev pub with_age : {S : Type 0} → Live S → S → ℕ → Live S
 with_age l s age = record { store = s; banks = l.banks; age = age; frozen_age = l.frozen_age }
 
--- what was done left a store that can be used
+-- if the journal was done, the store can be used
 pub done_usable : {P : Type 0} (n : ℕ) → IsErrOf {T = ℕ} (Ok n) refusal.Fault ⊎ P → P
 done_usable n either = search (arith, nat_tests)
 
 still_usable : {P : Type 0} → IsErrOf {T = ℕ} (Err (refusal.NotJournaled Renewed)) refusal.Fault ⊎ P → P
 still_usable either = search (arith, nat_tests)
 
--- where it is refused with no read of an object, the store is the same
+-- a refusal before any look at an object leaves the store unchanged
 pub unlooked_same : {S : Type 0} (was now : Disk) (left : Option ℕ) (s : SavedFrames) (known page saved : Bool) (why : Refusal)
     {old new : S} → IsJournalAnswer was now left s known page saved (Err why) → (IsTurnedAway (Err why) → new ≡ old) →
     MakesNoDeviceCall (answer.Refused why) → new ≡ old
@@ -327,7 +327,7 @@ module _ {D S : Type 0} (disk : D → Disk) (view : S → View D) (parts : S →
           LeavesOneOf old new a.saved (if b then Some (journaled_saved age n (words_now (parts l.store) n) a.saved) else None)
       run_by b is = search (arith, nat_tests, next_is)
 
-      -- what a crash leaves of it
+      -- what a crash leaves during the journal
       along : (b : Bool) → is_still_saved (parts l.store) a.saved n ≡ b → (g : Geometry) → IsUp disk view parts g l →
           LeavesOne g (disk_at disk view parts l) (disk (view s).beneath)
           (saved_of (view l.store).snapshots.saved ∷ second (Up (running disk view parts l)) (command.Journal n))
@@ -344,7 +344,7 @@ module _ {D S : Type 0} (disk : D → Disk) (view : S → View D) (parts : S →
       journal_failed = failed disk view parts only_now sound_holds l (with_store l s) (command.Journal n)
           (along (is_still_saved (parts l.store) a.saved n) refl)
 
-      -- it isn't saved, or was rescinded since
+      -- the page isn't saved, or was freed since
       pub not_saved : parts s ≡ parts l.store → is_still_saved (parts l.store) (view l.store).snapshots.saved n ≡ false →
           (view s).snapshots ≡ (view l.store).snapshots → (view s).usable →
           ServesUp disk view parts l (command.Journal n) (answer.Refused (refusal.NotJournaled Renewed)) (with_store l s)
@@ -361,7 +361,7 @@ module _ {D S : Type 0} (disk : D → Disk) (view : S → View D) (parts : S →
             leaves = along false other g up;
           }
 
-      -- it is saved
+      -- the page is journaled
       pub journal_went : parts s ≡ parts l.store → is_still_saved (parts l.store) (view l.store).snapshots.saved n ≡ true →
           (generation : ℕ) → generation ≡ (view l.store).snapshots.saved.generation + 2 →
           (view s).snapshots ≡ journaled ((view l.store).snapshots.saved.age + 1) n (words_now (parts l.store) n) (view l.store).snapshots →
@@ -382,7 +382,7 @@ module _ {D S : Type 0} (disk : D → Disk) (view : S → View D) (parts : S →
             leaves = along true is g up;
           }
 
-    -- it is refused
+    -- the journal is refused
     pub journal_refused : (why : Refusal) → (disk (view s).beneath).sectors ≡ (disk (view l.store).beneath).sectors →
         IsJournalAnswer (disk (view l.store).beneath) (disk (view s).beneath) (left_in whole (view l.store).snapshots)
         (view l.store).snapshots.saved

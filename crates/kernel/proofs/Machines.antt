@@ -22,7 +22,7 @@ pub header_in : (hs : List ObjectHeader) (cs : List (Content Cap)) (n : ℕ) →
 header_in hs cs n = sym (get_or-map (λ (f : Frame). f.header) (frames_in hs cs) n blank_frame) ∙
     ap (λ (ks : List ObjectHeader). header_at ks n) (headers_in hs cs)
 
--- a count differs where it did before, or rises now
+-- a count differs from the saved one if it did before, or rises now
 differs : (gone : Bool) (base old new : ℕ) → base ≤ old → new ≡ old + (if gone then 1 else 0) →
     (not (old == base) || gone) ≡ not (new == base)
 differs gone base old new le is = search (arith, nat_tests, ne_eqb)
@@ -62,7 +62,7 @@ frames_if b fs = search (arith, nat_tests)
 pub base_moved : (a : Snapshots FrozenFrames) (n : ℕ) → base_of (moved n a) ≡ base_of a
 base_moved a n = ap (λ (fs : List Frame). base_by fs a.frozen) (frames_if (a.to_move - n == 0) a.saved)
 
--- one of the first is one of all
+-- a candidate among the first is one among all
 pub among : (g : Geometry) (size : ℕ) (c : Image) (ss ts : List Saved) → DenotesOne g size ss c → DenotesOne g size (ss ++ ts) c
 among g size c [] ts one = absurd one
 among g size c (s ∷ ss) ts one = ⊎_elim (λ here. inl here) (λ there. inr (among g size c ss ts there)) one
@@ -76,7 +76,7 @@ pub leaves_along : {g : Geometry} {old new : Disk} {fs : SavedFrames} {ts : List
     LeavesSaved old new fs → LeavesOne g old new (saved_of fs ∷ ts)
 leaves_along {g} {old} {new} {fs} {ts} sound size moments = search (arith, nat_tests, leaves_weaker, denoted_by)
 
--- or what is saved next
+-- or the state that is saved next
 pub leaves_either : {g : Geometry} {old new : Disk} {fs next : SavedFrames} → IsSoundSaved g fs → IsSoundSaved g next →
     new.sectors ≡ old.sectors → LeavesEither old new fs next →
     LeavesOne g old new (saved_of fs ∷ saved_of next ∷ [])
@@ -88,7 +88,7 @@ leaves_either {g} {old} {new} {fs} {next} sound sound_next size moments = record
       (λ is. inr (inl (denoted_by g old.sectors c next sound_next is))) held) moments;
 }
 
--- where a run ends a crash leaves no more than at its moments
+-- a crash at the end of a run leaves no more than a crash during the run
 pub leaves_end : (g : Geometry) (old new : Disk) (ss : List Saved) → CountsNow new → LeavesOne g old new ss → Leaves g new ss
 leaves_end g old new ss counts_now run c left = search (arith, nat_tests)
 
@@ -124,7 +124,7 @@ leaves_home g old new a n sound size moments =
 only_one : (s t : Saved) → Contains (s ∷ []) t → t ≡ s
 only_one s t there = search (arith, nat_tests)
 
--- one that is up is opened again at what is saved
+-- a machine that is up reopens at the saved state
 up_again : (g : Geometry) (r : Running) (a : Answer) (after : Machine) → Reopens g (r.saved ∷ []) a after →
     (a ≡ answer.At r.saved.generation r.saved.world.age) × (after ≡ Up (opened g r.saved))
 up_again g r a after again = search (arith, nat_tests, only_one)
@@ -148,7 +148,7 @@ reopens_step g m c a after which again = search (arith, nat_tests, restarts, is_
 
 -- ---- crashes
 
--- more may be said of a run
+-- a run with more candidates
 more_left : (g : Geometry) (old new : Disk) (ss ts : List Saved) → LeavesOne g old new ss → LeavesOne g old new (ss ++ ts)
 more_left g old new ss ts run = search (arith, nat_tests, leaves_weaker, among)
 
@@ -156,7 +156,7 @@ more_left g old new ss ts run = search (arith, nat_tests, leaves_weaker, among)
 left_on : (g : Geometry) (old mid new : Disk) (ss : List Saved) → LeavesOne g old mid ss → LeavesOne g mid new ss → LeavesOne g old new ss
 left_on g old mid new ss first next = search (arith, nat_tests, leaves_on)
 
--- the power was cut: a crash leaves what it left
+-- after a power cut, a crash leaves what the cut left
 module _ (g : Geometry) (old new : Disk) (ss : List Saved) (left : old.may_leave new.seen) (durable : Only new.seen new)
     (size : new.sectors ≡ old.sectors)
     (before : Leaves g old ss) where
@@ -178,7 +178,7 @@ module _ {D S : Type 0} (disk : D → Disk) (view : S → View D) (parts : S →
       IsSomeUp disk view parts l
   requested_up o d l is some = search (arith, nat_tests, some_up)
 
-  -- it answered
+  -- a kernel that answered stays up
   pub stays_up : (l k : Live S) (c : Command) (a : Answer) → (a ≡ answer.Refused refusal.Fault → ⊥) → ServesUp disk view parts l c a k →
       Serves disk view parts (power.Up l) c a (power.Up k)
   stays_up l k c a fine serves g (Up r) stands =
@@ -191,7 +191,7 @@ module _ {D S : Type 0} (disk : D → Disk) (view : S → View D) (parts : S →
       })
   stays_up l k c a fine serves g (Down saved) stands = absurd stands
 
-  -- there is one device beneath a kernel
+  -- a kernel has only one device beneath
   pub one_device : (p : Power D S) (d e : D) → IsDeviceOf disk view parts p d → IsDeviceOf disk view parts p e → d ≡ e
   one_device p d e is other = search (arith, nat_tests)
 
@@ -214,7 +214,7 @@ module _ {D S : Type 0} (disk : D → Disk) (view : S → View D) (parts : S →
       })
   goes_down l k c d counts_now serves is g (Down saved) stands = absurd stands
 
-  -- a kernel that served a command stands for a machine
+  -- a kernel that carried out a command stands for a machine
   pub some_after : (p q : Power D S) (c : Command) (a : Answer) → Serves disk view parts p c a q → IsSomeMachine disk view parts p →
       IsSomeMachine disk view parts q
   some_after p q c a serves some = let s = serves some.0 some.1 some.2 in (some.0, s.after, s.stands)
@@ -293,7 +293,7 @@ module _ {D S : Type 0} (disk : D → Disk) (view : S → View D) (parts : S →
         reported (fault.Bad reason) r = absurd
             (one_not_bad g (disk device).sectors (disk device).seen ss reason (leaves (disk device).seen seen_left) r.is_why.1)
 
-  -- what a crash of a kernel leaves on its device is an image
+  -- after a crash of a kernel its device holds a valid image
   pub no_reason : (device back : D) (why : OpenFault) → (disk device).may_leave (disk device).seen → IsSomeDown disk device →
       RefusesToOpen disk device back why → IsNoReason why
   no_reason device back (fault.Bad reason) seen_left down refuses =
@@ -303,7 +303,7 @@ module _ {D S : Type 0} (disk : D → Disk) (view : S → View D) (parts : S →
 
   -- ---- restarts and power cuts
 
-  -- what a crash leaves beneath a machine
+  -- what a crash leaves on the device of a machine
   beneath : (g : Geometry) (p : Power D S) (m : Machine) (d : D) → Stands disk view parts g p m → IsDeviceOf disk view parts p d →
       Leaves g (disk d) (candidates m)
   beneath g p m d stands is = search (arith, nat_tests)
@@ -320,7 +320,7 @@ module _ {D S : Type 0} (disk : D → Disk) (view : S → View D) (parts : S →
 
   module _ (p q : Power D S) (d : D) (c : Command) (a : Answer) (is : IsDeviceOf disk view parts p d)
       (which : (c ≡ command.Restart) ⊎ (c ≡ command.Cut)) where
-    -- the device was opened again, from what a crash left of it
+    -- the device was opened again, after a crash
     pub opened_again : (e : D) → ((g : Geometry) (ss : List Saved) → Leaves g (disk d) ss →
         LeavesOne g (disk d) (disk e) ss × Leaves g (disk e) ss) → ((g : Geometry) (ss : List Saved) → Leaves g (disk e) ss →
         Reopened disk view parts g ss e a q) → Serves disk view parts p c a q
@@ -341,7 +341,7 @@ module _ {D S : Type 0} (disk : D → Disk) (view : S → View D) (parts : S →
         IsCaused (disk_of disk view parts p) (disk_of disk view parts q) a
     again_caused e same caused = search (arith, nat_tests, disk_is)
 
-  -- the device was left alone, or its power was cut
+  -- the device wasn't called, or its power was cut
   pub left_alone : (d : D) → OnlyNow (disk d) → (g : Geometry) (ss : List Saved) → Leaves g (disk d) ss →
       LeavesOne g (disk d) (disk d) ss × Leaves g (disk d) ss
   left_alone d only_now g ss leaves = search (arith, nat_tests, append-nil, leaves_here)
@@ -355,7 +355,7 @@ module _ {D S : Type 0} (disk : D → Disk) (view : S → View D) (parts : S →
       (disk e).sectors ≡ (disk d).sectors → Elapses (disk d) (disk e) → IsSomeDown disk d → IsSomeDown disk e
   some_cut d e only_now counts_now left durable size time down = search (arith, nat_tests, left_cut)
 
--- an invocation by a store that is up has that of its objects
+-- the result code of an invocation in a store that is up is that of its objects
 module _ {D S : Type 0} (disk : D → Disk) (view : S → View D) (parts : S → Parts) where
   invoked_code : (l : Live S) (i : Invocation) (code : Option ResultCode) →
       code ≡ code_with (parts l.store).geometry (objects_in (parts l.store)) i answer.Done →

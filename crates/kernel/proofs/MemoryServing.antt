@@ -12,7 +12,7 @@ use Rattle.model.specs.declared.command.Command.TheVariants as command
 use Rattle.kernel.proofs.Performing.{done_step, refused_step, refused_serves, standing, still_sound}
 use Rattle.kernel.proofs.Performing.{still_machine, reported_cause, early_fine, shown_fine, shown_serves, unshown_serves}
 
--- what a load answers
+-- the answer to a load
 abbrev pub loaded_answer : Result ℕ MemoryFault → Answer
 loaded_answer (Ok word) = answer.Value word
 loaded_answer (Err why) = answer.MemoryFault why
@@ -55,7 +55,7 @@ module _ (g : Geometry) (s : Running) (p address word : ℕ) where
     unfolding refusal_of
     store_full_step page is over = search (arith, nat_tests, refused_step)
 
--- what a store answers
+-- the answer to a store
 abbrev pub stored_answer : Result (Unit {0}) MemoryFault → Answer
 stored_answer (Ok done) = answer.Done
 stored_answer (Err why) = answer.MemoryFault why
@@ -66,7 +66,7 @@ loaded_unfailed loaded e = search (arith, nat_tests)
 stored_unfailed : (stored : Result (Unit {0}) MemoryFault) → stored_answer stored ≡ answer.Refused refusal.Fault → ⊥
 stored_unfailed stored e = search (arith, nat_tests)
 
--- the machine of parts with these objects and these numbers touched
+-- the machine with these objects and these touched numbers
 machine_is : (age : ℕ) (new : Parts) (renewed now : List Bool) (frozen : Option Frozen) (saved : Saved) (to_move : ℕ) (os : List Object)
     (ts : List Bool) → objects_in new ≡ os → new.touched ≡ ts → renewed ≡ now →
     standing age renewed frozen saved to_move os ts ≡ machine_at age new now frozen saved to_move
@@ -89,10 +89,10 @@ module _ {S : Type 0} {parts : S → Parts} {Continues : S → S → Type 0} {ag
       refused_serves snapshots.same sound snapshots.later
       why_cause (λ renewed frozen saved to_move other. store_early (parts old).geometry _ p address word why early)
 
--- the answer to a process that runs, after it was read, by the outcome of its load or store
+-- the answer to a load or store of a running process, after a call that only reads
 module _ {age : ℕ} {old mid : Parts} (new : Parts) (p address : ℕ) (sound : IsSoundFrames old.geometry age (frames_of old))
     (acts : IsEarly (objects_in old) p None) (same : mid ≡ old) where
-  -- what is answered after the read is answered before it
+  -- an answer after the call that only reads is one before it
   back : {c : Command} {a : Answer} → Performs age mid c a age new → Performs age old c a age new
   back {c} {a} performs = subst (λ (q : Parts). Performs age q c a age new) same performs
 
@@ -189,7 +189,7 @@ module _ {age : ℕ} {old mid : Parts} (new : Parts) (p address : ℕ) (sound : 
 abbrev IsCountedAt : Parts → BanksState → Type 0
 IsCountedAt p s = AreCounted p.geometry (objects_in p) s
 
--- after a store
+-- the counts of banks after a store
 pub stored_counted : (before after : Parts) (s : BanksState) (p address word : ℕ) (r : Result (Unit {0}) MemoryFault) →
     after.geometry ≡ before.geometry → IsStored before.geometry.log (objects_in before) before.touched p address word (objects_in after)
     after.touched r → IsCountedAt before s → IsCountedAt after s

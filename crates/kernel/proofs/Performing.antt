@@ -27,7 +27,7 @@ pub done_step : (g : Geometry) (s : Running) (c : Command) (a : Answer) (after :
     a ≡ (carried_out g s c).answer → after ≡ Up (carried_out g s c).after → Step g (Up s) c a after
 done_step g s c a after none reported then = inl (subst (AnswersBy g s c a after) (sym none) (reported, then))
 
--- an invocation, by what is known of its process, of the age and of its effect
+-- an invocation, by the facts about its process, the age and its effect
 module _ (g : Geometry) (s : Running) (i : Invocation) where
   -- a process that can't act
   pub early_step : (why : Refusal) → IsEarly s.now.objects i.process (Some why) →
@@ -70,18 +70,18 @@ module _ (g : Geometry) (s : Running) (n : ℕ) where
   unfolding refusal_of
   show_no_memory within = search (arith, nat_tests)
 
--- none of them is a failure
+-- no early refusal is a failure
 pub early_fine : (os : List Object) (p : ℕ) (why : Refusal) → IsEarly os p (Some why) → why ≡ refusal.Fault → ⊥
 early_fine os p why early is = search (arith, nat_tests)
 
--- one that isn't refused runs
+-- a process that isn't refused early is running
 pub early_none : (os : List Object) (p : ℕ) (o : Option Refusal) → ((why : Refusal) → o ≡ Some why → ⊥) → IsEarly os p o → IsEarly os p None
 early_none os p o other early = search (arith, nat_tests)
 
 none_renewed : (p : Parts) (renewed : List Bool) → renewed_by renewed p p ≡ renewed
 none_renewed p renewed = search (arith, nat_tests, renewing_none, none_given_up)
 
--- the same parts
+-- the same parts before and after
 module _ {old new : Parts} (same : new ≡ old) where
   pub still_machine : (age : ℕ) (renewed : List Bool) (frozen : Option Frozen) (saved : Saved) (to_move : ℕ) →
       machine_at age new (renewed_by renewed old new) frozen saved to_move ≡ machine_at age old renewed frozen saved to_move
@@ -156,7 +156,7 @@ done_serves {age} {old} {new} {i} young process running sound invokes keeps rene
         λ k. standing (age + 1) (renewing renewed (objects_in old) (sym invokes.2 k)) frozen saved to_move (sym invokes.2 k)
         (sym invokes.3 k)
 
--- what is answered where there is no process
+-- the answer if there is no process
 pub no_process_serves : (p : Parts) (age : ℕ) (i : Invocation) → IsSoundFrames p.geometry age (frames_of p) →
     is_process (objects_in p) i.process ≡ false → Performs age p (command.Invoke i) (answer.Refused refusal.NoProcess) age p
 no_process_serves p age i sound none =
@@ -164,7 +164,7 @@ no_process_serves p age i sound none =
     (omega arith) (reported_cause refusal.NoProcess (λ e. cc) (λ rose. absurd (omega (arith, rose))))
     (λ renewed frozen saved to_move other. early_step p.geometry _ i refusal.NoProcess none)
 
--- what is answered to an invocation that wasn't carried out
+-- the answer to an invocation that wasn't carried out
 module _ {S : Type 0} (parts : S → Parts) (Continues : S → S → Type 0) (age : ℕ) (old new : S) (i : Invocation)
     (process : is_process (objects_in (parts old)) i.process ≡ true) (sound :
     IsSoundFrames (parts old).geometry age (frames_of (parts old)))
@@ -197,14 +197,14 @@ module _ {S : Type 0} (parts : S → Parts) (Continues : S → S → Type 0) (ag
       refused refusal.Fault said refusal.Fault (λ e. cc, λ e. cc) (λ renewed frozen saved to_move other. absurd (other refl))
   fault_serves c tells said = absurd tells
 
-  -- and to one that was
+  -- the answer to an invocation that was carried out
   pub invoked_serves : (code : Option ResultCode) → TellsState (objects_in (parts old)) i (Ok code) →
       Invoked parts Continues old new i (Ok code) → Performs age (parts old) (command.Invoke i) answer.Done (age + 1) (parts new)
   invoked_serves code runs said =
       done_serves young process runs sound said.done said.sound said.renews said.geometry said.later
       (λ rose. let failed = said.cause.1 rose in cc)
 
--- what is shown of an object
+-- the answer to a `show` of an object
 pub shown_serves : (age : ℕ) (old new : Parts) (n : ℕ) (a : Answer) → n < length old.headers → new ≡ old →
     IsSoundFrames old.geometry age (frames_of old) → a ≡ shown (objects_in old) n → Performs age old (command.Show n) a age new
 shown_serves age old new n a known same sound reported = record {
@@ -245,10 +245,10 @@ module _ (age : ℕ) (old new : Parts) (n : ℕ) (same : AreSameUnlessFailed old
       refused_serves same sound later (λ e. cause.0 refl, λ rose. refl) (λ renewed frozen saved to_move other. absurd (other refl))
   unshown_serves known why of cause = absurd of
 
--- where a call succeeds no count rises
+-- if the call succeeds, no count of failures rises
 pub ok_stayed : {X : Type 0} (early : Option Refusal) → (let r : Result (Option Refusal) Failed = Ok early in IsErr r ↔ X) → X → ⊥
 ok_stayed early cause x = let never : false ≡ true = cause.1 x in cc
 
--- what was shown isn't a failure
+-- an object that is shown isn't a failure
 pub shown_fine : (os : List Object) (n : ℕ) (a : Answer) → a ≡ shown os n → a ≡ answer.Refused refusal.Fault → ⊥
 shown_fine os n a reported e = let d : shown os n ≡ answer.Refused refusal.Fault = sym reported ∙ e in cc

@@ -114,7 +114,7 @@ module _ {p q : Parts} (same : q ≡ p) {a b : Snapshots FrozenFrames} (beside :
   stays_sound {g} {banks} {age} {frozen_age} s = subst (λ (X : Type 0). X) (λ k. AreSoundTogether g (sym same k) (sym beside k) banks age
       frozen_age) s
 
--- other objects, at an age that didn't fall
+-- other objects, at an age that is no less
 pub acts_sound : {g : Geometry} {p q : Parts} {a b : Snapshots FrozenFrames} {old_banks banks : BanksState} {old_age age frozen_age : ℕ} →
     b ≡ a → old_age ≤ age → q.geometry ≡ g → Renews p q → IsSoundFrames g age (frames_of q) →
     AreCounted g (objects_in q) banks → AreSoundTogether g p a old_banks old_age frozen_age → AreSoundTogether g q b banks age frozen_age
@@ -134,7 +134,7 @@ acts_sound {g} {p} {q} {a} {b} {old_banks} {banks} {old_age} {age} {frozen_age} 
 module _ {g : Geometry} {p : Parts} {a : Snapshots FrozenFrames} {banks : BanksState} {age frozen_age : ℕ}
     (s : AreSoundTogether g p a banks age frozen_age)
   where
-    -- all is frozen, one age later
+    -- all objects are frozen, at the next age
     pub begun_sound : (q : Parts) (n : ℕ) → q.geometry ≡ p.geometry → frames_of q ≡ frames_of p → age < 2 ^ 62 →
         AreSoundTogether g q (freezing (all_frozen (frames_of p) n) a) banks (age + 1) (age + 1)
     begun_sound q n geometry frames young =
@@ -158,11 +158,11 @@ module _ {g : Geometry} {p : Parts} {a : Snapshots FrozenFrames} {banks : BanksS
             subst (IsSoundFrozen g a.saved.age (age + 1) (age + 1)) same (record
             { after = omega (arith, s.order); before = omega arith; sound = now })
 
-    -- no count fell since it was frozen
+    -- no count fell since the freeze
     risen_frozen : (f : FrozenFrames) → a.frozen ≡ Some f → (n : ℕ) → allocations_at f.frames n ≤ allocations_at (frames_of p) n
     risen_frozen f is n = subst (λ (fs : List Frame). allocations_at fs n ≤ allocations_at (frames_of p) n) (base_frozen a f is) (s.risen n)
 
-    -- some more of it is in the log
+    -- more frozen frames are in the log
     pub stabilized_sound : (n : ℕ) (f : FrozenFrames) → a.frozen ≡ Some f → AreSoundTogether g p (stabilized n f a) banks age frozen_age
     stabilized_sound n f is = record {
       geometry = s.geometry;
@@ -182,7 +182,7 @@ module _ {g : Geometry} {p : Parts} {a : Snapshots FrozenFrames} {banks : BanksS
             let it : fs ≡ e = cc in
             subst (IsSoundFrozen g a.saved.age frozen_age age) it (record { after = was.after; before = was.before; sound = was.sound })
 
-    -- it is saved
+    -- the frozen state is saved
     pub next_sound : (f : FrozenFrames) → a.frozen ≡ Some f → IsSoundSaved g (next_saved whole frozen_age f a.saved)
     next_sound f is = record { geometry = s.saved.geometry; sound = (s.frozen f is).sound }
 
@@ -201,7 +201,7 @@ module _ {g : Geometry} {p : Parts} {a : Snapshots FrozenFrames} {banks : BanksS
         none : (e : FrozenFrames) → None ≡ Some e → IsSoundFrozen g frozen_age frozen_age age e
         none e same = cc
 
-    -- and goes home
+    -- saved frames go home
     home_or_not : (b : Bool) → IsSoundSaved g (if b then home_saved a.saved else a.saved)
     home_or_not b = search (arith, nat_tests)
 
@@ -221,7 +221,7 @@ module _ {g : Geometry} {p : Parts} {a : Snapshots FrozenFrames} {banks : BanksS
           risen = λ m. subst (λ (fs : List Frame). allocations_at fs m ≤ allocations_at (frames_of p) m) (sym (base_moved a n)) (s.risen m);
         }
 
--- what is saved after a migration is that of the machine
+-- the saved state after a migration is the machine's
 saved_if : (b : Bool) (fs : SavedFrames) → saved_of (if b then home_saved fs else fs) ≡ (if b then at_home (saved_of fs) else saved_of fs)
 saved_if b fs = search (arith, nat_tests)
 
@@ -238,7 +238,7 @@ frozen_some o f age is = ap (frozen_of age) is
 pub frozen_none : (o : Option FrozenFrames) (age : ℕ) → o ≡ None → frozen_of age o ≡ None
 frozen_none o age is = ap (frozen_of age) is
 
--- what is left of it says whether there is one
+-- how many frames are left determines whether a checkpoint is frozen
 pub none_there : (o : Option FrozenFrames) → option_map (λ (f : FrozenFrames). f.left) o ≡ None → o ≡ None
 none_there o reported = search (arith, nat_tests)
 

@@ -1,4 +1,4 @@
-// Devices that are too small, and that stop.
+// Building images on devices that are too small or that stop.
 use device::Device;
 use devices::{Fuse, Memory, Outcome};
 use image_builder::build;
@@ -9,7 +9,8 @@ const PRIME: &str = "bank = [{ number = 0, owner = 0, limit = 1 }]";
 
 const SECOND: &str = "layout = 2\nbank = [{ number = 0, owner = 0, limit = 1 }]";
 
-// The number of the fault of a description of 16 nodes, or 0 where its image is built.
+// Returns the number of the fault of a description of 16 nodes, or 0 if its image is built. `rest` is the end of the
+// description's text.
 fn fault<D: Device>(alloc: Global, rest: &str, device: &mut D) -> Result<u64, Fail> {
     let mut text = String::new(alloc);
     text.push_str("nodes = 16\npages = 8\nlog = 16\n")?;
@@ -48,8 +49,8 @@ fn a_small_device_is_reported_last(rt: HostRuntime) -> Result<(), Fail> {
     Ok(())
 }
 
-// The closed gates are found by a sync and 4 reads; the front of an image is 3 writes, its frames are
-// 24 or by version 2, with 4 clusters, 12, and there are 2 more syncs.
+// A build makes a sync and 4 reads that find the gates closed, 3 writes for the front of the image, and 2 more syncs.
+// It writes the frames in 24 writes; in version 2, with 4 clusters, in 12.
 #[test]
 fn a_device_that_stops_is_reported(rt: HostRuntime) -> Result<(), Fail> {
     for (rest, needed) in [(PRIME, 34), (SECOND, 22)] {

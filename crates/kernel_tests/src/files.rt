@@ -10,21 +10,21 @@ use std::test::Fail;
 // A device that was opened or made, or why it wasn't.
 type Opened<D> = Result<D, FileFault>;
 
-// A file at this path with `length` bytes, each of them 3.
+// Makes a file at this path with `length` bytes that are all 3.
 fn write_threes(rt: &HostRuntime, path: &str, length: usize) -> Result<(), Fail> {
     let bytes = vec![in rt.alloc(); 3; length]?;
     fs::write(rt, path, bytes.as_slice())?;
     Ok(())
 }
 
-// What a file has, which is then removed.
+// Removes a file, and returns its bytes.
 fn taken(rt: &HostRuntime, path: &str) -> Result<Vec<u8>, Fail> {
     let bytes = fs::read(rt, path)?;
     fs::remove_file(rt, path)?;
     Ok(bytes)
 }
 
-// There are `length` bytes: 8 from one place to another, and else 3.
+// Asserts that there are `length` bytes: 8 from index `from` to before `to`, and 3 everywhere else.
 fn are_threes(rt: &impl Abort, bytes: &[u8], length: usize, from: usize, to: usize) {
     assert_eq!(rt; bytes.len(), length);
     for (place, byte) in bytes.iter().enumerate() {
@@ -33,12 +33,12 @@ fn are_threes(rt: &impl Abort, bytes: &[u8], length: usize, from: usize, to: usi
     }
 }
 
-// How many sectors a device has, which is then dropped.
+// Returns how many sectors a device has, and drops it.
 fn sectors_of<D: Device>(opened: Opened<D>) -> Result<u64, FileFault> {
     Ok(opened?.sectors())
 }
 
-// The sector at `at` has this byte in each place.
+// Asserts that all bytes of the sector at `at` are this byte.
 fn holds<D: Device>(rt: &impl Abort, device: &mut D, at: u64, byte: u8) -> Result<(), Fail>
     requires { at + 1 ≤ (D.disk device.old).sectors }
     ensures { (D.disk device.new).sectors ≡ (D.disk device.old).sectors }
@@ -49,7 +49,7 @@ fn holds<D: Device>(rt: &impl Abort, device: &mut D, at: u64, byte: u8) -> Resul
     Ok(())
 }
 
-// Writes a sector with this byte in each place.
+// Writes a sector whose bytes are all this byte.
 fn fill<D: Device>(device: &mut D, at: u64, byte: u8) -> Result<(), Failed>
     requires { at + 1 ≤ (D.disk device.old).sectors }
     ensures { (D.disk device.new).sectors ≡ (D.disk device.old).sectors }
@@ -57,7 +57,7 @@ fn fill<D: Device>(device: &mut D, at: u64, byte: u8) -> Result<(), Failed>
     device.write(at, &[byte; SECTOR_SIZE])
 }
 
-// Writes to a device of four zero sectors.
+// Writes some sectors of a device of four zero sectors.
 fn fill_some<D: Device>(rt: &impl Abort, device: &mut D) -> Result<(), Fail>
     requires { (D.disk device.old).sectors ≡ 4 }
 {
@@ -70,7 +70,7 @@ fn fill_some<D: Device>(rt: &impl Abort, device: &mut D) -> Result<(), Fail>
     holds(rt, device, 3, 9)
 }
 
-// What a device of four sectors has after these writes.
+// Asserts that a device of four sectors has what `fill_some` writes.
 fn holds_some<D: Device>(rt: &impl Abort, device: &mut D) -> Result<(), Fail> {
     assert_eq!(rt; device.sectors(), 4);
     holds(rt, device, 0, 0)?;
@@ -79,7 +79,7 @@ fn holds_some<D: Device>(rt: &impl Abort, device: &mut D) -> Result<(), Fail> {
     holds(rt, device, 3, 9)
 }
 
-// These writes, and a power cut: a file keeps all bytes.
+// Writes some sectors, and cuts the power: a device in a file keeps all bytes.
 fn write_some<D: Device>(rt: &impl Abort, opened: Opened<D>) -> Result<(), Fail> {
     let mut device = opened?;
     assert_eq!(rt; device.sectors(), 4);
@@ -135,7 +135,7 @@ fn a_part_of_a_sector_is_left_alone(rt: HostRuntime) -> Result<(), Fail> {
     Ok(())
 }
 
-// A new folder of this name, where the test runs.
+// Makes a new folder of this name in the folder where the test runs.
 fn empty_folder(rt: &HostRuntime, name: &str) -> Result<(), Fail> {
     let _ = fs::remove_dir_all(rt, name);
     fs::create_dir(rt, name)?;
@@ -182,7 +182,7 @@ fn of_a_long_file_the_first_sectors_are_opened(rt: HostRuntime) -> Result<(), Fa
     Ok(())
 }
 
-// In a file that can't be written the first write fails, and each call but reads after it.
+// Asserts that in a file that can't be written the first write fails, and then each call but reads.
 fn fails<D: Device>(rt: &impl Abort, opened: Opened<D>) -> Result<(), Fail> {
     let mut device = opened?;
     assert_eq!(rt; device.sectors(), 2);
@@ -206,8 +206,8 @@ fn a_file_that_fails_fails_from_then_on(rt: HostRuntime) -> Result<(), Fail> {
     Ok(())
 }
 
-// The fault of a second device in a file that has one: opened, opened to be read, or
-// made.
+// Opens or makes a second device in a file that has one. Returns the faults of opening it, of opening it to read, and
+// of making it.
 fn reported_beside<D: Device>(
     rt: &HostRuntime,
     path: &str,

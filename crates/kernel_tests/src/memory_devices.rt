@@ -1,4 +1,4 @@
-// What a power cut leaves of a device in memory that stops.
+// Devices in memory that stop, and what a power cut leaves on them.
 ghost use Rattle.std.specs.Prelude.{◌≡◌, ◌≤◌};
 
 use device::{Device, Failed};
@@ -6,8 +6,8 @@ use devices::{Fuse, Memory, Outcome};
 use std::process::Abort;
 use std::test::Fail;
 
-// After how many calls a device stops, and the bytes of its four sectors after a power cut that keeps
-// each write, drops those that weren't synced, or fills their sectors with 9.
+// The number of calls after which a device stops, and the bytes of its four sectors after a power cut: one that keeps
+// each write, one that drops those that weren't synced, and one that fills their sectors with 9.
 struct Stop {
     calls: u64,
     kept: [u8; 4],
@@ -54,15 +54,15 @@ const STOPS: &[Stop] = &[
     },
 ];
 
-// Two sectors of one byte each.
+// Returns two sectors, each filled with one byte.
 fn two(first: u8, second: u8) -> [u8; 1024] {
     let mut bytes = [first; 1024];
     bytes[512..].copy_from_slice(&[second; 512]);
     bytes
 }
 
-// The first two sectors are written with 1 and 2 and synced, the middle two with 3 and 4 and synced, and
-// one is read. Which of these calls succeed?
+// Writes 1 and 2 into the first two sectors and syncs, writes 3 and 4 into the middle two and syncs, then reads one.
+// Returns which of these calls succeeded.
 fn called<D: Device>(device: &mut D) -> [bool; 5]
     requires { 4 ≤ (D.disk device.old).sectors }
     ensures { (D.disk device.new).sectors ≡ (D.disk device.old).sectors }
@@ -75,7 +75,7 @@ fn called<D: Device>(device: &mut D) -> [bool; 5]
     [first, first_sync, second, second_sync, read]
 }
 
-// Four sectors of one byte each.
+// Returns four sectors, each filled with one byte.
 fn four(bytes: [u8; 4]) -> [u8; 2048] {
     let [first, second, third, fourth] = bytes;
     let mut all = [0; 2048];
@@ -84,7 +84,7 @@ fn four(bytes: [u8; 4]) -> [u8; 2048] {
     all
 }
 
-// After a power cut the four sectors have these bytes.
+// Asserts that after a power cut the four sectors have these bytes.
 fn holds<D: Device>(rt: &impl Abort, device: &mut D, left: [u8; 4]) -> Result<(), Failed>
     requires { 4 ≤ (D.disk device.old).sectors }
     ensures { (D.disk device.new).sectors ≡ (D.disk device.old).sectors }
@@ -96,7 +96,7 @@ fn holds<D: Device>(rt: &impl Abort, device: &mut D, left: [u8; 4]) -> Result<()
     Ok(())
 }
 
-// A device that stops after some calls has these bytes after a power cut, and then goes on.
+// Asserts that a device that stops after `calls` calls has these bytes after a power cut, and then works again.
 fn is_left<D: Device>(rt: &impl Abort, device: D, calls: u64, left: [u8; 4]) -> Result<(), Failed>
     requires { 4 ≤ (D.disk device).sectors }
 {

@@ -1,4 +1,4 @@
-// The calls that open or make a device.
+// Tests of which calls open or make a device.
 use crate::recorded::{Made, Recorded};
 use devices::{Access, CopiedFile, FileFault, HostFile};
 use std::fmt::{self, Display, Formatter, Write};
@@ -43,7 +43,7 @@ const OPENINGS: &[(Access, &[&str])] = &[
     ),
 ];
 
-// The calls that make a device in a file that isn't there.
+// The calls that make a device in a new file.
 const MAKING: &[&str] = &[
     "made",
     "Exclusive Granted",
@@ -53,7 +53,7 @@ const MAKING: &[&str] = &[
     "listed",
 ];
 
-// A call in short.
+// A call, as a short text.
 impl Display for Made {
     fn fmt<W: Write>(&self, f: &mut Formatter<W>) -> fmt::Result {
         match self {
@@ -71,7 +71,7 @@ impl Display for Made {
     }
 }
 
-// These calls were made on the file of a device, in this order.
+// Asserts that exactly these calls were made on the file of a device, in this order.
 fn are_made(
     rt: &(impl Abort + AllocGlobal),
     device: &Device,
@@ -85,7 +85,7 @@ fn are_made(
     Ok(())
 }
 
-// Opens or makes a device.
+// Opens or makes a device, according to the access.
 fn device_by(rt: &HostRuntime, path: &str, access: Access) -> Result<Device, FileFault> {
     match access {
         Access::Read => Device::open_to_read(rt, path),

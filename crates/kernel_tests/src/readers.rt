@@ -9,13 +9,14 @@ use std::io::{ErrorKind, Read};
 use std::process::Abort;
 use std::test::Fail;
 
-// How many bytes each read requests.
+// How many bytes each read of a run asks for.
 const READ_SIZE: usize = 4096;
 
 const WIDTHS: [usize; 4] = [1, 7, 4095, 4096];
 
-// Gives some bytes, `width` at a time. If it interrupts, each piece comes after an interrupted read. If it fails, the
-// read after the last piece fails. It keeps whether a read requested another number of bytes than `READ_SIZE`.
+// A reader of some bytes, `width` at a time. If `interrupts`, an interrupted read comes before each piece. If
+// `fails`, the read after the last piece fails. It records whether a read asked for another number of bytes than
+// `READ_SIZE`.
 #[derive(Drop)]
 struct Pieces<'a> {
     rest: &'a [u8],
@@ -43,7 +44,8 @@ impl Read for Pieces<'_> {
     }
 }
 
-// Runs the script of a reader over a device. Checks the answers, the end of the run, and what the reads requested.
+// Runs the script of a reader over a device. Checks the answers, how the run ends, and how many bytes each read asked
+// for.
 fn is_answered<D: Device>(
     rt: &(impl Abort + AllocGlobal),
     device: D,
@@ -63,7 +65,7 @@ fn is_answered<D: Device>(
     Ok(())
 }
 
-// Checks the answers to a script over a world, in pieces of each width, interrupted or not.
+// Checks the answers to a script over a world, in pieces of each width, with and without interruptions.
 fn is_answered_in_pieces(
     rt: &(impl Abort + AllocGlobal),
     world: &str,
@@ -87,7 +89,7 @@ fn is_answered_in_pieces(
     Ok(())
 }
 
-// Returns the texts one after another, and all of them `times` times.
+// Returns the texts one after another, all repeated `times` times.
 fn repeated(alloc: Global, texts: &[&[u8]], times: usize) -> Result<Vec<u8>, AllocError> {
     let mut whole = Vec::new(alloc);
     for _ in 0..times {
@@ -98,8 +100,8 @@ fn repeated(alloc: Global, texts: &[&[u8]], times: usize) -> Result<Vec<u8>, All
     Ok(whole)
 }
 
-// A world, the parts of a script over it, and the parts of the answers. Both are repeated `times` times. If `fails`,
-// the reader then fails.
+// A world, the parts of a script, and the parts of the answers. The parts are repeated `times` times. If `fails`, the
+// reader fails after the script.
 struct Row {
     world: &'static str,
     script: &'static [&'static [u8]],
@@ -110,8 +112,8 @@ struct Row {
 
 const SHOWN: &[u8] = b"node 5 owner 0\nend\n";
 
-// Long lines are taken whole, and the lines of the repeated script end at all kinds of places. A line that
-// a failure cuts isn't answered.
+// These rows have long lines, and repeated lines that end anywhere in a piece. A line that is cut off by a failure
+// isn't answered.
 const ROWS: &[Row] = &[
     Row {
         world: FIRST_WORLD,

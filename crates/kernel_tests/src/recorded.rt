@@ -1,4 +1,4 @@
-// A file of the system, whose calls are known.
+// A file of the system whose calls are recorded.
 ghost use Rattle.std.specs.Prelude.{◌≡◌, [], ◌∷◌, ◌++◌, Some, OnOk, OnErr};
 ghost use Rattle.kernel_tests.specs.Recorded.{calls_of};
 
@@ -7,27 +7,27 @@ use std::alloc::Global;
 use std::fs::File;
 use std::io::{self, ErrorKind};
 
-/// A call with its answer.
+/// A call, with its answer.
 #[derive(Drop)]
 pub enum Made {
     /// This path was opened.
     Opened(Vec<u8>, Access),
-    /// A request for a lock.
+    /// A lock was asked for.
     Locked(Lock, LockAnswer),
     /// The file was synced.
     Synced,
-    /// A request for its length.
+    /// The length was asked for.
     Measured(u64),
-    /// These bytes were read from a byte on.
+    /// These bytes were read from this offset on.
     Got(u64, Vec<u8>),
-    /// It got a length.
+    /// The file's length was set to this number of bytes.
     Resized(u64),
-    /// The folder of this path was synced.
+    /// The folder with this path was synced.
     Listed(Vec<u8>),
 }
 
-/// A file in which a device can be opened, with a record of the calls that do so. No device can
-/// write to it.
+/// A file in which a device can be opened or made, with a record of the calls that do so. The device can't be
+/// written.
 #[derive(Drop)]
 pub struct Recorded {
     alloc: Global,
@@ -36,14 +36,14 @@ pub struct Recorded {
 }
 
 impl Recorded {
-    /// The calls, in order.
+    /// Returns the calls, in order.
     pub fn made(&self) -> &[Made]
         ensures { result.now ≡ self.now.made.items }
     {
         &self.made
     }
 
-    // Adds a call to the record.
+    // Appends a call to the record.
     fn note(&mut self, made: Made) -> io::Result<()>
         ensures ok { OnOk result (self.new.made.items ≡ self.old.made.items ++ made ∷ []) }
         ensures err { OnErr result (self.new.made.items ≡ self.old.made.items) }

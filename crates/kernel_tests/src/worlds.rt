@@ -1,4 +1,4 @@
-// Runs over devices in memory that hold one of two worlds.
+// Two worlds, and runs over devices in memory that hold one of them.
 use checkpoint::ObjectStore;
 use device::Device;
 use devices::{Memory, Outcome};
@@ -10,7 +10,7 @@ use script::{Output, RunFault};
 use std::alloc::Global;
 use std::test::Fail;
 
-/// Process 1 runs, and holds node 5 in register 5 and page 16 in register 6.
+/// In this world process 1 runs, and holds node 5 in register 5 and page 16 in register 6.
 pub(crate) const FIRST_WORLD: &str = "
 nodes = 16
 pages = 8
@@ -21,8 +21,8 @@ node = [{ number = 5, owner = 0 }]
 page = [{ number = 16, owner = 0 }]
 ";
 
-/// Process 1 runs. Its registers 1 to 4 hold itself, the prime bank, the right to start process 3 with key 7, and that
-/// process, which is available.
+/// In this world process 1 runs. Its registers 1 to 4 hold itself, the prime bank, the right to start process 3 with
+/// key 7, and process 3, which is available.
 pub(crate) const SECOND_WORLD: &str = "
 nodes = 16
 pages = 8
@@ -36,13 +36,13 @@ process = [
 ]
 ";
 
-/// A new device that holds the world of a description.
+/// Returns a new device that holds the world of a description.
 pub(crate) fn device_of(alloc: Global, world: &str) -> Result<Memory, Fail> {
     let device = Memory::new(alloc, 399, 4000, Outcome::Drop)?;
     built(alloc, world, device)
 }
 
-// A device with the image of a description.
+// Builds the image of a description on a device.
 fn built<D: Device>(alloc: Global, description: &str, device: D) -> Result<D, Fail> {
     let mut device = device;
     let table = toml::table_from_str(alloc, description)?;
@@ -50,7 +50,7 @@ fn built<D: Device>(alloc: Global, description: &str, device: D) -> Result<D, Fa
     Ok(device)
 }
 
-// How a run over a device ends, by a store of any kind.
+// Opens a device with a store of type `S`, and returns how a run over it ends.
 fn run_by<D: Device, S: ObjectStore<D>, R: Script, W: Output>(
     alloc: Global,
     device: D,
@@ -64,7 +64,8 @@ fn run_by<D: Device, S: ObjectStore<D>, R: Script, W: Output>(
     }
 }
 
-/// How a run over a device ends. Only here is a store named: that is dear.
+/// Returns how a run over a device ends. Only this function names a store type, since each use of one takes long to
+/// compile.
 pub(crate) fn run_over<D: Device, R: Script, W: Output>(
     alloc: Global,
     device: D,

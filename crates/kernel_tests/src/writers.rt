@@ -1,4 +1,4 @@
-// Answers to writers that take little, are interrupted, or fail.
+// Answers to writers that accept few bytes, are interrupted, or fail.
 use crate::worlds::{FIRST_WORLD, device_of, run_over};
 use device::Device;
 use runs::ScriptReader;
@@ -9,8 +9,8 @@ use std::io::{BufWriter, ErrorKind, Write};
 use std::process::Abort;
 use std::test::Fail;
 
-// Takes `width` bytes at a time, up to its capacity, and then fails or takes nothing. It is
-// interrupted before each time.
+// A writer that accepts `width` bytes at a time, up to `room` in all; then it fails or accepts nothing. Every other
+// write is interrupted.
 #[derive(Drop)]
 struct Narrow {
     taken: Vec<u8>,
@@ -52,7 +52,7 @@ impl Write for Narrow {
     }
 }
 
-// Writes the answers to a script to a writer. If its room is too small, it takes what fits and the run fails.
+// Writes the answers to a script. If the writer's room is too small, it accepts what fits, and the run fails.
 fn is_written<D: Device>(
     rt: &(impl Abort + AllocGlobal),
     device: D,
@@ -76,7 +76,7 @@ fn is_written<D: Device>(
     Ok(())
 }
 
-// At whatever byte of the answers a writer fails or takes nothing, it has taken the bytes before.
+// At whatever byte of the answers a writer fails or accepts nothing, it has accepted the bytes before.
 #[test]
 fn a_failing_writer_ends_the_run(rt: HostRuntime) -> Result<(), Fail> {
     let script = b"show 5\nshow 01\nshow 16\n";
@@ -93,7 +93,8 @@ fn a_failing_writer_ends_the_run(rt: HostRuntime) -> Result<(), Fail> {
     Ok(())
 }
 
-// Buffers the 19 bytes of an answer for a writer with this room. The run fails unless the writer takes all of them.
+// Writes an answer of 19 bytes through a buffer to a writer with this room. The run fails unless the writer accepts
+// all 19.
 fn is_passed_on<D: Device>(
     rt: &(impl Abort + AllocGlobal),
     device: D,
@@ -112,7 +113,7 @@ fn is_passed_on<D: Device>(
     Ok(())
 }
 
-// What was answered is passed on, or the run fails.
+// If answers in a buffer can't be passed on, the run fails.
 #[test]
 fn what_is_not_passed_on_ends_the_run(rt: HostRuntime) -> Result<(), Fail> {
     for room in [19, 18] {

@@ -83,7 +83,7 @@ rest_of g n s f bytes fits e size = elim (cases_lt n g.nodes) [
       )
 ]
 
--- a frame is its bytes in a block, and the zeros that the block lacks
+-- a frame is its bytes in a block, followed by zeros that the block leaves out
 trimmed : (g : Geometry) (n : ℕ) (s : Shape) (f : Frame) (bytes : List ℕ) → IsShapeFor g n s → bytes ≡ frame_bytes g n f →
     length bytes ≡ 512 * frame_length g n → take s.bytes bytes ++ zeros (1024 - s.bytes) ≡ bytes
 trimmed g n s f bytes fits e size =
@@ -103,7 +103,7 @@ has_room g n s fits = elim (cases_lt n g.nodes) [
 
 -- ---- bytes are put into a block
 
--- what stands after a place of n bytes
+-- the bytes after a place of n bytes
 behind_put : (at k n : ℕ) (xs ys : List ℕ) → at ≤ length xs → drop (at + k) (put_mid at n xs ys) ≡ drop k (ys ++ drop (at + n) xs)
 behind_put at k n xs ys low =
     ap (drop (at + k)) (mid_put at n xs ys ∙ append_assoc (take at xs) ys (drop (at + n) xs))
@@ -117,7 +117,7 @@ pub length-piece : (at k : ℕ) (xs : List ℕ) → at + k ≤ length xs → len
 length-piece at k xs le = ap length (piece at k xs) ∙ length-take-le k (drop at xs) (omega (arith, le, length-drop at xs))
 
 module _ (s : Shape) (xs ys : List ℕ) (n : ℕ) where
-  -- the front of what was put there
+  -- the bytes of a place after a frame was put there
   pub put_there : s.offset ≤ length xs → s.bytes ≤ length ys → shape_bytes s (put_mid s.offset n xs ys)
       ≡ take s.bytes ys ++ zeros (1024 - s.bytes)
   put_there low few =
@@ -138,7 +138,7 @@ module _ (s : Shape) (xs ys : List ℕ) (n : ℕ) where
       ap (drop t.offset) (take-put_mid_below s.offset n xs ys (shape_end t) before (omega (arith, le)))
       ∙ sym (between_is xs t.offset (shape_end t)))
 
--- what was copied from the same place of another block
+-- the bytes of a place after it was copied from another block
 pub copied_there : (s : Shape) (from xs ys : List ℕ) (n : ℕ) → shape_end s ≤ length from → s.offset ≤ length xs →
     ys ≡ between s.offset (shape_end s) from → shape_bytes s (put_mid s.offset n xs ys) ≡ shape_bytes s from
 copied_there s from xs ys n le low is =
@@ -220,14 +220,14 @@ pub page_whole : (bytes : List ℕ) → length bytes ≡ 4608 → shape_bytes pa
 unfolding zeros
 page_whole bytes size = append-nil (take 4608 bytes) ∙ take_all 4608 bytes (omega (arith, size))
 
--- the front of a block has the places in it
+-- the front of a block contains the places that end in it
 pub front_shape : (s : Shape) (n : ℕ) (xs : List ℕ) → shape_end s ≤ n → shape_bytes s (take n xs) ≡ shape_bytes s xs
 front_shape s n xs le =
     ap (λ (b : List ℕ). b ++ zeros (1024 - s.bytes)) (between_is (take n xs) s.offset (shape_end s)
     ∙ ap (drop s.offset) (take-take (shape_end s) n xs le) ∙
     sym (between_is xs s.offset (shape_end s)))
 
--- and its zeros
+-- the zeros at the end of the front of a block
 pub front_blank : (at n : ℕ) (xs : List ℕ) → n ≤ length xs → IsBlankFrom at xs → IsBlankFrom at (take n xs)
 front_blank at n xs le blank = elim (cases_lt at n) [
   | inl lt ↦
@@ -262,7 +262,7 @@ header_there image at s {block} {header} le least read is g number =
     ∙ sym (header_before front (zeros (1024 - s.bytes)) long)
     ∙ sym (header_is g number (shape_bytes s block)) ∙ ap (λ (b : List ℕ). (frame_from g number (shape_bytes s b)).header) (sym read)
 
--- what was written is there
+-- a frame that was written is in the image
 pub frame_there : {T E : Type 0} (result : Result T E) (image : Image) (at n : ℕ) (s : Shape) (block : List ℕ) {bytes : List ℕ} →
     shape_end s ≤ n → OnOk result (sectors_from image at s.sectors ≡ take n block) → shape_bytes s block ≡ bytes →
     OnOk result (shaped_at image at s ≡ bytes)

@@ -42,11 +42,11 @@ pub record CapFits (c : Cap) : Type 0 where
   pub object : number_of c.what < 2 ^ 64
   pub count : c.count < 2 ^ 64
 
--- what has a spelling fits its bytes
+-- a capability with an encoding fits its bytes
 pub follows_fits : (g : Geometry) (age count : ℕ) (k : Capability) → Follows g age count k → CapFits (record { what = k; count = count })
 follows_fits g age count k f = grind (arith, nat_tests, access_fits)
 
--- a capability is made again of its fields
+-- a capability is rebuilt from its fields
 assembled_again : (k : Capability) (tag bits key height n : ℕ) → tag ≡ tag_of k → bits ≡ access_bits k → key ≡ key_of k →
     height ≡ height_of k → n ≡ number_of k → assembled tag (record { 0 = bits }) key height n ≡ k
 assembled_again k tag bits key height n et eb ek eh en = grind (arith, nat_tests)
@@ -88,7 +88,7 @@ pub three_written : (new mid first old : List ℕ) (a b c : ℕ) → length new 
     → new ≡ number a ++ (number b ++ number c)
 three_written new mid first old a b c len ec eb ea = cc (take_all 24 new (omega arith), append_assoc (number a) (number b) (number c))
 
--- the numbers that were read of bytes that no capability spells
+-- the numbers that were read from bytes which encode no capability
 pub none_spelt : (g : Geometry) (age : ℕ) (bytes : List ℕ) (head object count bits : ℕ) (what : Capability) → head < 2 ^ 64 →
     object < 2 ^ 64 → count < 2 ^ 64 → bytes ≡ number head ++ (number object ++ number count)
     → bits ≡ head / 256 % 256 → what ≡ assembled (head % 256) (record { 0 = bits }) (head / 65536 % 65536) (head / 4294967296 % 256) object
@@ -102,7 +102,7 @@ none_spelt g age bytes head object count bits what fh fo fc is eb made hold c fi
     (subst (λ (k : Capability). IsKeptCap g age (record { what = k; count = count })) (sym same)
     (subst (λ (m : ℕ). IsKeptCap g age (record { what = c.what; count = m })) (sym n.count_is) fits))
 
--- given bytes spell at most one capability
+-- given bytes encode at most one capability
 pub one_capability : (g : Geometry) (age : ℕ) (b c : Cap) → IsKeptCap g age b → IsKeptCap g age c →
     capability_bytes b ≡ capability_bytes c → b ≡ c
 one_capability g age b c fb fc e = grind (arith, nat_tests, follows_fits, spelt_numbers, head_below, as_numbers, made_again, same_cap)

@@ -27,7 +27,7 @@ length-directory (e ∷ es) = grind (arith, nat_tests, cons_entry, length-append
 same_entry : (d e : Entry) → d.object ≡ e.object → d.slot ≡ e.slot → d ≡ e
 same_entry d e o s = ap (λ (x : ℕ). record { object = x; slot = d.slot }) o ∙ ap (λ (x : ℕ). record { object = e.object; slot = x }) s
 
--- given bytes spell at most one directory
+-- given bytes encode at most one directory
 pub one_directory : (ds es : List Entry) → AllFitting ds → AllFitting es → directory_bytes ds ≡ directory_bytes es → ds ≡ es
 one_directory [] [] fd fe e = refl
 one_directory [] (x ∷ es) fd fe e = absurd (omega (arith, length-directory [], length-directory (x ∷ es), ap length e))

@@ -5,7 +5,7 @@ use Rattle.layout.proofs.Names.{HomeRange, extent_at, IsApart, AreApart, Cover, 
 use Rattle.std.proofs.Common.{◌≡◌, ◌+◌, ◌-◌, ◌<◌, ◌≤◌, ◌∷◌, ◌++◌, ◌∙◌}
 use Rattle.std.proofs.lemmas.List.{append_assoc}
 
--- the first i extents are apart from all after them
+-- each of the first n extents is apart from all extents after it
 abbrev pub ApartBelow : List Extent → ℕ → Type 0
 ApartBelow es n = (i j : ℕ) → i < n → i < j → j < length es → IsApart (extent_at es i) (extent_at es j)
 
@@ -46,7 +46,7 @@ two_set into xs n a b len front =
 
 -- ---- ranges
 
--- up to a place the ranges go on to a number, so they cover all where the others do from there
+-- the ranges before index i end at the number `next`, so all ranges cover the objects if the rest do so from there
 pub record CoveredTo (g : Geometry) (rs : List HomeRange) (i next : ℕ) : Type 0 where
   pub within : next ≤ g.nodes + g.pages
   pub goes_on : Cover g next (drop i rs) → Cover g 0 rs
@@ -55,7 +55,7 @@ pub record CoveredTo (g : Geometry) (rs : List HomeRange) (i next : ℕ) : Type 
 abbrev pub range_at : List HomeRange → ℕ → HomeRange
 range_at rs i = get_or rs i (record { first = 0; count = 0; sector = 0 })
 
--- they begin at a number of an object, or end there
+-- ranges that cover the objects from n on: n is at most their number
 pub cover_within : (g : Geometry) (n : ℕ) (rs : List HomeRange) → Cover g n rs → n ≤ g.nodes + g.pages
 cover_within g n [] c = omega (arith, c)
 cover_within g n (r ∷ rs) c = let rest = cover_within g (n + r.count) rs c.1 in omega arith

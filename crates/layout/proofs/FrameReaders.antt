@@ -14,7 +14,7 @@ use Rattle.layout.proofs.Pages as page
 use Rattle.layout.proofs.Keepables.{node_of_frame, page_of_frame}
 use Rattle.layout.proofs.SlotLists.{slots_bytes-cons, length-capability}
 
--- a number, and what follows it
+-- reading a number that other bytes follow
 pub reported : (n : ℕ) (rest bytes : List ℕ) → n < 2 ^ 64 → bytes ≡ number n ++ rest → number_from bytes ≡ n
 reported n rest bytes fits e = sym (number_reported bytes rest n fits e)
 
@@ -64,7 +64,7 @@ header_of r a c o = record { role = r; allocations = a; calls = c; owner = o }
 same_header : (r r' : Role) (a a' c c' o o' : ℕ) → r ≡ r' → a ≡ a' → c ≡ c' → o ≡ o' → header_of r a c o ≡ header_of r' a' c' o'
 same_header r r' a a' c c' o o' er ea ec eo = rw (er, ea, ec, eo) refl
 
--- what the front of a frame says
+-- the meaning of the front of a frame
 pub record FrontTells (first : ℕ) (h : ObjectHeader) (bytes : List ℕ) : Type 0 where
   pub first_is : number_from bytes ≡ first
   pub header_is : header_from bytes ≡ h
@@ -132,7 +132,7 @@ page_again age f bytes is e =
     same_frame (header_from bytes) f.header (content_of (page_body_in (number_from bytes)) [] (words_from 512 (drop 512 bytes))) f.content
     front.header content
 
--- bytes that spell a frame are read as that frame
+-- bytes that encode a frame are read as that frame
 pub frame_again : (g : Geometry) (age object : ℕ) (bytes : List ℕ) (f : Frame) → IsFrameOf g age object bytes f →
     frame_from g object bytes ≡ f
 unfolding frame_from
@@ -152,7 +152,7 @@ unfolding number_from
 number_front xs ys same = sym (little_from-take 0 8 8 xs (omega arith)) ∙ ap (λ (b : List ℕ). little_number 8 b) same
     ∙ little_from-take 0 8 8 ys (omega arith)
 
--- what follows isn't read
+-- reading a number doesn't depend on the bytes after it
 number_before : (xs ys : List ℕ) (k : ℕ) → k + 8 ≤ length xs → number_from (drop k (xs ++ ys)) ≡ number_from (drop k xs)
 number_before xs ys k room =
     number_front (drop k (xs ++ ys)) (drop k xs)

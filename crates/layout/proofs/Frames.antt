@@ -126,7 +126,7 @@ role_again r = grind (arith, nat_tests)
 
 -- ---- reading
 
--- what the bytes of a frame are by their places
+-- the bytes of a frame, part by part
 pub record HasParts (f : Frame) (bytes : List ℕ) : Type 0 where
   pub whole : bytes ≡ front_numbers (role_number f.header.role) f.header ++ (slots_bytes (slots_of f.content) ++ zeros 224)
   pub middle : between 32 800 bytes ≡ slots_bytes (slots_of f.content)
@@ -151,7 +151,7 @@ node_parts g age f bytes fits e =
       last = sym (drop-drop 768 32 bytes) ∙ ap (drop 768) behind ∙ drop_at slots (zeros 224) 768 size;
     }
 
--- what was read of the bytes of a frame
+-- the values that were read from the bytes of a frame
 pub record IsReadOf (f : Frame) (role : ℕ) (h : ObjectHeader) (slots : List Cap) : Type 0 where
   pub role_is : role ≡ role_number (role_of f.content)
   pub header_is : h ≡ f.header
@@ -208,7 +208,7 @@ body_reported f role h slots age read follows front =
       unowned = grind (arith, nat_tests);
     })
 
--- of a body at a node's number the words don't matter
+-- the content of a body at a node's number doesn't depend on the words
 same_content : (b : Body) (slots : List Cap) (words : List ℕ) → FollowsRole (content_of b slots []) →
     content_of b slots [] ≡ content_of b slots words
 same_content b slots words f = grind (arith, nat_tests)
@@ -257,7 +257,7 @@ free_node_found g age h bytes fits role_is counts unowned front blank =
     front (ap (take 768) blank ∙ front_zeros 768 992 (omega arith) ∙ sym all_void)
     (sym (drop-drop 768 32 bytes) ∙ ap (drop 768) blank ∙ drop_zeros 768 992)
 
--- what the bytes of a frame with the number of a node are, whose role's number is 0
+-- bytes of a frame with the number of a node whose role's number is 0
 pub record IsFreeSpelling (age : ℕ) (h : ObjectHeader) (bytes : List ℕ) : Type 0 where
   pub counts : IsCount age h.allocations × IsCount age h.calls
   pub unowned : h.owner ≡ 0
@@ -283,7 +283,7 @@ free_node_spelling g age h f bytes rest fits role_is front is e =
           ∙ ap (λ (s : List Cap). slots_bytes s ++ zeros 224) free.slots ∙ ap (λ (r : List ℕ). r ++ zeros 224) all_void ∙ zeros_add 768 224;
     }
 
--- given bytes spell at most one frame
+-- given bytes encode at most one frame
 pub one_node_frame : (g : Geometry) (age : ℕ) (e f : Frame) → IsNodeFrame g age e → IsNodeFrame g age f →
     node_frame_bytes e ≡ node_frame_bytes f → e ≡ f
 one_node_frame g age e f ie if same =

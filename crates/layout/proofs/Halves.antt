@@ -53,7 +53,7 @@ same_parity a b same = even_same a b (same_test (a % 2 == 0) (b % 2 == 0) same)
 pub half_within : (p : Plan) (generation : ℕ) → IsPlan p → IsWithin p.total (half_extent p.geometry (half_sector p generation))
 half_within p generation fits = within_by p (half_of generation) fits
 
--- and apart from that of the next generation
+-- the half of a generation is apart from that of the next one
 pub half_apart : (p : Plan) (a b : ℕ) → IsPlan p → (a % 2 ≡ b % 2 → ⊥) →
     IsApart (half_extent p.geometry (half_sector p a)) (half_extent p.geometry (half_sector p b))
 half_apart p a b fits differ = apart_by p (half_of a) (half_of b) fits (λ same. differ (same_parity a b same))

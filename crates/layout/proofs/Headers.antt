@@ -47,7 +47,7 @@ header_fits room h is = (
   ),
 )
 
--- what the numbers of a header's bytes have to be
+-- the conditions on the numbers in a header's bytes
 pub record HasFields (h : CheckpointHeader) (m : ℕ) (found : CheckpointHeader) (rest : List ℕ) : Type 0 where
   pub magic_is : m ≡ 0x4441_4548_534f_5245
   pub header_is : found ≡ h
@@ -65,7 +65,7 @@ spelt_header room bytes rest m found h fits read is e =
       header_stream h,
     )
 
--- given bytes spell at most one header
+-- given bytes encode at most one header
 pub one_header : (room : ℕ) (g h : CheckpointHeader) → IsHeader room g → IsHeader room h → header_bytes g ≡ header_bytes h → g ≡ h
 one_header room g h ig ih e =
     (spelt_header room (header_bytes g) (zeros 472) 0x4441_4548_534f_5245 g h (header_fits room g ig) (header_stream g) ih e).header_is

@@ -41,7 +41,7 @@ root_slots_kept g age r words key annex space =
       each = All-append P (root_slots r) (replicate 24 void_held) front (voids_kept g age 24);
     }
 
--- what the slots of a root say of its fields
+-- the conditions on a root's fields that follow from its slots
 record RootIs (g : Geometry) (age : ℕ) (r : Root Cap) : Type 0 where
   pub words : AreKeptWords 4 r.words
   pub annex : r.annex < 2 ^ 64

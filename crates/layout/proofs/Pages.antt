@@ -31,7 +31,7 @@ all_fit (w ∷ ws) all = (all 0 0 (omega arith), all_fit ws (λ k d lt. all (suc
 
 -- ---- reading words
 
--- the first i words are those of the first bytes
+-- the first i words that were read are those of the first bytes
 words_taken : (bytes words : List ℕ) → IsBytes bytes → length bytes ≡ 4096 → length words ≡ 512 → IsRead little_number 8 bytes words
     → (i : ℕ) → i ≤ 512 → take (8 * i) bytes ≡ words_bytes (take i words)
 words_taken bytes words small size count read zero le = sym words_bytes-nil
@@ -120,7 +120,7 @@ page_kind : (role owner : ℕ) (last : List ℕ) (c : Content Cap) → role ≡ 
     HoldsPage c → (IsTrue (is_free c) → owner ≡ 0) → (role ≡ 1) ⊎ ((role ≡ 0) × (owner ≡ 0) × (last ≡ zeros 4096))
 page_kind role owner last c r l h unowned = grind (arith, nat_tests, zero_words_bytes)
 
--- what the bytes of a frame with the number of a page are
+-- the bytes of a frame with the number of a page
 pub record IsPageSpelling (age role : ℕ) (h : ObjectHeader) (bytes : List ℕ) : Type 0 where
   pub counts : IsCount age h.allocations × IsCount age h.calls
   pub gap : take 480 (drop 32 bytes) ≡ zeros 480
@@ -141,7 +141,7 @@ page_spelling age role h f bytes rest fits role_is front is e =
           (λ t. ap (λ (x : ObjectHeader). x.owner) same ∙ is.front.unowned t);
     }
 
--- what a role's number and 512 words are as a content
+-- the content with a role's number and 512 words
 record IsPageContent (role owner : ℕ) (words : List ℕ) (c : Content Cap) : Type 0 where
   pub role_is : role ≡ role_number (role_of c)
   pub words_are : words ≡ page_words c
@@ -173,7 +173,7 @@ page_found age role h slots words b bytes fits role_is body_is counts are was fr
       spelt ∙ sym (append_assoc (front_bytes h) (zeros 480) (words_bytes (page_words c))),
     )
 
--- given bytes spell at most one frame of a page's number
+-- given bytes encode at most one frame of a page's number
 pub one_page_frame : (age : ℕ) (e f : Frame) → IsPageFrame age e → IsPageFrame age f → page_frame_bytes e ≡ page_frame_bytes f → e ≡ f
 one_page_frame age e f ie if same =
     let parts = page_parts e (page_frame_bytes e) refl in

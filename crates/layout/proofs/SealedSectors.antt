@@ -9,7 +9,7 @@ use Rattle.layout.proofs.Numbers.{length-zeros, IsBytes, AllFit, drop_filled, le
 
 -- ---- seals
 
--- a sealed row is its body with its seal
+-- a sealed row is the sealing of its body
 pub sealed_is : (row body : List ℕ) → IsSealed row → body_of row ≡ body → row ≡ with_seal body
 unfolding with_seal
 sealed_is row body is e =
@@ -20,7 +20,7 @@ pub length_sealed : (body : List ℕ) → length (with_seal body) ≡ length bod
 unfolding with_seal
 length_sealed body = omega (arith, length-append body (sums_bytes (sums_of body)), length_sums (sums_of body))
 
--- and the other way round
+-- the body of a sealing is the row that was sealed
 pub sealed_body : (row body : List ℕ) → row ≡ with_seal body → body_of row ≡ body
 unfolding with_seal
 sealed_body row body e =
@@ -58,7 +58,7 @@ unfolding words_bytes
 length_words [] = refl
 length_words (n ∷ ns) = omega (arith, length-append (number n) (words_bytes ns), length-number n, length_words ns)
 
--- the first i numbers are those of the first bytes
+-- the first i numbers that were read are those of the first bytes
 words_taken : (bytes ns : List ℕ) → IsBytes bytes → length bytes ≡ 8 * length ns → IsRead little_number 8 bytes ns → (i : ℕ) →
     i ≤ length ns → take (8 * i) bytes ≡ words_bytes (take i ns)
 words_taken bytes ns small size read zero le = sym no_words
@@ -83,7 +83,7 @@ words_read bytes ns small size read =
 pub words_fit : (bytes ns : List ℕ) → IsBytes bytes → IsRead little_number 8 bytes ns → AreWords ns
 words_fit bytes ns small read k d lt = grind (arith, nat_tests, get_or-drop, get_or_default)
 
--- their bytes decide numbers, whatever follows
+-- the bytes of some numbers determine them, whatever follows
 pub words_split : (ms ns x y : List ℕ) → AreWords ms → AreWords ns → length ms ≡ length ns → words_bytes ms ++ x ≡ words_bytes ns ++ y →
     ms ≡ ns
 words_split ms ns x y fm fn len e =
@@ -142,7 +142,7 @@ sector_found row ns n size count few front blank is =
     ∙ ap (λ (t : List ℕ). words_bytes ns ++ t) (blank ∙ ap zeros end) in
     sealed_is row (body_with ns) is body
 
--- the bytes of a sector decide its numbers; it is sealed and has zeros
+-- the bytes of a sector, which is sealed and has zeros, determine its numbers
 pub record IsSectorOf (row found ns : List ℕ) (n : ℕ) : Type 0 where
   pub seal : IsSealed row
   pub blank : take (488 - 8 * n) (drop (8 * n) row) ≡ zeros (length (take (488 - 8 * n) (drop (8 * n) row)))

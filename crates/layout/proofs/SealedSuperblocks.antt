@@ -20,7 +20,7 @@ pub length_ranges : (rs : List HomeRange) → length (range_numbers rs) ≡ 3 * 
 length_ranges [] = refl
 length_ranges (r ∷ rs) = omega (arith, length_ranges rs)
 
--- one range more is put
+-- one more range is written
 pub range_put : (rs : List HomeRange) (i : ℕ) (r : HomeRange) (old : List ℕ) → i < length rs → length old ≡ 3 * length rs
     → take (3 * i) old ≡ range_numbers (take i rs) → r ≡ get_or rs i r
     → take (3 * (i + 1)) (set (set (set old (3 * i) r.first) (3 * i + 1) r.count) (3 * i + 2) r.sector) ≡ range_numbers (take (i + 1) rs)
@@ -38,7 +38,7 @@ range_put rs i r old lt size before is =
     ∙ ap (λ (t : List ℕ). ((t ++ r.first ∷ []) ++ r.count ∷ []) ++ r.sector ∷ []) before
     ∙ sym (ranges_push (take i rs) r) ∙ ap range_numbers (sym more)
 
--- one range more is taken
+-- one more range is read
 pub range_taken : (ns : List ℕ) (into : List HomeRange) (i : ℕ) → i < length into → length ns ≡ 3 * length into →
     take (3 * i) ns ≡ range_numbers (take i into) → take (3 * (i + 1)) ns ≡ range_numbers
     (take (i + 1) (set into i (range_of (get_or ns (3 * i) 0) (get_or ns (3 * i + 1) 0) (get_or ns (3 * i + 2) 0))))

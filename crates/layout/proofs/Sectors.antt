@@ -39,7 +39,7 @@ same_rest at n old new same i lt =
     let place : at + (i + 1) ≡ at + 1 + i = omega arith in
     subst (λ (k : ℕ). new k ≡ old k) place (same (i + 1) (omega (arith, lt)))
 
--- the bytes of sectors are those of each
+-- equal sectors have equal bytes
 pub same_sectors : (at n : ℕ) (old new : Image) → ((i : ℕ) → i < n → new (at + i) ≡ old (at + i)) →
     sectors_from new at n ≡ sectors_from old at n
 unfolding sectors_from

@@ -12,11 +12,11 @@ few_sectors p n = grind (arith, nat_tests)
 pub node_fits : (v : Version) (g : Geometry) (n rank : ℕ) → n < g.nodes → rank < (row v).cluster_nodes → IsShapeFor g n (node_shape v rank)
 node_fits v g n rank lt below = grind (arith, nat_tests)
 
--- and a page the other
+-- the shape of a page fits a page's number
 pub page_fits : (g : Geometry) (n : ℕ) → g.nodes ≤ n → IsShapeFor g n page_shape
 page_fits g n le = grind (arith, nat_tests)
 
--- the bytes of a frame are those of its sectors
+-- the bytes of a frame depend only on the sectors of its block
 pub same_shaped : (at : ℕ) (s : Shape) (old new : Image) → ((i : ℕ) → i < shape_length s → new (at + i) ≡ old (at + i)) →
     shaped_at new at s ≡ shaped_at old at s
 same_shaped at s old new same = ap (shape_bytes s) (same_sectors at (shape_length s) old new same)

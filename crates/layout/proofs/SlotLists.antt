@@ -31,7 +31,7 @@ pub length-slots : (cs : List Cap) → length (slots_bytes cs) ≡ 24 * length c
 length-slots [] = ap length slots_bytes-nil
 length-slots (c ∷ cs) = grind (arith, nat_tests, slots_bytes-cons, length-append, length-capability, length-slots cs)
 
--- one capability more is written
+-- one more capability was written
 pub slot_written : (caps : List Cap) (into buf : List ℕ) (i k : ℕ) (d : Cap) → i < length caps → length into ≡ 24 * length caps → k ≡ 24
     → take (24 * i) into ≡ slots_bytes (take i caps) → buf ≡ capability_bytes (get_or caps i d)
     → take (24 * (i + 1)) (put_mid (24 * i) k into buf) ≡ slots_bytes (take (i + 1) caps)
@@ -41,7 +41,7 @@ slot_written caps into buf i k d lt len _ before is =
     ∙ ap (λ (r : List ℕ). r ++ buf) before ∙ ap (λ (r : List ℕ). slots_bytes (take i caps) ++ r) is
     ∙ sym (slots_bytes-push (take i caps) (get_or caps i d)) ∙ ap slots_bytes (sym (take_more caps i d lt))
 
--- the first i capabilities are those of the first bytes
+-- the first i capabilities that were read are those of the first bytes
 pub record AreRead (g : Geometry) (age : ℕ) (bytes : List ℕ) (into : List Cap) (i : ℕ) : Type 0 where
   pub bytes_are : take (24 * i) bytes ≡ slots_bytes (take i into)
   pub each : All (IsKeptCap g age) (take i into)
@@ -91,7 +91,7 @@ none_spelt g age bytes i lt hold slots fits e =
     hold (get_or slots i void_held) (fits.each i void_held (omega (arith, fits.count)))
     (ap (λ (bs : List ℕ). take 24 (drop (24 * i) bs)) e ∙ piece_of slots i void_held (omega (arith, fits.count)))
 
--- given bytes spell at most one list of capabilities, whatever follows
+-- given bytes encode at most one list of capabilities, whatever follows
 pub slots_split : (g : Geometry) (age : ℕ) (bs cs : List Cap) (x y : List ℕ) → All (IsKeptCap g age) bs → All (IsKeptCap g age) cs →
     length bs ≡ length cs → slots_bytes bs ++ x ≡ slots_bytes cs ++ y → (bs ≡ cs) × (x ≡ y)
 slots_split g age [] [] x y fb fc len e = (

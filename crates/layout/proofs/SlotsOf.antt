@@ -37,7 +37,7 @@ rising_above es e zero rising lt = rising 0 (omega (arith, lt))
 rising_above es e (suc i) rising lt =
     grind (arith, nat_tests, rising_behind e es rising i (omega (arith, lt)), rising_above es e i rising (omega (arith, lt)))
 
--- each entry of a directory gives its object its slot
+-- each entry of a directory gives its object the slot in it
 pub own_slot : (es : List Entry) (i : ℕ) → AreRising es → i < length es → slot_in es (entry_at es i).object ≡ Some (entry_at es i).slot
 own_slot [] i rising lt = absurd (omega (arith, lt))
 own_slot (e ∷ es) zero rising lt = slot_here e es e.object refl
@@ -46,7 +46,7 @@ own_slot (e ∷ es) (suc i) rising lt =
     slot_behind e es (entry_at es i).object (λ same. omega (arith, less, same))
     ∙ own_slot es i (rising_behind e es rising) (omega (arith, lt))
 
--- each object is less than those after it
+-- in a directory each object is less than the objects of later entries
 pub rising_to : (es : List Entry) (i j : ℕ) → AreRising es → i < j → j < length es → (entry_at es i).object < (entry_at es j).object
 rising_to [] i j rising lt within = absurd (omega (arith, within))
 rising_to (e ∷ es) zero zero rising lt within = absurd (omega (arith, lt))

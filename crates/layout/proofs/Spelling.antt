@@ -16,36 +16,36 @@ unfolding frames_read
 read_at image p generation es n lt = get_or-map-range_with_len (frame_read image p generation es) 0 (count_of p) n n blank_frame lt
     (omega arith)
 
--- the frames of two images are the same where their bytes are
+-- two images have the same frames if the bytes of these are the same
 pub read_same : (new old : Image) (p : Plan) (a b : ℕ) (ds es : List Entry) →
     ((n : ℕ) → n < count_of p → frame_in new p a ds n ≡ frame_in old p b es n) → frames_read new p a ds ≡ frames_read old p b es
 unfolding frames_read
 read_same new old p a b ds es same = grind (arith, nat_tests, same_lists, length-map-range_with_len, get_or-map-range_with_len)
 
--- and what is spelt stays so
+-- a frame that is encoded stays so if its bytes stay
 pub spelt_same : (new old : Image) (p : Plan) (age a b : ℕ) (ds es : List Entry) (n : ℕ) → frame_in new p a ds n ≡ frame_in old p b es n →
     IsSpelt old p age b es n → IsSpelt new p age a ds n
 spelt_same new old p age a b ds es n same is = grind (arith, nat_tests)
 
--- bytes that spell a frame are read as that, and are spelt
+-- bytes that encode a frame are read as that frame, and are a valid encoding
 pub spelt_read : (image : Image) (p : Plan) (age generation : ℕ) (es : List Entry) (n : ℕ) (f : Frame) →
     IsFrameOf p.geometry age n (frame_in image p generation es n) f
     → IsSpelt image p age generation es n × (frame_read image p generation es n ≡ f)
 spelt_read image p age generation es n f is = grind (arith, nat_tests, frame_again p.geometry age n (frame_in image p generation es n) f is)
 
--- what is spelt at one age and can be kept at another is spelt at that
+-- a frame that is encoded at one age, and may be kept at another, is encoded at that age
 pub spelt_at : (image : Image) (p : Plan) (first second generation : ℕ) (es : List Entry) (n : ℕ) → IsSpelt image p first generation es n →
     IsKeepable p.geometry second n (frame_read image p generation es n)
     → IsSpelt image p second generation es n
 spelt_at image p first second generation es n is keepable = (keepable, is.1)
 
--- an image denotes the state that is read of it, where all is spelt
+-- an image denotes the state that is read from it, if all its frames are encoded
 pub denotes : (image : Image) (size : ℕ) (p : Plan) (h : CheckpointHeader) (es : List Entry) → HasPlan image size p → HasHeader image p h →
     HasDirectory image p h es → AreSpelt image p h.age h.generation es
     → Encodes image size (state_in image p h es)
 denotes image size p h es plan header directory spelt = grind (arith, nat_tests, length_read, read_at)
 
--- bytes of a frame that can be kept are read as that, and spell it
+-- the bytes of a frame that may be kept are read as that frame, and are its encoding
 pub bytes_spelt : (g : Geometry) (age n : ℕ) (bytes : List ℕ) (f : Frame) → IsKeepable g age n f → bytes ≡ frame_bytes g n f →
     IsFrameOf g age n bytes (frame_from g n bytes) × (frame_from g n bytes ≡ f)
 bytes_spelt g age n bytes f keepable is = grind (arith, nat_tests, frame_again g age n bytes f (keepable, is))

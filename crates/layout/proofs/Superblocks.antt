@@ -198,7 +198,7 @@ module _ (bytes : List ℕ) (m second : ℕ) (first : bytes ≡ number m ++ drop
   unmarked None reported = λ mark. reported mark.version.0 (version_from bytes second mark.version.0 next fits mark.version.1)
   unmarked (Some v) reported = reported
 
--- a sector with a magic begins with its number
+-- the bytes of a sector that has the magic begin with the magic's number
 pub magic_read : (bytes : List ℕ) → HasMark bytes → bytes ≡ number magic ++ drop 8 bytes
 magic_read bytes mark = sym (take-append-drop 8 bytes) ∙ ap (λ (m : List ℕ). m ++ drop 8 bytes) (mark.magic ∙ magic_is)
 
@@ -207,7 +207,7 @@ magic_read bytes mark = sym (take-append-drop 8 bytes) ∙ ap (λ (m : List ℕ)
 abbrev pub numbers_of : Plan → List ℕ
 numbers_of p = p.geometry.nodes ∷ p.geometry.pages ∷ p.geometry.log ∷ p.half_0 ∷ p.half_1 ∷ p.total ∷ []
 
--- version and count of ranges in one number
+-- the version and the number of ranges in one number
 abbrev pub second_of : Plan → ℕ
 second_of p = version_number p.version + 4294967296 * length p.ranges
 
@@ -232,7 +232,7 @@ plan_stream p few =
     ∙ ap (λ (v : List ℕ). number magic ++ (v ++ stream (numbers_of p) (ranges_bytes (eight_ranges p.ranges) ++ zeros 256)))
     (halves_number (version_number p.version) (length p.ranges) small (omega arith))
 
--- what a superblock needs makes its numbers fit their bytes
+-- the numbers of a valid superblock fit their bytes
 pub record PlanFits (p : Plan) : Type 0 where
   pub numbers : AllFit (magic ∷ second_of p ∷ numbers_of p)
   pub ranges : All RangeFits (eight_ranges p.ranges)
@@ -277,7 +277,7 @@ plan_fits p is =
           (All-replicate RangeFits (8 - length p.ranges) unused (omega arith));
     }
 
--- what was read of the bytes of a superblock
+-- the values that were read from the bytes of a superblock
 pub record IsPlanRead (p : Plan) (v : Version) (second : ℕ) (g : Geometry) (all : List HomeRange) (half_0 half_1 total : ℕ) : Type 0 where
   pub used_is : second / 4294967296 ≡ length p.ranges
   pub few : length p.ranges ≤ 8
@@ -317,7 +317,7 @@ plan_reported p v bytes m second g all half_0 half_1 total fits ranges_fit eight
       plan_is = grind (arith, nat_tests, same_plan);
     }
 
--- the ranges in use are those of the superblock, and the others unused
+-- the ranges in use are those of the superblock, and the others are unused
 pub used_are : (p : Plan) (v : Version) (second : ℕ) (g : Geometry) (all : List HomeRange) (half_0 half_1 total : ℕ) →
     IsPlanRead p v second g all half_0 half_1 total → take (second / 4294967296) all ≡ p.ranges
 used_are p v second g all half_0 half_1 total read = grind (arith, nat_tests, take_at)
@@ -354,7 +354,7 @@ pub plan_found : (v : Version) (bytes : List ℕ) (second : ℕ) (g : Geometry) 
 plan_found v bytes second g all half_0 half_1 total used read version u few eight others blank =
     grind (arith, nat_tests, length-take-le, all_from, plan_stream)
 
--- eight numbers are read, and the ranges after them
+-- eight numbers are read, then the ranges after them
 pub eight_read : (bytes : List ℕ) (m s a b c d e f : ℕ) (all : List HomeRange) → bytes ≡ number m ++ drop 8 bytes →
     drop 8 bytes ≡ number s ++ drop 16 bytes → drop 16 bytes ≡ number a ++ drop 24 bytes
     → drop 24 bytes ≡ number b ++ drop 32 bytes → drop 32 bytes ≡ number c ++ drop 40 bytes → drop 40 bytes ≡ number d ++ drop 48 bytes →
@@ -364,7 +364,7 @@ pub eight_read : (bytes : List ℕ) (m s a b c d e f : ℕ) (all : List HomeRang
 eight_read bytes m s a b c d e f all em es ea eb ec ed ee ef er =
     grind (arith, nat_tests, take-append-drop 192 (drop 64 bytes), drop-drop 192 64 bytes)
 
--- given bytes spell at most one superblock
+-- given bytes encode at most one superblock
 pub one_plan : (p q : Plan) → IsPlan p → IsPlan q → superblock_bytes p ≡ superblock_bytes q → p ≡ q
 one_plan p q ip iq e =
     let pf = plan_fits p ip in

@@ -30,7 +30,7 @@ pub enum BadImage {
 }
 
 impl BadImage {
-    /// Returns the number of the reason: 1 to 10, in the order above.
+    /// Returns the number of the reason: 1 to 10, in the order of the variants.
     pub fn number(self) -> u64
         ensures value { result ≡ reason_number self }
         ensures most { result ≤ 10 }

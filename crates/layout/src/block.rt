@@ -28,7 +28,7 @@ pub fn unpack_node(block: &[u8], shape: Shape, node: &mut [u8])
     blank_from(node, size);
 }
 
-/// Copies the frame in a place of a block to the same place of another. The bytes beside it stay.
+/// Copies the frame in a place of a block to the same place of another. All other bytes stay.
 pub fn copy_frame(from: &[u8], shape: Shape, to: &mut [u8])
     requires from { shape_end shape ≤ length from.now }
     requires to { shape_end shape ≤ length to.old }
@@ -54,8 +54,8 @@ fn frame_size(geometry: Geometry, number: u64) -> usize
     }
 }
 
-/// Writes the frame of an object into its place in a block. The bytes before it stay. Where the bytes
-/// after its place are zeros, they stay zeros; others may change.
+/// Writes the frame of an object into its place in a block. The bytes before this place stay. If all bytes after it
+/// are zeros, they stay zeros; otherwise they may change.
 pub fn put_frame(
     geometry: Geometry,
     number: u64,

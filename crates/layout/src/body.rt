@@ -1,4 +1,4 @@
-// The body of a frame, after its header, and a scratch buffer for it.
+// The body of a frame: what comes after its header. A scratch buffer for bodies.
 ghost use Rattle.std.specs.Prelude.{◌≡◌, IfOk, replicate};
 ghost use Rattle.model.specs.Frame.{content_behind, void_held};
 ghost use Rattle.layout.specs.Frame.{content_of};
@@ -6,8 +6,8 @@ ghost use Rattle.layout.specs.Frame.{content_of};
 use model::{Cap, ContentRef, Root, Slots, Words};
 use std::alloc::{AllocError, Global};
 
-/// The content of a frame, without the words of a page and the slots of a node or an annex: those
-/// are in a `Scratch`.
+/// The content of a frame, but without the words of a page and the slots of a node or an annex, which lie in a
+/// `Scratch`.
 #[derive(Drop)]
 pub enum Body {
     Free,

@@ -42,7 +42,7 @@ pub fn is_blank_from(bytes: &[u8], at: usize) -> bool
     are_zeros(&bytes[at..])
 }
 
-/// Whether all bytes from `from` on and before `to` are 0.
+/// Whether all bytes from index `from` to before index `to` are 0.
 pub fn is_blank_between(bytes: &[u8], from: usize, to: usize) -> bool
     requires order { from ≤ to }
     requires room { to ≤ length bytes.now }

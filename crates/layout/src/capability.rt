@@ -16,9 +16,9 @@ pub const CAPABILITY_BYTES: usize = 24;
 // The three numbers in a capability's bytes.
 #[derive(Clone, Copy)]
 struct Numbers {
-    // Its tag, access, key and height: in bits 0 to 7, 8 to 15, 16 to 31 and 32 to 39.
+    // The tag in bits 0 to 7, the access in bits 8 to 15, the key in bits 16 to 31, and the height in bits 32 to 39.
     head: u64,
-    // The object that it names, or the number that it is.
+    // The number of the object that the capability names, or the data of a number capability.
     object: u64,
     count: u64,
 }
@@ -57,8 +57,8 @@ fn numbers_of(cap: Cap) -> Numbers
     }
 }
 
-// Whether an image of this geometry and age may hold a capability: its object is of its kind, and its
-// count at most the age. Without an object its count is 0.
+// Whether an image of this geometry and age may hold a capability: its object is of its kind, and its count at most
+// the age. A capability that names no object must have count 0.
 fn is_capability(geometry: Geometry, age: u64, cap: Cap) -> bool
     ensures { IsTrue result ↔ IsKeptCap geometry age cap }
 {
@@ -76,7 +76,7 @@ fn is_capability(geometry: Geometry, age: u64, cap: Cap) -> bool
     }
 }
 
-// A capability with the tag that was read, and whether it is the one that the bytes spell.
+// A decoded capability, and whether the bytes are its valid encoding.
 #[derive(Drop)]
 struct Reading {
     what: Capability,
@@ -99,8 +99,8 @@ fn read_as(what: Capability, numbers: Numbers, geometry: Geometry, age: u64) -> 
     Reading { what, is_spelt }
 }
 
-// Returns the capability with the tag in `numbers`, made of the fields that its kind has, and whether
-// it has these numbers.
+// Returns the capability with the tag in `numbers`, made from the fields that its kind has, and whether `numbers` are
+// its valid encoding.
 #[inline(always)]
 fn assembled(
     access: Access,
@@ -155,7 +155,7 @@ pub fn encode_capability(cap: Cap, into: &mut [u8])
 /// Reads a capability from its 24 bytes. Its object must be of its kind on a device of this geometry,
 /// and its count at most the age.
 ///
-/// Returns `BadFrame` if the bytes spell no such capability.
+/// Returns `BadFrame` if the bytes encode no such capability.
 #[inline(always)]
 pub fn decode_capability(bytes: &[u8], geometry: Geometry, age: u64) -> Result<Cap, BadImage>
     requires { length bytes.now ≡ 24 }

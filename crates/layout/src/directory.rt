@@ -57,7 +57,7 @@ fn have_own_slots(entries: &[Entry]) -> bool
     true
 }
 
-// Whether entries are a directory: each is of the device, the objects rise, and no slot comes twice.
+// Whether entries are a directory: objects and slots exist on the device, the objects rise, and no slot comes twice.
 fn is_directory(geometry: Geometry, entries: &[Entry]) -> bool
     requires { geometry.log ≤ MAX_LOG }
     ensures { IsTrue result ↔ IsDirectory geometry entries.now }
@@ -80,7 +80,7 @@ pub fn encode_directory(entries: &[Entry], into: &mut [u8])
     }
 }
 
-// Fills `into` with the entries in the bytes, 16 bytes for each, and checks none of them.
+// Fills `into` with the entries in the bytes, 16 bytes for each, and doesn't check them.
 fn read_entries(bytes: &[u8], into: &mut [Entry])
     requires { length bytes.now ≡ 16 * length into.old }
     ensures bytes { bytes.now ≡ directory_bytes into.new }
@@ -98,7 +98,7 @@ fn read_entries(bytes: &[u8], into: &mut [Entry])
 /// Reads a directory of `into.len()` entries, 16 bytes for each. The numbers of the objects must rise
 /// and be on the device. No slot may come twice or lie outside a log half.
 ///
-/// Returns `BadDirectory` if the bytes spell no such directory; then `into` may hold any entries.
+/// Returns `BadDirectory` if the bytes encode no such directory; then `into` may hold any entries.
 #[tactic(auto, using(crate::proofs::Directories::directory_fits, crate::proofs::Directories::one_directory))]
 pub fn decode_directory(
     bytes: &[u8],

@@ -11,7 +11,7 @@ use model::Geometry;
 pub struct HomeRange {
     /// The first number.
     pub first: u64,
-    /// How many numbers.
+    /// How many numbers the range has.
     pub count: u64,
     /// The sector where the frame of the first number begins.
     pub sector: u64,
@@ -21,7 +21,7 @@ pub struct HomeRange {
 #[derive(Clone, Copy)]
 pub struct Extent {
     pub sector: u64,
-    /// How many sectors.
+    /// How many sectors the extent has.
     pub length: u64,
 }
 
@@ -34,7 +34,7 @@ fn nodes_length(version: Version, count: u64) -> u64
     row.cluster_sectors * ((count + row.cluster_nodes - 1) / row.cluster_nodes)
 }
 
-/// Returns the sectors of a home range: 9 for each page, and those of its version for nodes.
+/// Returns the sectors of a home range: 9 for each page; for nodes, the number depends on the version.
 pub fn range_extent(version: Version, geometry: Geometry, range: HomeRange) -> Extent
     requires { range.count ≤ 8192 }
     ensures { result ≡ range_extent version geometry range }
@@ -50,7 +50,7 @@ pub fn range_extent(version: Version, geometry: Geometry, range: HomeRange) -> E
     }
 }
 
-/// Returns the sectors of a log half from `sector` on: 9 for each slot, and those of its directory.
+/// Returns the sectors of a log half that begins at `sector`: 9 for each slot, then those of its directory.
 pub fn half_extent(geometry: Geometry, sector: u64) -> Extent
     requires { geometry.log ≤ 4096 }
     ensures { result ≡ half_extent geometry sector }
@@ -84,14 +84,14 @@ pub fn fill_extents(
     into[ranges.len() + 1] = half_extent(geometry, half_1);
 }
 
-// Whether an extent lies after the headers, which end at sector 5, and before sector `total`.
+// Whether an extent lies after the headers, which end before sector 5, and before sector `total`.
 fn is_within(total: u64, extent: Extent) -> bool
     ensures { IsTrue result ↔ IsWithin total extent }
 {
     extent.sector >= 5 && extent.length <= total && extent.sector <= total - extent.length
 }
 
-/// Whether all extents lie after the headers, which end at sector 5, and before sector `total`.
+/// Whether all extents lie after the headers, which end before sector 5, and before sector `total`.
 pub fn are_within(total: u64, extents: &[Extent]) -> bool
     ensures { IsTrue result ↔ All (IsWithin total) extents.now }
 {

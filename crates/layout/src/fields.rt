@@ -1,4 +1,4 @@
-// Single fields of sectors that may be damaged.
+// Single fields, read from sectors that may be damaged.
 ghost use Rattle.std.specs.Prelude.{◌≡◌, ◌≤◌, length};
 ghost use Rattle.layout.specs.FrameReader.{header_from};
 ghost use Rattle.layout.specs.Image.{total_in, sequence_in};
@@ -7,7 +7,7 @@ use crate::bytes::number_at;
 use crate::front::decode_front;
 use model::ObjectHeader;
 
-/// Returns how many sectors the image takes, by the sector of its superblock. No other byte is checked.
+/// Returns how many sectors the image takes, from the sector of its superblock. No other byte is checked.
 #[tactic(auto, using(crate::proofs::Numbers::number_reported))]
 pub fn total_in(bytes: &[u8]) -> u64
     requires { 64 ≤ length bytes.now }

@@ -1,4 +1,4 @@
-// The frame of an object, whose number gives its kind.
+// The frame of an object: its number says whether it has a node's frame or a page's.
 ghost use Rattle.std.specs.Prelude.{◌≡◌, ◌+◌, ◌*◌, ◌<◌, length, IfOk, IfErr};
 ghost use Rattle.model.specs.declared.frame.Frame.{Frame};
 ghost use Rattle.layout.specs.Frame.{frame_bytes, frame_length, frame_of, IsFrameOf};
@@ -16,8 +16,8 @@ use model::{Cap, ContentRef, Geometry, ObjectHeader};
 /// Reads the frame of an object: 1024 bytes for a node's number, 4608 for a page's. It puts the slots
 /// of a node or an annex and the words of a page into `scratch`, and allocates nothing.
 ///
-/// Returns `BadFrame` if the bytes spell no frame that an image of this age may hold at this number.
-/// Then `scratch` may hold any slots and words.
+/// Returns `BadFrame` if the bytes encode no frame that an image of this age may hold at this number. Then `scratch`
+/// may hold any slots and words.
 pub fn decode_frame(
     bytes: &[u8],
     geometry: Geometry,
@@ -67,8 +67,8 @@ pub fn decode_in_block(
 
 /// Writes the frame of an object: 1024 bytes for a node's number, 4608 for a page's.
 ///
-/// Content that no image may hold at the number is lost. For a page at a node's number it writes void
-/// slots; for anything but a page at a page's number, words of 0.
+/// Content that no image may hold at the number is lost: instead of a page at a node's number, void slots are
+/// written; instead of anything but a page at a page's number, words of 0.
 pub fn encode_frame(
     geometry: Geometry,
     number: u64,

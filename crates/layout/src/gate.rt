@@ -4,7 +4,7 @@ ghost use Rattle.layout.specs.Gate.{gate_bytes, gate_of};
 
 use crate::bytes::blank;
 
-/// The gate of a header, which counts only while it is open.
+/// The gate of a header. The header is ignored while its gate is closed.
 #[derive(Clone, Copy, PartialEq, Eq)]
 pub enum Gate {
     Closed = 0,
@@ -20,7 +20,7 @@ pub fn encode_gate(gate: Gate, into: &mut [u8])
     into[0] = gate as u8;
 }
 
-/// Returns the gate in the first byte. It reads no other: a torn write may have left any bytes there.
+/// Returns the gate, by the first byte alone: after a torn write the others may be anything.
 pub fn decode_gate(bytes: &[u8]) -> Gate
     requires { 0 < length bytes.now }
     ensures { result ≡ gate_of bytes.now }

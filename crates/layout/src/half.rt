@@ -10,7 +10,7 @@ pub enum Half {
 }
 
 impl Half {
-    /// Returns the half that holds the checkpoint of a generation: the first holds the even ones.
+    /// Returns the half that holds the checkpoint of a generation: the first half holds even generations.
     pub fn of(generation: u64) -> Half
         ensures { result ≡ half_of generation }
     {

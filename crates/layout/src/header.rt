@@ -13,13 +13,13 @@ const HEADER_MAGIC: u64 = 0x4441_4548_534f_5245;
 /// The header of a checkpoint.
 #[derive(Clone, Copy)]
 pub struct CheckpointHeader {
-    /// Counts the headers written. If two headers are open, the one with the greater number counts.
+    /// How many headers were written up to this one. If two headers are open, the greater number is committed.
     pub sequence: u64,
     /// The number of the saved state: a commit raises it by 1, a journaled page by 2.
     pub generation: u64,
-    /// How many objects lie in the log.
+    /// How many objects have their frames in the log.
     pub entries: u64,
-    /// The age of the saved state: its invocations, checkpoints and journaled pages.
+    /// The age of the saved state: the number of its invocations, checkpoints and journaled pages.
     pub age: u64,
 }
 
@@ -52,8 +52,8 @@ pub fn encode_header(header: CheckpointHeader, into: &mut [u8])
     put_number(into, 32, header.age);
 }
 
-/// Reads the 512 bytes of a header's sector, on a device whose log half has `room` slots. Returns
-/// `BadHeader` if the bytes spell no header within the limits of such a device.
+/// Reads the 512 bytes of a header's sector, on a device whose log half has `room` slots. Returns `BadHeader` if the
+/// bytes encode no header within the limits of such a device.
 pub fn decode_header(bytes: &[u8], room: u64) -> Result<CheckpointHeader, BadImage>
     requires { length bytes.now ≡ 512 }
     ensures found { IfOk result (λ h. IsHeader room h × (bytes.now ≡ header_bytes h)) }

@@ -21,7 +21,7 @@ use model::{Cap, Capability, ContentRef, Geometry, ObjectHeader, Root, State};
 /// How many bytes a frame with the number of a node takes.
 pub const NODE_FRAME_BYTES: usize = 1024;
 
-// How many of these come before the zeros at its end.
+// Where the slots end in such a frame. The bytes from here on are zeros.
 const SLOTS_END: usize = 800;
 
 // Returns the number of a `Number` capability, or 0 for any other.
@@ -34,7 +34,7 @@ fn number_held(cap: Cap) -> u64
     }
 }
 
-// Returns the `Number` capability with a number.
+// Returns the number capability with this number.
 fn number_cap(number: u64) -> Cap
     ensures { result ≡ number_cap number }
 {
@@ -55,7 +55,7 @@ fn state_in(number: u64) -> State
     }
 }
 
-// Returns the root of a process in 32 slots, and checks none of them.
+// Returns the root of a process from 32 slots, and doesn't check them.
 fn root_from(slots: &[Cap]) -> Root<Cap>
     requires { length slots.now ≡ 32 }
     ensures { result ≡ root_from slots.now }
@@ -92,7 +92,7 @@ fn root_slots(root: &Root<Cap>) -> [Cap; 8]
     ]
 }
 
-// Returns the body with a role's number in 32 slots, and checks none of them. Without a role it is free.
+// Returns the body with a role's number from 32 slots, and doesn't check them. If no role has the number, it is free.
 fn body_in(role: u64, slots: &[Cap]) -> Body
     requires { length slots.now ≡ 32 }
     ensures { result ≡ body_in role slots.now }
@@ -108,7 +108,7 @@ fn body_in(role: u64, slots: &[Cap]) -> Body
     }
 }
 
-// Whether 32 slots are those of a root, and its space is one that a process may have.
+// Whether 32 slots are those of this root, and its space is one that a process may have.
 #[tactic(auto, using(crate::proofs::Frames::root_tail))]
 fn is_root(root: &Root<Cap>, slots: &[Cap]) -> bool
     requires { length slots.now ≡ 32 }
@@ -134,7 +134,7 @@ fn is_body(body: &Body, role: u64, owner: u64, slots: &[Cap]) -> bool
     }
 }
 
-// Whether 1024 bytes with this header and without a role are the frame of a free node.
+// Whether 1024 bytes with this header, which has no role, are the frame of a free node.
 fn is_free_node(header: ObjectHeader, age: u64, bytes: &[u8]) -> bool
     requires { length bytes.now ≡ 1024 }
     ensures { IsTrue result ↔ (IsCount age header.allocations × IsCount age header.calls)
@@ -146,8 +146,8 @@ fn is_free_node(header: ObjectHeader, age: u64, bytes: &[u8]) -> bool
 /// Reads the 1024 bytes of a frame with the number of a node. It puts the slots of a node or an annex
 /// into `scratch`.
 ///
-/// Returns `BadFrame` if the bytes spell no such frame that an image of this geometry and age may
-/// hold. Then `scratch` may hold any slots.
+/// Returns `BadFrame` if the bytes encode no such frame that an image of this geometry and age may hold. Then
+/// `scratch` may hold any slots.
 pub fn decode_node_frame(
     bytes: &[u8],
     geometry: Geometry,
@@ -192,8 +192,8 @@ fn put_slots(caps: &[Cap], into: &mut [u8])
     blank_from(into, end);
 }
 
-/// Writes the 1024 bytes of a frame with the number of a node. For a page, which no node's number may
-/// have, it writes void slots.
+/// Writes the 1024 bytes of a frame with the number of a node. For a page, which can't be at a node's number, it
+/// writes void slots.
 pub fn encode_node_frame(header: ObjectHeader, content: ContentRef<'_>, into: &mut [u8])
     requires { length into.old ≡ 1024 }
     ensures { into.new ≡ node_frame_bytes (record { header = header; content = content_behind content.entry }) }

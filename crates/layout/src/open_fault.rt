@@ -1,11 +1,11 @@
-// Why a device isn't opened.
+// Why opening a device or reading from it failed.
 use crate::BadImage;
 use device::Failed;
 use model::Refusal;
 use std::alloc::AllocError;
 use thiserror::Error;
 
-/// Why a device isn't opened, or something that it holds isn't read.
+/// Why opening a device, or reading an object from it, failed.
 #[derive(Clone, Copy, Debug, Error)]
 pub enum OpenFault {
     /// The device failed.
@@ -14,7 +14,7 @@ pub enum OpenFault {
     /// Memory ran out.
     #[error("no memory")]
     NoMemory,
-    /// What the device holds is no image.
+    /// The device holds no valid image, for this reason.
     #[error("{0}")]
     Bad(BadImage),
 }
@@ -54,9 +54,9 @@ impl From<AllocError> for OpenFault {
 
 /// Returns `Failed` for `Fault`, and `NoMemory` for any other refusal.
 ///
-/// Use it only for refusals of functions that do nothing but read objects. These get each refusal by
-/// `?`, from `Failed` (as `Fault`) or `AllocError` (as `NoMemory`), so no other comes here. The users
-/// are `check`, `recover` and `recover_in` of `recovery`, which read all objects of a store.
+/// Use it only for refusals of functions that only read objects. These return a refusal only by `?`, from `Failed`
+/// (as `Fault`) or `AllocError` (as `NoMemory`), so no other refusal comes here. The users are `check`, `recover` and
+/// `recover_in` of `recovery`, which read all objects of a store.
 impl From<Refusal> for OpenFault {
     ghost use Rattle.std.specs.Prelude.{◌≡◌, ◌↔◌};
     ghost use Rattle.layout.specs.declared.bad_image.BadImage.{BadImage};

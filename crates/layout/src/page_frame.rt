@@ -59,8 +59,8 @@ fn is_free_page(role: u64, owner: u64, bytes: &[u8]) -> bool
 /// Reads the 4608 bytes of a frame with the number of a page. It puts the words of a page into
 /// `scratch`.
 ///
-/// Returns `BadFrame` if the bytes spell no such frame that an image of this age may hold. Then
-/// `scratch` may hold any words.
+/// Returns `BadFrame` if the bytes encode no such frame that an image of this age may hold. Then `scratch` may hold
+/// any words.
 pub fn decode_page_frame(
     bytes: &[u8],
     age: u64,
@@ -107,8 +107,8 @@ pub fn encode_page(header: ObjectHeader, words: &[u64], into: &mut [u8])
     encode_words(words, &mut into[FRONT_BYTES..]);
 }
 
-/// Writes the 4608 bytes of a frame with the number of a page. For anything but a page it writes words
-/// of 0: only a free object may have that number too.
+/// Writes the 4608 bytes of a frame with the number of a page. For anything but a page it writes words of 0: besides
+/// a page, only a free object may have that number.
 pub fn encode_page_frame(header: ObjectHeader, content: ContentRef<'_>, into: &mut [u8])
     requires { length into.old ≡ 4608 }
     ensures { into.new ≡ page_frame_bytes (record { header = header; content = content_behind content.entry }) }

@@ -8,6 +8,6 @@ pub struct Shape {
     pub sectors: u64,
     /// The byte of the block where the frame begins.
     pub offset: u64,
-    /// How many bytes the frame takes, without the zeros at a node's end.
+    /// How many bytes the frame takes, without the zeros at the end of a node's frame.
     pub bytes: u64,
 }

@@ -46,8 +46,8 @@ pub fn encode_slots(caps: &[Cap], into: &mut [u8])
     }
 }
 
-/// Reads 32 capabilities from 768 bytes. Returns `BadFrame` if one of them is not spelt there, or is one
-/// that an image of this geometry and age may not hold. Then `into` may hold any capabilities.
+/// Reads 32 capabilities from 768 bytes. Returns `BadFrame` if some 24 bytes encode no capability that an image of
+/// this geometry and age may hold. Then `into` may hold any capabilities.
 pub fn decode_slots(
     bytes: &[u8],
     geometry: Geometry,

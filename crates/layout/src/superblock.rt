@@ -1,4 +1,4 @@
-// The superblock: how much a device holds, and where.
+// The superblock: how many objects a device holds, and where its parts lie.
 ghost use Rattle.std.specs.Prelude.{◌≡◌, ◌+◌, ◌*◌, ◌-◌, ◌<◌, ◌≤◌, ◌↔◌, length, take, drop, IsTrue, IfOk, IfErr, IfSome};
 ghost use Rattle.std.specs.Prelude.{IfNone};
 ghost use Rattle.std.specs.List.{All};
@@ -43,13 +43,13 @@ const SUPERBLOCK_MAGIC: u64 = 0x5450_4b43_534f_5245;
 // How many bytes a home range takes.
 const RANGE_BYTES: usize = 24;
 
-// Where the ranges begin in the sector.
+// Where the home ranges begin in the sector.
 const RANGES_AT: usize = 64;
 
-// Where the zeros after them begin.
+// Where the zeros after the home ranges begin.
 const RANGES_END: usize = 256;
 
-// The frame of a page is a block.
+// Where the frame of a page lies in its block: it fills the block.
 const PAGE_SHAPE: Shape = Shape {
     sectors: 9,
     offset: 0,
@@ -73,7 +73,7 @@ fn is_geometry(geometry: Geometry) -> bool
     nodes && pages && log
 }
 
-// Whether a range begins at number `next`, is not empty, and is of nodes alone or of pages alone.
+// Whether a range begins at number `next`, is not empty, and has only nodes or only pages.
 fn is_next(geometry: Geometry, range: HomeRange, next: u64) -> bool
     requires { geometry.nodes + geometry.pages ≤ 8192 }
     ensures { IsTrue result ↔ IsNext geometry range next }
@@ -83,7 +83,7 @@ fn is_next(geometry: Geometry, range: HomeRange, next: u64) -> bool
     range.first == next && range.count > 0 && is_of_one_kind
 }
 
-// Whether the ranges have the numbers of all objects in their order, each once.
+// Whether the ranges together have the numbers of all objects once, in rising order.
 #[tactic(auto, using(crate::proofs::Extents::not_covered))]
 fn do_cover(geometry: Geometry, ranges: &[HomeRange]) -> bool
     requires { IsGeometry geometry }
@@ -127,8 +127,8 @@ fn is_plan(
     are_within(total, used) && are_apart(used)
 }
 
-/// How much a device holds, and where. Each superblock is within the limits of the format: its ranges
-/// cover all objects, and no sector is in two ranges or halves of the log.
+/// How many objects a device holds, and where its parts lie. Each superblock is within the limits of the format: its
+/// ranges cover all objects, and no sector belongs to two of its ranges and log halves.
 #[derive(Drop)]
 pub struct Superblock {
     version: Version,
@@ -233,7 +233,7 @@ impl Superblock {
         range_with(self.ranges(), number)
     }
 
-    // Returns the rank in its cluster that a number has if it is a node's.
+    // Returns the rank of a node in its cluster.
     fn rank(&self, number: u64) -> u64
         ensures value { result ≡ rank_in self.now.version (range_with self.now.ranges number) number }
         ensures below { result < (row self.now.version).cluster_nodes }
@@ -245,7 +245,7 @@ impl Superblock {
         }
     }
 
-    /// Returns where the frame of an object lies in its block, at home as in the log.
+    /// Returns where the frame of an object lies in its block. It is the same at home and in the log.
     pub fn shape(&self, number: u64) -> Shape
         ensures value { result ≡ shape_of self.now number }
         ensures fits { IsShapeFor self.now.geometry number result }
@@ -282,7 +282,7 @@ impl Superblock {
     }
 }
 
-// Fills `into` with the ranges in the bytes, 24 bytes for each, and checks none of them.
+// Fills `into` with the ranges in the bytes, 24 bytes for each, and doesn't check them.
 fn read_ranges(bytes: &[u8], into: &mut [HomeRange])
     requires { length bytes.now ≡ 24 * length into.old }
     ensures bytes { bytes.now ≡ ranges_bytes into.new }
@@ -356,8 +356,8 @@ fn version_in(bytes: &[u8]) -> Option<Version>
     Version::with_number(second % 4294967296)
 }
 
-// Reads the rest of a superblock's sector, whose magic and version are right. Returns `None` if it
-// spells no superblock.
+// Reads the rest of a superblock's sector, whose magic and version are right. Returns `None` if the sector encodes no
+// superblock.
 fn read_plan(version: Version, bytes: &[u8]) -> Option<Superblock>
     requires size { length bytes.now ≡ 512 }
     requires mark { HasMark bytes.now }
@@ -386,8 +386,8 @@ fn read_plan(version: Version, bytes: &[u8]) -> Option<Superblock>
 
 /// Reads the 512 bytes of a superblock's sector.
 ///
-/// Returns `NotASuperblock` for another magic, a version other than 1 and 2, or a byte after the
-/// ranges that isn't 0. Returns `BadGeometry` if the bytes spell no superblock for another reason.
+/// Returns `NotASuperblock` for another magic, a version other than 1 and 2, or a byte after the ranges that isn't 0.
+/// Returns `BadGeometry` if the bytes encode no superblock for another reason.
 pub fn decode_superblock(bytes: &[u8]) -> Result<Superblock, BadImage>
     requires { length bytes.now ≡ 512 }
     ensures found { IfOk result (λ s. bytes.now ≡ superblock_bytes s) }

@@ -10,7 +10,7 @@ pub enum Version {
     Two,
 }
 
-/// The numbers of a version. The frames of nodes lie in clusters.
+/// The numbers of a version. In each version the frames of nodes lie in clusters.
 #[derive(Clone, Copy)]
 pub struct Row {
     /// The number for the version in a superblock.
@@ -19,7 +19,7 @@ pub struct Row {
     pub cluster_sectors: u64,
     /// How many nodes have their frames in a cluster.
     pub cluster_nodes: u64,
-    /// How many bytes each of these takes, without the zeros at its end.
+    /// How many bytes the frame of a node takes, without the zeros at its end.
     pub node_bytes: u64,
 }
 

@@ -47,7 +47,7 @@ pub slots_apart_directory : (p : Plan) (generation : ℕ) {s : ℕ} (m n : ℕ) 
     IsApart (place_extent p generation s n) (directory_extent p generation m)
 slots_apart_directory p generation {s} m n lt le = grind (arith, nat_tests)
 
--- the frames that a directory names lie apart from it
+-- the frames that a directory names lie apart from the directory
 pub directory_spares : {p : Plan} (generation m : ℕ) {es : List Entry} → IsPlan p → IsDirectory p.geometry es → m ≤ p.geometry.log →
     SparesFrames p generation es (directory_extent p generation m)
 directory_spares {p} generation m {es} fits is few n lt =
@@ -102,9 +102,9 @@ module _ {size : ℕ} {image : Image} {b : Books} (k : ℕ) (kept : IsIntact siz
   abbrev frozen_puts : List Put
   frozen_puts = puts_in image b.plan (frozen_generation b) b.frozen
 
-  -- and each without a place, whose cluster has one, lies beside it as at home
+  -- each object without a place, in a cluster that has one, has its home frame there
   module _ (complete : AreComplete image b.plan (frozen_generation b) (entries_of b.frozen)) where
-    -- where an object has no place it has the frame that lies at home, as before
+    -- an object without a place has its home frame, as before
     home_frame : {n : ℕ} → n < count_of b.plan → slot_of (place_at b.frozen n) ≡ None →
         frame_in image b.plan (b.header.generation + 1) (entries_of b.frozen) n ≡ frame_in image b.plan b.header.generation b.directory n
     home_frame {n} lt none = grind (arith, nat_tests, slot_entries, at_home, beside_frame_slot, none_saved, in_frame_slot)
@@ -113,7 +113,7 @@ module _ {size : ℕ} {image : Image} {b : Books} (k : ℕ) (kept : IsIntact siz
         ≡ put_or (put_at frozen_puts n) (frame_at saved_frames n)
     frame_next n lt = grind (arith, nat_tests, home_frame, read_at, put_is, slot_frame_in, whole_at)
 
-    -- the frames that are saved next are the saved ones with the frozen ones in their place
+    -- the frames that are saved next are the saved ones, with the frozen ones instead where there are some
     pub frames_next : frames_read image b.plan (b.header.generation + 1) (entries_of b.frozen) ≡ overlaid frozen_puts saved_frames
     unfolding frames_read overlaid
     frames_next = search (arith, length_read, maps_same, frame_next)
@@ -172,7 +172,7 @@ module _ (disk : Disk) {b : Books} (k : ℕ) (kept : IsIntact disk.sectors disk.
     generation_is : working_generation b ≡ frozen_generation b + 1
     generation_is = ap (generation_after b.header.generation) running
 
-    -- what was kept lies apart from the directory
+    -- all frames that are kept lie apart from the directory
     spares_kept : SparesKept b extent
     spares_kept = record {
       frames = spares_now.frames;

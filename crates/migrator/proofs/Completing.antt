@@ -88,12 +88,12 @@ module _ {old new : Disk} {b : Books} {was now : Option Unwritten} {k : ℕ} (ke
         let own = own_slot (entries_of b.frozen) is.index (frozen_fits kept).rising is.within in
         search (is, running, sym (slot_entries b.frozen entry.object) ∙ own)
 
--- what is kept doesn't depend on what is unwritten
+-- the kept frames don't depend on the unwritten cluster
 pub kept_with : {size : ℕ} {image : Image} {b : Books} {o : Option Unwritten} → IsIntact size image b →
     IsIntact size image (record b { unwritten = o })
 kept_with kept = search
 
--- once all slots are complete, nothing is unwritten, and nothing changes
+-- after all slots are complete, nothing is unwritten, and no frame changes
 pub record IsCompleted (old : Disk) (image : Image) (b : Books) (k : ℕ) (mid : Disk) : Type 0 where
   pub kept : IsIntact mid.sectors mid.seen b
   pub size : mid.sectors ≡ old.sectors
@@ -130,7 +130,7 @@ pub complete_at : (b : Books) (image : Image) {h : CheckpointHeader} {es : List 
     (entries_of b.frozen)
 complete_at b image {h} {es} {age} header entries complete = grind (arith, nat_tests)
 
--- what is to be saved may be
+-- the frames that are to be saved may be saved
 pub keepable_at : {age : ℕ} {old : Disk} {image : Image} {b : Books} {k : ℕ} {mid : Disk} → IsCompleted old image b k mid →
     AreKeepable b.plan.geometry age (next_saved puts age (frozen_of image b k) (stored_in image b).saved).frames
     → AreKeepable b.plan.geometry age (next_saved puts age (frozen_of mid.seen b k) (stored_in mid.seen b).saved).frames
@@ -138,7 +138,7 @@ keepable_at {age} {old} {image} {b} {k} {mid} is keepable = grind (arith, nat_te
 
 -- ---- a cluster is put together
 
--- the frames at home were gathered, and that of the entry was copied over its own
+-- the home frames were gathered, and the entry's own frame was copied over its place
 pub filled : (image : Image) {p : Plan} (generation : ℕ) (e : Entry) (old new : List ℕ) → IsPlan p → IsObject p.geometry e.object →
     IsGathered image p generation [] e.object old → shape_bytes (shape_of p e.object) new ≡ slot_bytes image p generation e.slot e.object
     → ((s : Shape) → AreBeside (shape_of p e.object) s → shape_bytes s new ≡ shape_bytes s old) → IsFilled image p generation e new
@@ -148,7 +148,7 @@ filled image {p} generation e old new fits is gathered copied others = record {
       others (shape_of p n) (frames_beside fits is is_n (sym same) (λ e. differ (sym e))) ∙ gathered n is_n same;
 }
 
--- a block whose end stays has the same zeros
+-- a block that changes only before its end keeps the zeros there
 blank_on : (end at : ℕ) (old new : List ℕ) → end ≤ at → length new ≡ length old → drop end new ≡ drop end old → IsBlankFrom at old →
     IsBlankFrom at new
 blank_on end at old new low size same blank =
@@ -156,7 +156,7 @@ blank_on end at old new low size same blank =
     ap (λ (k : ℕ). drop k new) (sym sum) ∙ sym (drop-drop (at - end) end new) ∙ ap (drop (at - end)) same ∙ drop-drop (at - end) end old ∙
     ap (λ (k : ℕ). drop k old) sum ∙ blank ∙ ap (λ (k : ℕ). zeros (k - at)) (sym size)
 
--- what follows the frames stays zeros
+-- the bytes after the frames stay zeros
 pub ends_on : (p : Plan) (n : ℕ) (old new : List ℕ) → IsObject p.geometry n → length new ≡ length old →
     drop (shape_end (shape_of p n)) new ≡ drop (shape_end (shape_of p n)) old → EndsInZeros p n old → EndsInZeros p n new
 ends_on p n old new is size same ends at behind = blank_on (shape_end (shape_of p n)) at old new (behind n is refl) size same
@@ -168,7 +168,7 @@ half_of_slot : (p : Plan) (generation : ℕ) {slot : ℕ} → slot < p.geometry.
     IsInside (record { sector = slot_sector p generation slot; length = 8 }) (half_extent p.geometry (half_sector p generation))
 half_of_slot p generation low = record { starts = omega arith; ends = omega (arith, low) }
 
--- what a slot then has
+-- the cluster that a slot then holds
 cluster_read : (image : Image) (u : Unwritten) → length u.bytes ≡ 4096 → sectors_from (mended image (Some u)) u.sector 8 ≡ u.bytes
 cluster_read image u size =
     let eight : sectors_of u.bytes ≡ 8 = omega (arith, size) in
@@ -177,7 +177,7 @@ cluster_read image u size =
     let few : u.sector + j - u.sector ≡ j = omega arith in
     sym (mended_here image u (omega arith) (omega (arith, lt, size)) ∙ ap (image_of u.bytes) few)))
 
--- the zeros of a cluster stand in the slot that it was written into
+-- the zeros of a cluster are in the slot that it was written into
 pub zeros_written : (p : Plan) (n : ℕ) (old new : Image) (u : Unwritten) {now : Option Unwritten} → length u.bytes ≡ 4096 →
     mended new now ≡ mended old (Some u) → now ≡ None → EndsInZeros p n u.bytes → EndsInZeros p n (sectors_from new u.sector 8)
 zeros_written p n old new u {now} size seen none zeros = grind (arith, nat_tests, cluster_read)
@@ -193,15 +193,15 @@ module _ {p : Plan} (generation : ℕ) {es : List Entry} (i : ℕ) (fits : IsPla
     abbrev e : Entry
     e = entry_at es i
 
-    -- each that shares the home, and has no entry, isn't the entry's object
+    -- an object without an entry that shares the home isn't the entry's object
     other_object : (n : ℕ) → slot_in es n ≡ None → n ≡ e.object → ⊥
     other_object n none same = let never : None ≡ Some e.slot = sym none ∙ ap (slot_in es) same ∙ own_slot es i is.rising within in cc
 
-    -- an entry whose frame takes its block alone has a home of its own
+    -- an entry whose frame fills its block alone has a home of its own
     pub own_complete : (image : Image) → IsWhole (shape_of p e.object) → IsComplete image p generation es i
     own_complete image own = grind (arith, nat_tests, other_object, alone)
 
-    -- and one that follows another completes nothing
+    -- an entry that follows another of the same cluster has nothing to complete
     pub later_complete : (image : Image) → (0 < i) × (home_place p (entry_at es (i - 1)).object ≡ home_place p e.object) →
         IsComplete image p generation es i
     later_complete image follows first n is_n same none = absurd (first (i - 1) (omega (arith, follows.0)) follows.1)
@@ -218,7 +218,7 @@ module _ {p : Plan} (generation : ℕ) {es : List Entry} (i : ℕ) (fits : IsPla
     others_apart {j} n lt other = grind (arith, nat_tests)
 
     module _ {image new : Image} (change : Elsewhere (slot_sector p generation e.slot) 8 image new) where
-      -- what the other slots and the homes have stays
+      -- the other slots and the homes keep their bytes
       pub slot_stays : {j : ℕ} (n : ℕ) → j < length es → (j ≡ i → ⊥) → slot_bytes new p generation (entry_at es j).slot n
           ≡ slot_bytes image p generation (entry_at es j).slot n
       slot_stays {j} n lt other = bytes_stay p n (others_apart n lt other) change
@@ -226,7 +226,7 @@ module _ {p : Plan} (generation : ℕ) {es : List Entry} (i : ℕ) (fits : IsPla
       pub homes_stay : {n : ℕ} → IsObject p.geometry n → bytes_at new (home_place p n) p n ≡ bytes_at image (home_place p n) p n
       homes_stay {n} is_n = bytes_stay p n (home_apart generation fits is_n (half_of_slot p generation slot_low)) change
 
-      -- so do the clusters that are complete
+      -- clusters that are complete stay complete
       pub complete_stays : {j : ℕ} → j < i → IsComplete image p generation es j → IsComplete new p generation es j
       complete_stays {j} less was = grind (arith, nat_tests, slot_stays, homes_stay)
 
@@ -271,7 +271,7 @@ module _ {p : Plan} (generation : ℕ) {es : List Entry} (i : ℕ) (fits : IsPla
         ∙ sym (ap (λ (image : Image). bytes_at image (home_place p n) p n) there
         ∙ homes_stay generation i fits is within (mended_elsewhere u) is_n)
 
--- what doesn't take its block alone has a cluster of 8 sectors
+-- a frame that doesn't fill its block alone lies in a cluster of 8 sectors
 cluster_length : (p : Plan) (n : ℕ) → (IsWhole (shape_of p n) → ⊥) → place_length p n ≡ 8
 cluster_length p n other = grind (arith, nat_tests)
 
@@ -299,7 +299,7 @@ pub either_of : {T E : Type 0} {o p : Option Unwritten} (result : Result T E) �
     (p ≡ None) ⊎ (p ≡ o)
 either_of {T} {E} {o} {p} result none same = grind (arith, nat_tests)
 
--- a cluster that the device failed to write lies on it
+-- an unwritten cluster belongs to sectors of the device
 pub unwritten_inside : {p : Plan} (generation : ℕ) {es : List Entry} {o : Option Unwritten} {u : Unwritten} → IsPlan p →
     IsDirectory p.geometry es → IfUnwritten p generation es o → o ≡ Some u → u.sector + 8 ≤ p.total
 unwritten_inside {p} generation {es} {o} {u} fits is has some = grind (arith, nat_tests, object, inside, half_of_slot, halves_within)
@@ -326,7 +326,7 @@ keeps_written {p} {generation} {es} {old} {new} {was} only_now is fits seen touc
       touches_within (let inside = slots_hold p generation (is.each fits.index (record { object = 0; slot = 0 }) fits.within).slot in
       record { starts = omega (arith, inside.starts, fits.sector_is); ends = omega (arith, inside.ends, fits.sector_is) }) (touches u some)
 
--- one entry's slot more
+-- completing the slot of one more entry
 pub keeps_more : {p : Plan} {generation : ℕ} {es : List Entry} {i : ℕ} {old mid new : Disk} {was now : Option Unwritten} → IsPlan p →
     IsDirectory p.geometry es → i < length es
     → Keeps p generation es old was mid None → KeepsOne p generation es i mid new now → Keeps p generation es old was new now
@@ -345,24 +345,24 @@ keeps_more {p} {generation} {es} {i} {old} {mid} {new} {was} {now} fits is withi
       slot_stays,
     )
 
--- after the last one
+-- after the last entry all are complete
 pub all_complete : (image : Image) (p : Plan) (generation : ℕ) (es : List Entry) →
     ((i : ℕ) → i < length es → IsComplete image p generation es i) → AreComplete image p generation es
 all_complete image p generation es each n s is_n none beside = search (arith, found_first p es n s beside)
 
 -- ---- where nothing is unwritten
 
--- no checkpoint is on its way
+-- if no checkpoint is frozen, nothing is unwritten
 pub none_idle : (b : Books) (o : Option Unwritten) → MayHaveUnwritten b o → b.frozen_size ≡ None → o ≡ None
 none_idle b o has idle = grind (arith, nat_tests)
 
--- then no books have any
+-- books with nothing unwritten
 pub without : (b : Books) {o : Option Unwritten} → o ≡ None → MayHaveUnwritten b o
 without b none = subst (MayHaveUnwritten b) (sym none) tt
 
 -- ---- what is put leaves it
 
--- a place with the slot of the one before
+-- an object keeps its slot, while the frame there is torn
 held_torn : (b : Books) (o : Option Unwritten) {n : ℕ} (q : Place) → n < length b.frozen → slot_of q ≡ Some (slot_for b.frozen n) →
     MayHaveUnwritten b o → MayHaveUnwritten (record b { frozen = set b.frozen n q }) o
 held_torn b o {n} q lt is has = grind (arith, nat_tests, object, set_here, slot_kept, set_there)
@@ -428,14 +428,14 @@ module _ {disk : Disk} {b : Books} (is : IsDurable disk b) where
       bytes_at disk.seen (home_place b.plan n) b.plan n ≡ bytes_at (seen_by disk.seen b) (home_place b.plan n) b.plan n
   home_raw {n} lt = sym (raw disk.seen n (λ u some. home_apart (frozen_generation b) is.kept.plan lt (cluster_inside some)))
 
-  -- what lies in the half of the frames that were put since, also after a write
+  -- after a write, frames in the half of the working ones stay
   pub working_again : (new : Image) {s : ℕ} (n : ℕ) → s < b.plan.geometry.log
       → slot_bytes (mended new b.unwritten) b.plan (working_generation b) s n ≡ slot_bytes new b.plan (working_generation b) s n
   working_again new n low = raw new n (λ u some. other_half (working_generation b) (frozen_generation b) n is.kept.plan
       (later_half b (has_some some).running)
       low (cluster_inside some))
 
-  -- and in another slot of the frozen frames
+  -- and frames in another slot of the frozen ones
   pub frozen_raw : (s n : ℕ) → ((u : Unwritten) → b.unwritten ≡ Some u → u.sector ≡ slot_sector b.plan (frozen_generation b) s → ⊥)
       → slot_bytes (seen_by disk.seen b) b.plan (frozen_generation b) s n ≡ slot_bytes disk.seen b.plan (frozen_generation b) s n
   frozen_raw s n other = search (arith, raw, has_some, apart_inside, frames_in_slots, slots_apart)
@@ -459,11 +459,11 @@ module _ {disk : Disk} {b : Books} (is : IsDurable disk b) where
     own_bytes : slot_bytes (seen_by disk.seen b) b.plan (frozen_generation b) s n ≡ shape_bytes (shape_of b.plan n) own.0.bytes
     own_bytes = grind (arith, nat_tests, packed_read, has, own_long)
 
-    -- the buffer spells it
+    -- the buffer encodes the frame
     pub own_spelt : n < count_of b.plan → (u : Unwritten) × (b.unwritten ≡ Some u) × IsSpeltIn u (shape_of b.plan n) b.plan.geometry n
     own_spelt lt = grind (arith, nat_tests, shape_fits, own_long, own_bytes, has)
 
-    -- and gives it
+    -- and the frame is read from the buffer
     pub own_frame : {read : Frame} → ((u : Unwritten) → b.unwritten ≡ Some u →
         read ≡ frame_from b.plan.geometry n (shape_bytes (shape_of b.plan n) u.bytes)) →
         read ≡ slot_frame (seen_by disk.seen b) b.plan (frozen_generation b) s n

@@ -5,7 +5,7 @@ use Rattle.migrator.proofs.Names.{slot_sector, shape_bytes, Plan, ReadsOnly, Wri
 use Rattle.migrator.proofs.Names.{HoldsHome, on_ok_weaker, zeros, IsGathered, IsCopied, Touches}
 use Rattle.std.proofs.Common.{◌≡◌, ◌-◌, ◌∙◌}
 
--- what was read at the frame slot of an object is its saved frame
+-- the frame read from the frame slot of an object is its saved frame
 pub frame_slot_bytes : (image : Image) (p : Plan) (generation : ℕ) (es : List Entry) (n : ℕ) {at : ℕ} {o : Option ℕ} →
     o ≡ frame_slot_in p es n → at ≡ sector_or o (slot_sector p generation) (home_place p n) →
     shaped_at image at (shape_of p n) ≡ frame_in image p generation es n
@@ -28,13 +28,13 @@ pub home_touched : {old mid new : Disk} {p q : Plan} (n : ℕ) → q ≡ p → R
     WritesAt (home_place q n) (place_length q n) mid new → Touches (home_place p n) (place_length p n) old new
 home_touched {old} {mid} {new} {p} {q} n same reads writes = grind (arith, nat_tests)
 
--- what was gathered is copied
+-- the gathered frames are copied
 pub gathered_copied : {T E : Type 0} (result : Result T E) (old new : Image) (p : Plan) (generation : ℕ) (es : List Entry) (n : ℕ)
     (block : List ℕ) → IsGathered old p generation es n block → OnOk result (HoldsHome p n block new) →
     OnOk result (IsCopied old new p generation es n)
 gathered_copied {T} {E} result old new p generation es n block are held = grind (arith, nat_tests)
 
--- and so are the zeros
+-- the zeros are copied too
 pub zeros_there : {T E : Type 0} (result : Result T E) (p : Plan) (n : ℕ) (there block : List ℕ) → OnOk result (there ≡ block) →
     EndsInZeros p n block → OnOk result (EndsInZeros p n there)
 zeros_there {T} {E} result p n there block written zeros = grind (arith, nat_tests)

@@ -31,7 +31,7 @@ words_fit {words} count fits = record {
       (sym (get_or_default words i d 0 lt)) (fits i);
 }
 
--- its bytes
+-- the bytes of a page encode its frame
 page_spelt : (p : Plan) {age n : ℕ} (image : Image) (at : ℕ) {f : Frame} → p.geometry.nodes ≤ n → IsKeepable p.geometry age n f →
     length (page_words f.content) ≡ 512 → sectors_from image at 9 ≡ page_frame_bytes f →
     IsFrameOf p.geometry age n (bytes_at image at p n) f
@@ -63,7 +63,7 @@ module _ {size : ℕ} {image : Image} {b : Books} (kept : IsIntact size image b)
       IsKeepable b.plan.geometry b.header.age n (frame_at (frames_read image b.plan b.header.generation b.directory) n)
   saved_keepable {n} lt = rw (read_at image b.plan b.header.generation b.directory n lt) (kept.saved n lt).0
 
--- the header that was read of its home is the saved one
+-- the header that was read from the home is the saved one
 pub header_read : {old : Image} {size : ℕ} (new : Image) {b : Books} → IsIntact size old b → b.header.entries ≡ 0 →
     {n at : ℕ} {shape : Shape} → n < count_of b.plan → at ≡ home_place b.plan n → shape ≡ shape_of b.plan n
     → (bytes_at new (home_place b.plan n) b.plan n ≡ bytes_at old (home_place b.plan n) b.plan n) → {header : ObjectHeader} →
@@ -113,7 +113,7 @@ module _ {old new : Disk} {b : Books} (is : IsDurable old b) (free : b.frozen_si
         goes_seen (goes_spared {b = b} {c = b} refl refl refl apart (touches mended_writes)),
       )
 
-  -- the slot spells the page with its words, at each age from the saved one on
+  -- the slot encodes the page with its new words, at each age from the saved one on
   pub spelt_page : (n : ℕ) {header : ObjectHeader} {words : List ℕ} → (frame_at (stored_on old b).saved.frames n).header.role ≡ role.Page →
       header ≡ (frame_at (stored_on old b).saved.frames n).header → AreKeptWords 512 words
       → sectors_from new.seen (slot_sector b.plan b.header.generation 0) 9 ≡ page_frame_bytes
@@ -178,7 +178,7 @@ module _ {disk : Disk} {b : Books} {n age : ℕ} (may : MayReplace disk b n age)
   frame_here : frame_in disk.seen b.plan again (one_entry n) n ≡ first_bytes disk.seen b n
   frame_here = grind (arith, nat_tests)
 
-  -- a page shares its home with none
+  -- a page shares its home with no other object
   one_page : (i : ℕ) → i < 1 → {m : ℕ} → m < count_of b.plan → home_place b.plan (entry_at (one_entry n) i).object ≡ home_place b.plan m →
       n ≡ m
   one_page i few {m} within same = grind (arith, nat_tests, alone, kept, page_own)
@@ -207,7 +207,7 @@ module _ {disk : Disk} {b : Books} {n age : ℕ} (may : MayReplace disk b n age)
       ≡ on_snapshots (replaced age n (first_frame disk.seen b n)) (stored_on disk b)
   replaced_on = idle_stored (replaced_header age b) (one_entry n) may.stands may.free (replaced age n frame) replaced_stored
 
--- no checkpoint is on its way
+-- no checkpoint is frozen
 pub size_none : (f : ℕ → FrozenPuts) (o : Option ℕ) → option_map f o ≡ None → o ≡ None
 size_none f o is = grind (arith, nat_tests)
 
@@ -217,7 +217,7 @@ module _ {old mid : Disk} {b : Books} {n age : ℕ} {words : List ℕ} (idle : I
     (may : MayJournal age n (stored_on old b).saved)
     (spelt : IsFrameOf b.plan.geometry age n (first_bytes mid.seen b n) (with_words words (frame_at (stored_on old b).saved.frames n)))
   where
-    -- the slot spells a frame, which is the page
+    -- the slot encodes a frame, and this is the page
     found : IsFrameOf b.plan.geometry age n (first_bytes mid.seen b n) (first_frame mid.seen b n)
         × (first_frame mid.seen b n ≡ with_words words (frame_at (stored_on old b).saved.frames n))
     found = bytes_spelt b.plan.geometry age n (first_bytes mid.seen b n) (with_words words (frame_at (stored_on old b).saved.frames n))

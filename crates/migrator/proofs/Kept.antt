@@ -9,18 +9,18 @@ use Rattle.std.specs.Prelude.{map}
 use Rattle.std.proofs.Common.{◌≡◌, ◌<◌}
 use Rattle.migrator.proofs.PlacesApart.{mended_disk, sound_spared, moments_spared, frame_stays, state_stays, bytes_stay}
 
--- what denotes a saved state holds its frames
+-- an image that encodes a saved state holds its frames
 pub holds : {size : ℕ} {c : Image} {s : SavedState} → Encodes c size s → Holds size c (kept_of s)
 holds {s} is = (s, is, refl)
 
--- from one disk and books to others the same is saved, where a read gives what is seen of it
+-- from one disk and books to others, as a read sees them, the saved state stays
 pub record GoesOnSeen (old new : Disk) (b c : Books) : Type 0 where
   pub plan : c.plan ≡ b.plan
   pub size : new.sectors ≡ old.sectors
   pub sound : LeavesState old (saved_state old.seen b) → LeavesState new (saved_state new.seen c)
   pub any_moment : LeavesState old (saved_state old.seen b) → LeavesSaved old new (kept_of (saved_state old.seen b))
 
--- the same over a device that is partly in memory
+-- the same for a device with an unwritten cluster in memory
 pub goes_seen : {old new : Disk} {b c : Books} → GoesOnSeen (mended_disk old b.unwritten) (mended_disk new c.unwritten) b c →
     GoesOnDisk old new b c
 goes_seen {old} {new} {b} {c} goes = grind (arith, nat_tests)
@@ -41,7 +41,7 @@ goes_spared {old} {new} {b} {c} {e} plan header directory spares writes = record
 
 -- ---- lists by number
 
--- one of them has changed
+-- one item of a list has changed
 pub map_set : {X : Type 0} (f g : ℕ → X) (n k : ℕ) (x : X) → k < n → g k ≡ x → ((i : ℕ) → i < n → (i ≡ k → ⊥) → g i ≡ f i) →
     map g (range_with_len 0 n) ≡ set (map f (range_with_len 0 n)) k x
 map_set {X} f g n k x within here others =
@@ -62,7 +62,7 @@ put_same : (new old : Image) (p : Plan) (g h n : ℕ) (place : Place) → ((s : 
     slot_bytes new p g s n ≡ slot_bytes old p h s n) → put_of new p g n place ≡ put_of old p h n place
 put_same new old p g h n place same = grind (arith, nat_tests)
 
--- where their bytes are the same, so are they
+-- frames whose bytes are the same are the same
 pub puts_same : (p : Plan) (g h : ℕ) (ps : List Place) (old new : Image) →
     ((n s : ℕ) → n < count_of p → place_at ps n ≡ Whole s → slot_bytes new p g s n ≡ slot_bytes old p h s n) →
     puts_in new p g ps ≡ puts_in old p h ps
@@ -92,7 +92,7 @@ pub stored_same : (new old : Image) (b : Books) → puts_in new b.plan (working_
     ≡ puts_in old b.plan (frozen_generation b) b.frozen → saved_state new b ≡ saved_state old b → stored_in new b ≡ stored_in old b
 stored_same new old b working frozen saved = grind (arith, nat_tests)
 
--- what is saved can still be read
+-- the saved state can still be read
 pub readable_stays : {size : ℕ} {p : Plan} {h : CheckpointHeader} {es : List Entry} {e : Extent} {old new : Image} →
     SparesFrames p h.generation es e → Elsewhere e.sector e.length old new → IsReadable size old p h es → IsReadable size new p h es
 readable_stays {size} {p} {h} {es} {e} {old} {new} spares change is = grind (arith, nat_tests, spelt_same, frame_stays)
@@ -123,7 +123,7 @@ module _ (size : ℕ) {b : Books} {e : Extent} {old new : Image} (spares : Spare
           are_put_on b.plan (working_generation b) b.working spares.working change kept.working,
         )
 
--- where no checkpoint is on its way nothing is frozen
+-- if no checkpoint is frozen, no frame is frozen
 pub nowhere_frozen : {size : ℕ} {image : Image} {b : Books} → IsIntact size image b → b.frozen_size ≡ None → (n : ℕ) →
     place_at b.frozen n ≡ Nowhere
 nowhere_frozen {b} kept idle = subst (IsRunning b) idle kept.running

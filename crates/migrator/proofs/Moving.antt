@@ -34,7 +34,7 @@ puts_home {p} generation {m} fits table few within n s lt is =
 abbrev pub moved_books : Books → ℕ → Books
 moved_books b k = record b { moved = b.moved + k }
 
--- one more is home
+-- one more frame is home
 moved_one : {size : ℕ} {image : Image} {b : Books} → IsIntact size image b → b.moved < b.header.entries →
     IsHome image b.plan b.header.generation b.directory b.moved → IsIntact size image (moved_books b 1)
 moved_one {size} {image} {b} kept some home = grind (arith, nat_tests)
@@ -140,7 +140,7 @@ module _ {disk : Disk} {b : Books} (only_now : (c : Image) → disk.left_since d
   pub moved_none : b.moved ≤ b.header.entries → MovedBy disk disk b b 0
   moved_none few = grind (arith, nat_tests)
 
-  -- the next one is home, and no call was made
+  -- the next frame is home already, and no call was made
   pub moved_on : MovedBy disk disk b (moved_books b 1) 1
   moved_on = grind (arith, nat_tests)
 
@@ -183,7 +183,7 @@ module _ {old mid : Disk} {a b : Books} {count some : ℕ} (few : a.moved ≤ a.
   pub left_number : a.header.entries - a.moved - some ≡ a.header.entries - a.moved - count
   left_number = omega (arith, left_is)
 
-  -- not all is home yet, or all was
+  -- not all frames are home yet, or all were before
   pub migrates_left : {T E : Type 0} {value : T} → IsDurable mid b → IsSoundOn old a →
       (b.header.entries ≡ 0) ⊎ (b.moved < b.header.entries) → mid.failures ≡ old.failures →
       Migrates {T = T} {E = E} old mid a b count (Ok value)
@@ -198,7 +198,7 @@ module _ {old mid : Disk} {a b : Books} {count some : ℕ} (few : a.moved ≤ a.
     pub all_number : 0 ≡ a.header.entries - a.moved - count
     all_number = omega (arith, all_old, lesser.0)
 
-    -- and a header was to say so
+    -- all frames are home, and a header has to say so
     pub migrates_all : {T E U F : Type 0} {new : Disk} {c : Books} {r : Result T E} {s : Result U F} → IsSoundOn old a →
         mid.failures ≡ old.failures → Publishes mid new b c (on_snapshots all_moved (stored_on mid b)) r → (is_err s ≡ is_err r) →
         Migrates old new a c count s
@@ -222,7 +222,7 @@ module _ {disk : Disk} {b : Books} (may : MayFinish disk b) where
   kept : IsIntact disk.sectors disk.seen b
   kept = idle_kept header [] may.stands idle
 
-  -- an object's home frame is its saved frame
+  -- the home frame of an object is its saved frame
   same_frame : {n : ℕ} → n < count_of b.plan → frame_in disk.seen b.plan b.header.generation [] n
       ≡ frame_in disk.seen b.plan b.header.generation b.directory n
   same_frame {n} lt = by (frame_slot_in b.plan b.directory n) refl where

@@ -24,11 +24,11 @@ use Rattle.migrator.proofs.Putting.{puts_blank}
 pub reads_more : {a b c : Disk} → ReadsOnly a b → ReadsOnly b c → ReadsOnly a c
 reads_more {a} {b} {c} first second = grind (arith, nat_tests)
 
--- a sync before it
+-- a sync before the reads
 pub only_reads_on : {a b c : Disk} → OnlyReads a b → ReadsOnly b c → OnlyReads a c
 only_reads_on {a} {b} {c} first second = grind (arith, nat_tests)
 
--- before the first
+-- no read
 pub reads_none : {disk : Disk} → ((c : Image) → disk.left_since disk.moment c → disk.may_leave c) → ReadsOnly disk disk
 reads_none {disk} only_now = grind (arith, nat_tests)
 
@@ -67,7 +67,7 @@ bad_frame refusal.NoMemory plan header directory lt is = tt
 bad_frame {image} {size} {p} {h} {es} {n} (refusal.Bad reason) plan header directory lt is =
     rw is.0 (p, h, es, plan, header, directory, (n, lt, is.1))
 
--- what was read of an object after others is refused for what is there
+-- a frame that is refused after other reads is refused for the bytes that are there
 pub refused_same : (p : Plan) (h : CheckpointHeader) (es : List Entry) (n : ℕ) (old new : Image) (e : OpenFault) → new ≡ old →
     IsRefused p.geometry h.age n (frame_in new p h.generation es n) e → IsBadAt old p h es n e
 refused_same p h es n old new refusal.Failed same is = tt
@@ -77,7 +77,7 @@ refused_same p h es n old new (refusal.Bad reason) same is =
 
 -- ---- a device that was read whole
 
--- each crash leaves the state that was read, where all is durable
+-- if all is durable, each crash leaves the state that was read
 pub opened_sound : (disk : Disk) {p : Plan} {h : CheckpointHeader} {es : List Entry} → Only disk.seen disk →
     HasPlan disk.seen disk.sectors p → HasHeader disk.seen p h → HasDirectory disk.seen p h es →
     AreSpelt disk.seen p h.age h.generation es → LeavesState disk (state_in disk.seen p h es)
@@ -86,7 +86,7 @@ opened_sound disk {p} {h} {es} only plan header directory spelt c left =
 
 -- ---- frames that are spelt are read, and never refused
 
--- of bytes that are a function of an image
+-- a frame read from bytes that depend only on the image
 pub read_is : {g : Geometry} {age n : ℕ} (bytes : Image → List ℕ) {old mid : Image} {f read : Frame} → Agrees mid old →
     IsFrameOf g age n (bytes old) f → IsFrameOf g age n (bytes mid) read → read ≡ f
 read_is {g} {age} {n} bytes {old} {mid} {f} {read} same is found =
@@ -96,7 +96,7 @@ pub only_failed : {g : Geometry} {age n : ℕ} (bytes : Image → List ℕ) {old
     IsFrameOf g age n (bytes old) f → (e : OpenFault) → IsRefused g age n (bytes mid) e → e ≡ refusal.Failed
 only_failed {g} {age} {n} bytes {old} {mid} {f} same is e refused = grind (arith, nat_tests, agrees_is)
 
--- and where such a failure is passed on, it is reported exactly if the device failed
+-- if such a failure is passed on, it is reported exactly if the device failed
 pub failure_counts : {T U : Type 0} {old new : Disk} {e : OpenFault} {failed : Failed} → e ≡ refusal.Failed →
     CountsOpen {T = T} old new (Err e) → Counts {T = U} {E = Failed} old new (Err failed)
 failure_counts {T} {U} {old} {new} {e} {failed} is counts = grind (arith, nat_tests)
@@ -131,7 +131,7 @@ pub reads_store : {D : Type 0} {disk : D → Disk} {old now : DurableState D} {b
     ReadsStore disk now (record { beneath = back; books = old.books })
 reads_store {D} {disk} {old} {now} {back} same is reads = search (arith, read_stays reads is, same)
 
--- the slot of a whole place is one of the log
+-- the slot of a valid frame is one of the log's
 pub whole_low : {image : Image} {p : Plan} {generation : ℕ} {ps : List Place} (n : ℕ) {s : ℕ} {place : Place} →
     ArePut image p generation ps → place ≡ place_at ps n → place ≡ Whole s → s < p.geometry.log
 whole_low n {s} are at is = let less = are.table.few n s (ap slot_of (sym at ∙ is)) in omega (arith, less, are.few)
@@ -140,13 +140,13 @@ frozen_is : (image : Image) (b : Books) (o : Option ℕ) {n : ℕ} → n < count
     → frozen_put (option_map (frozen_of image b) o) n ≡ put_of image b.plan (frozen_generation b) n (place_at b.frozen n)
 frozen_is image b o {n} lt running = grind (arith, nat_tests, put_is)
 
--- the frame below, by the place of the frozen one
+-- the newest frame that isn't a working one, by the place of the frozen one
 pub below_by : {size : ℕ} {image : Image} {b : Books} {n : ℕ} {place : Place} → n < count_of b.plan → IsIntact size image b →
     place_at b.frozen n ≡ place → put_or (put_of image b.plan (frozen_generation b) n place) (frame_at (stored_in image b).saved.frames n)
     ≡ below_at (stored_in image b) n
 below_by {size} {image} {b} {n} {place} lt kept at = grind (arith, nat_tests, frozen_is)
 
--- the newest frame, by the place of the one that was put since
+-- the newest frame, by the place of the working one
 pub newest_by : (image : Image) (b : Books) {n : ℕ} {place : Place} → n < count_of b.plan → place_at b.working n ≡ place
     → put_or (put_of image b.plan (working_generation b) n place) (below_at (stored_in image b) n) ≡ newest (stored_in image b) n
 newest_by image b {n} {place} lt at = grind (arith, nat_tests, put_is)

@@ -29,7 +29,7 @@ beside_at p (e ∷ es) n zero lt before is = beside_here p e es n is
 beside_at p (e ∷ es) n (suc i) lt before is = beside_behind p e es n (before 0 (omega arith)) ∙
     beside_at p es n i (omega (arith, lt)) (λ j less. before (suc j) (omega (arith, less))) is
 
--- which is the first of its home
+-- a slot of the first entry that shares an object's home
 pub record HasFirst (p : Plan) (es : List Entry) (n slot : ℕ) : Type 0 where
   pub index : ℕ
   pub within : index < length es
@@ -63,7 +63,7 @@ found_first p (e ∷ es) n s is = elim (cases_eq (home_place p e.object) (home_p
   behind e es k other before zero lt same = other same
   behind e es k other before (suc j) lt same = before j (omega (arith, lt)) same
 
--- where an entry has the home there is such a slot
+-- if an entry shares the home, there is such a slot
 some_beside : (p : Plan) (es : List Entry) (n i : ℕ) → i < length es → home_place p (entry_at es i).object ≡ home_place p n →
     slot_beside p es n ≡ None → ⊥
 some_beside p [] n i lt is none = omega (arith, lt)
@@ -73,21 +73,21 @@ some_beside p (e ∷ es) n (suc i) lt is none = elim (cases_eq (home_place p e.o
   | inr other ↦ some_beside p es n i (omega (arith, lt)) is (sym (beside_behind p e es n other) ∙ none)
 ]
 
--- an object whose frame takes its block alone has no slot but its own
+-- an object whose frame fills its block alone has only its own slot
 pub alone_beside : {p : Plan} {es : List Entry} {n : ℕ} → IsPlan p → IsDirectory p.geometry es → n < count_of p → IsWhole (shape_of p n) →
     slot_in es n ≡ None → slot_beside p es n ≡ None
 alone_beside {p} {es} {n} fits is lt own none = search (arith, none_beside, alone, own_slot)
 
--- as that of a page does
+-- the frame of a page fills its block alone
 pub page_own : (p : Plan) {n : ℕ} → p.geometry.nodes ≤ n → IsWhole (shape_of p n)
 page_own p {n} le = grind (arith, nat_tests)
 
--- where there are no entries there is none
+-- if there are no entries, no object has a slot
 pub no_entries : (p : Plan) (es : List Entry) (n : ℕ) → length es ≡ 0 → frame_slot_in p es n ≡ None
 no_entries p [] n size = refl
 no_entries p (e ∷ es) n size = absurd (omega (arith, size))
 
--- an object without one doesn't share its home with an object that has a slot
+-- an object without a frame slot doesn't share its home with one that has a slot
 pub frame_slots_differ : (p : Plan) (es : List Entry) (n m : ℕ) {t : ℕ} → slot_in es m ≡ Some t → frame_slot_in p es n ≡ None →
     home_place p n ≡ home_place p m → ⊥
 frame_slots_differ p es n m {t} has none same =
@@ -116,7 +116,7 @@ not_above es {a} {b} rising le within = search (arith, cases_lt, rising_to)
 pub not_same : {a b : ℕ} → not (nat_eq a b) ≡ true → a ≡ b → ⊥
 not_same {a} {b} differs same = let never : false ≡ true = ap not (sym (eq-eqb a b same)) ∙ differs in cc
 
--- is the one after an entry of another home
+-- the first entry of a cluster comes after an entry of another home
 pub first_of : {p : Plan} {es : List Entry} {i : ℕ} → IsPlan p → IsDirectory p.geometry es → i < length es →
     (0 < i → home_place p (entry_at es (i - 1)).object ≡ home_place p (entry_at es i).object → ⊥) → IsFirst p es i
 first_of {p} {es} {i} fits is within other j less same =
@@ -140,7 +140,7 @@ module _ (p : Plan) (es : List Entry) (n first at : ℕ) (fits : IsPlan p) (is :
     none_below : (i : ℕ) → i < length es → i < at → home_place p (entry_at es i).object ≡ home_place p n → ⊥
     none_below i within less same = omega (arith, (start.least (entry_at es i).object (object i within) same), (below i less))
 
-    -- the entry there has the home, or none has
+    -- the entry there shares the home, or no entry does
     pub found_there : at < length es → home_place p (entry_at es at).object ≡ home_place p n →
         slot_beside p es n ≡ Some (entry_at es at).slot
     found_there within same = beside_at p es n at within (λ j less. none_below j (omega (arith, less, within)) less) same
@@ -176,7 +176,7 @@ apart_by : (o : Option ℕ) (p : Plan) (generation : ℕ) (es : List Entry) (n :
     → (frame_slot_in p es n ≡ None → IsApart (home_extent p n) e) → IsApart (frame_extent p generation es n) e
 apart_by o p generation es n e is slot home = grind (arith, nat_tests)
 
--- the frame of an object lies apart where both of its places do
+-- the frame of an object lies apart from sectors if both of its places do
 pub frame_apart : (p : Plan) (generation : ℕ) (es : List Entry) (n : ℕ) (e : Extent) →
     ((s : ℕ) → frame_slot_in p es n ≡ Some s → IsApart (place_extent p generation s n) e)
     → (frame_slot_in p es n ≡ None → IsApart (home_extent p n) e) → IsApart (frame_extent p generation es n) e
@@ -188,7 +188,7 @@ pub place_inside : (p : Plan) (generation : ℕ) {s : ℕ} (n : ℕ) → s < p.g
     IsInside (place_extent p generation s n) (half_extent p.geometry (half_sector p generation))
 place_inside p generation {s} n lt = search (arith, frames_in_slots, slots_inside)
 
--- a place in one half, and sectors of the other
+-- a slot in one half, and sectors of the other
 pub other_half : {p : Plan} (a b : ℕ) {s : ℕ} (n : ℕ) {e : Extent} → IsPlan p → (a % 2 ≡ b % 2 → ⊥) → s < p.geometry.log →
     IsInside e (half_extent p.geometry (half_sector p b)) → IsApart (place_extent p a s n) e
 other_half {p} a b {s} n {e} fits differ lt inside = search (arith, apart_inside, place_inside, halves_apart)
@@ -197,7 +197,7 @@ pub home_apart : {p : Plan} (generation : ℕ) {n : ℕ} {e : Extent} → IsPlan
     IsInside e (half_extent p.geometry (half_sector p generation)) → IsApart (home_extent p n) e
 home_apart {p} generation {n} {e} fits lt inside = search (arith, apart_inside, home_extent, itself, places_spare_log)
 
--- what is saved lies apart from the other half
+-- the saved frames lie apart from the other half
 pub spares_other : {p : Plan} (h : CheckpointHeader) {es : List Entry} (generation : ℕ) {e : Extent} → IsPlan p →
     IsDirectory p.geometry es → h.entries ≤ p.geometry.log → (h.generation % 2 ≡ generation % 2 → ⊥) →
     IsInside e (half_extent p.geometry (half_sector p generation)) → Spares p h es e
@@ -211,7 +211,7 @@ spares_other {p} h {es} generation {e} fits is few differ inside = record {
       (λ _. home_apart generation fits lt inside);
 }
 
--- and from both halves where all of it is home
+-- if all saved frames are home, they lie apart from both halves
 pub spares_log : {p : Plan} (h : CheckpointHeader) (es : List Entry) (generation : ℕ) {e : Extent} → IsPlan p → length es ≡ h.entries →
     h.entries ≡ 0 → IsInside e (half_extent p.geometry (half_sector p generation)) → Spares p h es e
 spares_log {p} h es generation {e} fits count none inside = record {
@@ -222,7 +222,7 @@ spares_log {p} h es generation {e} fits count none inside = record {
       (λ _. home_apart generation fits lt inside);
 }
 
--- and from the home of an object that lies in the log
+-- they lie apart from the home of an object whose frame is in the log
 pub spares_home : {p : Plan} {h : CheckpointHeader} {es : List Entry} {m t : ℕ} → IsPlan p → IsDirectory p.geometry es →
     h.entries ≤ p.geometry.log → m < count_of p → slot_in es m ≡ Some t → Spares p h es (home_extent p m)
 spares_home {p} {h} {es} {m} {t} fits is few within has =
@@ -249,12 +249,12 @@ homes_behind {p} fits n lt = (places_within p n fits lt).0
 
 -- ---- writes apart from what a saved state is read from
 
--- a change of other sectors leaves these
+-- a change of other sectors leaves these unchanged
 pub stays : {d e : Extent} {old new : Image} → IsApart d e → Elsewhere e.sector e.length old new → SameFrom d.sector d.length old new
 stays {d} apart change i lt = ⊎_elim (λ le. change.before (d.sector + i) (omega (arith, le, lt)))
     (λ le. change.after (d.sector + i) (omega (arith, le))) apart
 
--- and the frame that lies in them
+-- and the frame in these sectors
 pub bytes_stay : {at : ℕ} (p : Plan) (n : ℕ) {e : Extent} {old new : Image} →
     IsApart (record { sector = at; length = place_length p n }) e → Elsewhere e.sector e.length old new →
     bytes_at new at p n ≡ bytes_at old at p n
@@ -283,7 +283,7 @@ denotes_on {p} {h} {es} {fs} {e} {size} {old} {new} spares change was =
 
 -- ---- over a device
 
--- a write touches its sectors alone
+-- a write touches only its sectors
 pub touches : {at n : ℕ} {old new : Disk} → WritesAt at n old new → Touches at n old new
 touches writes = record { size = writes.size; elsewhere = writes.elsewhere; crash = writes.crash; any_moment = writes.any_moment }
 
@@ -303,11 +303,11 @@ module _ {old new : Disk} {p : Plan} {h : CheckpointHeader} {es : List Entry} {e
       Encodes c old.sectors (state_in old.seen p h es)
   left_spared sound c torn = denotes_on spares torn.2 (sound torn.0 torn.1)
 
-  -- each crash still leaves it
+  -- each crash still leaves the saved state
   pub sound_spared : LeavesState old (state_in old.seen p h es) → LeavesState new (state_in new.seen p h es)
   sound_spared sound c left = rw (writes.size, state_spared) (left_spared sound c (writes.crash c left))
 
-  -- also at each moment of the write
+  -- so does a crash at each moment of the write
   pub moments_spared : LeavesState old (state_in old.seen p h es) → LeavesOnly old new
       (λ c. Encodes c old.sectors (state_in old.seen p h es))
   moments_spared sound = search (arith, leaves_weaker, left_spared)
@@ -328,7 +328,7 @@ mended_before image u {i} lt = mended_by image u i {test = false} (grind (arith,
 mended_behind : (image : Image) (u : Unwritten) {i : ℕ} → u.sector + 8 ≤ i → mended image (Some u) i ≡ image i
 mended_behind image u {i} le = mended_by image u i {test = false} (grind (arith, nat_tests))
 
--- the image differs in those alone
+-- the image differs only in these sectors
 pub mended_elsewhere : {image : Image} (u : Unwritten) → Elsewhere u.sector 8 image (mended image (Some u))
 mended_elsewhere {image} u = record { before = λ i lt. mended_before image u lt; after = λ i le. mended_behind image u le }
 
@@ -340,7 +340,7 @@ unwritten_bytes sector {bytes} {u} is = grind (arith, nat_tests)
 same_unwritten : {u v : Unwritten} → Some u ≡ Some v → u ≡ v
 same_unwritten e = cc
 
--- a frame that was read of it is the one that it spells
+-- the frame that was read from the buffer is the one that the buffer encodes
 pub buffer_read : {g : Geometry} {n : ℕ} {o : Option Unwritten} {u : Unwritten} {shape : Shape} {bytes : List ℕ} {read : Frame} →
     o ≡ Some u → (v : Unwritten) × (o ≡ Some v) × IsSpeltIn v shape g n → bytes ≡ u.bytes →
     IsFrameOf g most n (shape_bytes shape bytes) read
@@ -360,7 +360,7 @@ torn_within : (at n : ℕ) {e : Extent} (disk : Disk) (c : Image) → IsInside (
     IsTorn e.sector e.length disk c
 torn_within at n {e} disk c inside torn = (torn.0, torn.1, elsewhere_within inside torn.2)
 
--- are among more
+-- touched sectors are among more sectors
 pub touches_within : {at n : ℕ} {e : Extent} {old new : Disk} → IsInside (record { sector = at; length = n }) e → Touches at n old new →
     Touches e.sector e.length old new
 touches_within {at} {n} {e} {old} {new} inside touches = search (arith, touches, elsewhere_within, torn_within, leaves_weaker)
@@ -368,7 +368,7 @@ touches_within {at} {n} {e} {old} {new} inside touches = search (arith, touches,
 torn_twice : {at n : ℕ} {old mid : Disk} → Touches at n old mid → (c : Image) → IsTorn at n mid c → IsTorn at n old c
 torn_twice {at} {n} {old} {mid} touches c torn = search (arith, touches, elsewhere_on)
 
--- and twice
+-- two touches, one after the other
 pub touches_on : {at n : ℕ} {old mid new : Disk} → Touches at n old mid → Touches at n mid new → Touches at n old new
 touches_on {at} {n} {old} {mid} {new} first second = search (arith, elsewhere_on, torn_twice, leaves_on, leaves_weaker)
 
@@ -377,7 +377,7 @@ touches_on {at} {n} {old} {mid} {new} first second = search (arith, elsewhere_on
 abbrev pub mended_disk : Disk → Option Unwritten → Disk
 mended_disk disk o = record disk { seen = mended disk.seen o }
 
--- where nothing is unwritten it is the device
+-- if nothing is unwritten, the mended image is the device's
 pub unmended : {image : Image} {o : Option Unwritten} → o ≡ None → mended image o ≡ image
 unmended {image} none = ap (mended image) none
 
@@ -418,7 +418,7 @@ reads_mended {old} {new} o reads = search (arith, agrees_is, leaves_mended, elap
 
 -- ---- what lies apart from the slot
 
--- is what the device gives
+-- the bytes of other sectors are the device's
 pub apart_bytes : (image : Image) (u : Unwritten) {at : ℕ} (p : Plan) (n : ℕ) →
     IsApart (record { sector = at; length = place_length p n }) (record { sector = u.sector; length = 8 }) →
     bytes_at (mended image (Some u)) at p n ≡ bytes_at image at p n

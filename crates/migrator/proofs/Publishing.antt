@@ -59,7 +59,7 @@ module _ {old mid : Disk} {b : Books} {next : CheckpointHeader} {fs : List Entry
   mid_sound : LeavesState mid (saved mid.seen)
   mid_sound = sound_spared may.apart touched sound
 
-  -- where the write failed
+  -- if the write failed
   pub either_before : LeavesOnly old mid (λ c. Encodes c old.sectors (saved_state old.seen b)
       ⊎ Encodes c old.sectors (state_in old.seen b.plan next fs))
   either_before = leaves_weaker {old = old} {new = mid} {P = is_saved} (λ c. is_saved c ⊎ is_next c) (λ c is. inl is)
@@ -69,7 +69,7 @@ module _ {old mid : Disk} {b : Books} {next : CheckpointHeader} {fs : List Entry
     seen : Encodes mid.seen mid.sectors (saved mid.seen)
     seen = mid_sound mid.seen left
 
-    -- each crash leaves one committed header, and the next may follow it
+    -- each crash leaves one committed header, which the new one may follow
     pub commits_one : CommitsOne mid
     commits_one c is = (mid_sound c is).header.spelt ∙ sym seen.header.spelt
 
@@ -101,7 +101,7 @@ module _ {old mid : Disk} {b : Books} {next : CheckpointHeader} {fs : List Entry
           (old_denoted mid.seen is.could_be.0 c mid.sectors (saved mid.seen) next (homes_behind may.kept.plan) seen
           (mid_sound is.could_be.0 is.could_be.1) is.could_be.2 is.committed)
 
-      -- the run to its end
+      -- the whole run
       pub either_run : {new : Disk} → LeavesOnly mid new (λ c. IsOld next mid c ⊎ HasNew next mid.seen c)
           → LeavesOnly old new (λ c. Encodes c old.sectors (saved_state old.seen b)
           ⊎ Encodes c old.sectors (state_in old.seen b.plan next fs))
@@ -110,12 +110,12 @@ module _ {old mid : Disk} {b : Books} {next : CheckpointHeader} {fs : List Entry
           (leaves_weaker {old = mid} {new = new} {P = λ c. IsOld next mid c ⊎ HasNew next mid.seen c} (λ c. is_saved c ⊎ is_next c)
           (λ c. ⊎_elim (λ is. inl (old_state is)) (λ has. inr (new_state has))) run)
 
-      -- where it succeeded each crash leaves what is saved next
+      -- if it succeeded, each crash leaves the new saved state
       pub saved_next : (new : Disk) → new.sectors ≡ mid.sectors → Only new.seen new → HasNew next mid.seen new.seen →
           LeavesState new (state_in old.seen b.plan next fs)
       saved_next new size only has c may_leave = rw (size ∙ writes.size, agrees_is c new.seen (only c may_leave)) (new_state has)
 
-  -- what is written in all
+  -- all sectors that are written
   pub only_directory : SavesOnly p next old.seen mid.seen
   only_directory = record {
     between = mid.seen;
@@ -172,31 +172,31 @@ module _ {old mid : Disk} {b : Books} {o : Option Unwritten} {k age : ℕ} (may 
 
 -- ---- failures that are counted over calls in a row
 
--- none is counted where all calls succeeded
+-- no failure is counted if all calls succeeded
 pub ok_counts : {T E : Type 0} {old new : Disk} {value : T} → new.failures ≡ old.failures → Counts {T = T} {E = E} old new (Ok value)
 ok_counts {T} {E} {old} {new} {value} same = grind (arith, nat_tests)
 
--- a failure is, however it is passed on
+-- a failure is counted, however it is passed on
 pub err_counts : {T E U F : Type 0} {old new : Disk} {e : E} {r : Result U F} → IsErr r → Counts {T = T} old new (Err e) → Counts old new r
 err_counts failed counts = record { never_falls = counts.never_falls; cause = (λ _. counts.cause.0 refl, λ _. failed) }
 
 -- ---- a header is published after calls that change nothing that is stored
 
--- what leaves the saved state leaves that or the next
+-- if each crash leaves the saved state, it leaves that or the next one
 pub either_first : {old new : Disk} {saved next : SavedFrames} → LeavesSaved old new saved → LeavesEither old new saved next
 either_first {old} {new} {saved} {next} run = grind (arith, nat_tests)
 
--- the calls before it failed
+-- an earlier call failed
 pub publishes_none : {T E U F : Type 0} {old new : Disk} {b c : Books} {next : Stored} {e : E} {r : Result U F} → Stays old new b c →
     IsSoundOn old b → IsErr r → Counts {T = T} old new (Err e) → Publishes old new b c next r
 publishes_none {T} {E} {U} {F} {old} {new} {b} {c} {next} {e} {r} stays sound failed counts = grind (arith, nat_tests)
 
--- they didn't
+-- the earlier calls succeeded
 pub publishes_after : {T E : Type 0} {old mid new : Disk} {a b c : Books} {next after : Stored} {r : Result T E} → Stays old mid a b →
     IsSoundOn old a → mid.failures ≡ old.failures → next ≡ after → Publishes mid new b c next r → Publishes old new a c after r
 publishes_after {T} {E} {old} {mid} {new} {a} {b} {c} {next} {after} {r} stays sound none same is = grind (arith, nat_tests)
 
--- what is then held is said in two ways
+-- the state that is then saved, given in two ways
 pub publishes_as : {T E : Type 0} {old new : Disk} {b c : Books} {next after : Stored} {r : Result T E} → next ≡ after →
     Publishes old new b c next r → Publishes old new b c after r
 publishes_as {old = old} {new = new} {b = b} {c = c} {r = r} same is = subst (λ (s : Stored). Publishes old new b c s r) same is
@@ -238,7 +238,7 @@ module _ {disk : Disk} {b : Books} {next : CheckpointHeader} {es : List Entry} (
     cause = ok_counts none;
   }
 
-  -- after a failure
+  -- the result after a failure
   pub left_publishes : {T E U F : Type 0} {e : E} {r : Result U F} → IsErr r → Counts {T = T} disk new (Err e) →
       Publishes disk new b b (stored_on disk (adopted next es b)) r
   left_publishes {r} failed counts =
@@ -250,7 +250,7 @@ module _ {disk : Disk} {b : Books} {next : CheckpointHeader} {es : List Entry} (
         err_counts failed counts,
       )
 
--- what is published then are the frozen frames
+-- after the publish the frozen frames are the saved ones
 pub commits_by : {T E : Type 0} {old new : Disk} {b c : Books} {k age : ℕ} {r : Result T E} → MayCommitAt old b k age →
     Publishes old new b c (on_snapshots (committed puts age (frozen_of (seen_by old.seen b) b k)) (stored_on old b)) r →
     Commits old new b c age r
@@ -272,7 +272,7 @@ commits_by {old = old} {new = new} {b = b} {c = c} {k = k} {age = age} {r = r} m
 
 -- ---- where no checkpoint is on its way
 
--- the same but for the header and the directory
+-- books with another header and another directory
 abbrev pub with_header : Books → CheckpointHeader → List Entry → Books
 with_header b next es =
     record b { header = next; directory = es; moved = 0 }
@@ -281,7 +281,7 @@ no_places : (ps : List Place) → ((n : ℕ) → place_at ps n ≡ Nowhere) → 
 no_places [] none = refl
 no_places (p ∷ ps) none = rw (none zero, no_places ps (λ n. none (suc n)))
 
--- two generations of one half
+-- two generations use the same half
 pub slot_same : (image : Image) (plan : Plan) (g h : ℕ) → g % 2 ≡ h % 2 → (s n : ℕ) →
     slot_bytes image plan g s n ≡ slot_bytes image plan h s n
 slot_same image plan g h same s n = ap (λ (r : ℕ). bytes_at image (half_start plan (if r == 0 then First else Second) + 9 * s) plan n) same

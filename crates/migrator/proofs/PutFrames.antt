@@ -51,7 +51,7 @@ are_put : (since : Bool) {size : ℕ} {image : Image} (b : Books) (ps : List Pla
     ArePut image b.plan (generation_of since b) ps
 are_put since {size} {image} b ps kept = grind (arith, nat_tests)
 
--- the place of an object has changed, with its slot
+-- the place of an object changed, but not its slot
 module _ {first : ℕ} {was : Image} {b : Books} (n : ℕ) (q : Place) (before : IsIntact first was b) where
   kept_places : (since : Bool) {size : ℕ} {image : Image} (ps : List Place) → n < length (places since b) → HasSlot since b n →
       slot_of q ≡ Some (slot_for (places since b) n) → IsIntact size image (with_places since b ps) →
@@ -63,7 +63,7 @@ module _ {first : ℕ} {was : Image} {b : Books} (n : ℕ) (q : Place) (before :
       search (subst (IsRunning (with_places false b (set b.frozen n q))) (sym has.1)
       (runs.0, taken_set b.frozen q lt slot runs.1 has.2, runs.2))
 
--- what was put of it is all that differs
+-- only the frame of this object differs
 stored_put : (since : Bool) (image : Image) (b : Books) (ps qs : List Place) (n : ℕ) (x : Put) →
     puts_in image b.plan (generation_of since b) qs ≡ set (puts_in image b.plan (generation_of since b) ps) n x →
     stored_in image (with_places since b qs) ≡ putting since n x (stored_in image (with_places since b ps))
@@ -72,7 +72,7 @@ stored_put since image b ps qs n x same = grind (arith, nat_tests)
 pub put_twice : (since : Bool) (s : Stored) (n : ℕ) (x y : Put) → putting since n y (putting since n x s) ≡ putting since n y s
 put_twice since s n x y = grind (arith, nat_tests, set_twice)
 
--- what was put of an object is rescinded
+-- the frame of an object no longer counts
 module _ (since : Bool) {size : ℕ} {image : Image} {b : Books} {n : ℕ} (kept : IsIntact size image b) (lt : n < count_of b.plan)
     (has : HasSlot since b n) where
   are : ArePut image b.plan (generation_of since b) (places since b)
@@ -89,7 +89,7 @@ module _ (since : Bool) {size : ℕ} {image : Image} {b : Books} {n : ℕ} (kept
       ≡ putting since n Broken (stored_in image b)
   tear_stored = grind (arith, nat_tests, stored_put, puts_set, are, slot_low)
 
--- the sectors of its slot are none of the others
+-- the sectors of the object's slot belong to no other frame
 saved_spares : (since : Bool) {size : ℕ} {image : Image} {b : Books} {e : Extent} → IsIntact size image b →
     IsInside e (half_extent b.plan.geometry (half_sector b.plan (generation_of since b))) → Spares b.plan b.header b.directory e
 saved_spares true {b = b} kept inside = saved_working b.frozen_size kept kept.running inside
@@ -116,7 +116,7 @@ all_spared false {b = b} kept has lt inside =
       half_spares (working_generation b) (frozen_generation b) kept.plan (later_half b has.1) kept.working.table kept.working.few inside,
     )
 
--- a frame is written into its slot
+-- writing a frame into its slot
 module _ (since : Bool) {old new : Disk} {b : Books} {n : ℕ} (f : Frame) (kept : IsIntact old.sectors old.seen b) (lt : n < count_of b.plan)
     (has : HasSlot since b n)
     (writes : WritesAt (slot_sector b.plan (generation_of since b) (slot_for (places since b) n)) (place_length b.plan n) old new) where
@@ -162,7 +162,7 @@ module _ (since : Bool) {old new : Disk} {b : Books} {n : ℕ} (f : Frame) (kept
   put_goes_on : (ps : List Place) → GoesOnSeen old new b (with_places since b ps)
   put_goes_on ps = goes_spared refl refl refl (saved_spares since kept inside) (touches writes)
 
-  -- its outcome, whether or not the device failed
+  -- the result, whether or not the device failed
   put_either : {T : Type 0} (r : Result T Failed) (ps : List Place) → IsKeepable b.plan.geometry most n f →
       OnOk r (ps ≡ set (places since b) n (Whole slot)) → OnErr r (ps ≡ set (places since b) n (Torn slot)) →
       OnOk r (slot_bytes new.seen b.plan g slot n ≡ frame_bytes b.plan.geometry n f) →
@@ -204,7 +204,7 @@ module _ {old : Disk} {b : Books} {k n : ℕ} (is : IsDurable old b) (size : b.f
   pub frozen_room : slot_for b.frozen n < b.plan.geometry.log
   frozen_room = omega (arith, frozen_low, was.2)
 
-  -- what was put of it is dropped, and the cluster is written that the device failed to write
+  -- dropping the frame of an object, and writing the unwritten cluster
   module _ {new : Disk} {o : Option Unwritten} (seen : mended new.seen o ≡ mended old.seen b.unwritten)
       (touches : (u : Unwritten) → b.unwritten ≡ Some u → Touches u.sector 8 old new) (nothing : b.unwritten ≡ None → new ≡ old)
       (either : (o ≡ None) ⊎ (o ≡ b.unwritten)) (only_now : (c : Image) → old.left_since old.moment c → old.may_leave c) where
@@ -261,7 +261,7 @@ torn_room : (old mid : Disk) (b c : Books) {size n : ℕ} → b.frozen_size ≡ 
     → HasFreeSlot size (puts_in (seen_by mid.seen c) c.plan (frozen_generation c) c.frozen) n
 torn_room old mid b c {size} {n} running still torn known = grind (arith, nat_tests, length_puts, same_Some, get_or-set_same)
 
--- it may then be put
+-- afterwards the frame may be written
 pub may_put_torn : {old mid : Disk} {a b : Books} {k n : ℕ} {f : Frame} → MayPut old a k n f →
     Stores old mid a b (with_frozen n Broken (stored_on old a)) → b.frozen_size ≡ Some k → MayPut mid b k n f
 may_put_torn {old} {mid} {a} {b} {k} {n} {f} may torn still = grind (arith, nat_tests, torn_room)

@@ -59,7 +59,7 @@ frame_count image p generation k q = grind (arith, nat_tests)
 slot_count : (image : Image) (p : Plan) (generation k : ℕ) (q : Place) → held_slot (put_of image p generation k q) ≡ has_slot q
 slot_count image p generation k q = grind (arith, nat_tests)
 
--- as many frames were put as places are whole
+-- there are as many valid frames as places of them
 pub kept_whole : (image : Image) (p : Plan) (generation : ℕ) (ps : List Place) → length ps ≡ count_of p →
     kept_count (puts_in image p generation ps) ≡ whole_count ps
 kept_whole image p generation ps size = rw (puts_are image p generation ps size)
@@ -101,7 +101,7 @@ module _ {image : Image} {p : Plan} {generation : ℕ} {ps : List Place} {n : �
   in_table : n < length ps
   in_table = omega (arith, lt, are.count)
 
-  -- an object takes its slot
+  -- the object gets its slot
   pub torn_put : ArePut image p generation (set ps n (Torn (slot_for ps n)))
   torn_put = record {
     count = length-set ps n (Torn (slot_for ps n)) ∙ are.count;
@@ -114,7 +114,7 @@ module _ {image : Image} {p : Plan} {generation : ℕ} {ps : List Place} {n : �
     ];
   }
 
-  -- and has its frame in it
+  -- and its valid frame lies there
   pub whole_put : IsFrameOf p.geometry most n (slot_bytes image p generation (slot_for ps n) n)
       (slot_frame image p generation (slot_for ps n) n) → ArePut image p generation (set ps n (Whole (slot_for ps n)))
   whole_put spelt = record {
@@ -143,11 +143,11 @@ module _ {image : Image} {p : Plan} {generation : ℕ} {ps : List Place} {n : �
 pub other_parity : (g : ℕ) → g % 2 ≡ (g + 1) % 2 → ⊥
 other_parity g same = omega (arith, same)
 
--- while a checkpoint is on its way, what is put since lies in the other half
+-- while a checkpoint is frozen, working frames lie in the other half
 pub later_half : (b : Books) {k : ℕ} → b.frozen_size ≡ Some k → working_generation b % 2 ≡ frozen_generation b % 2 → ⊥
 later_half b {k} running same = grind (arith, nat_tests)
 
--- and where none is, in the half of the saved generation no longer
+-- otherwise in the half that the saved generation doesn't use
 pub idle_half : (b : Books) → b.frozen_size ≡ None → (g : ℕ) → g % 2 ≡ b.header.generation % 2 → working_generation b % 2 ≡ g % 2 → ⊥
 idle_half b none g same is = grind (arith, nat_tests)
 
@@ -177,7 +177,7 @@ pub none_spares : (p : Plan) (generation : ℕ) (ps : List Place) (e : Extent) �
     SparesPuts p generation ps e
 none_spares p generation ps e none n s lt is = let never : Nowhere ≡ Whole s = sym (none n) ∙ is in absurd cc
 
--- what is saved lies apart from the half of the working frames
+-- the saved frames lie apart from the half of the working frames
 pub saved_working : {size : ℕ} {image : Image} {b : Books} (o : Option ℕ) {e : Extent} → IsIntact size image b → IsRunning b o →
     IsInside e (half_extent b.plan.geometry (half_sector b.plan (generation_after b.header.generation o))) →
     Spares b.plan b.header b.directory e
@@ -186,7 +186,7 @@ saved_working {b} None {e} kept running inside =
 saved_working {b} (Some k) {e} kept running inside = spares_log b.header b.directory (b.header.generation + 1 + 1) kept.plan kept.count
     running.0 inside
 
--- and so do the frozen frames
+-- so do the frozen frames
 pub frozen_working : {size : ℕ} {image : Image} {b : Books} (o : Option ℕ) {e : Extent} → IsIntact size image b → IsRunning b o →
     IsInside e (half_extent b.plan.geometry (half_sector b.plan (generation_after b.header.generation o))) →
     SparesPuts b.plan (frozen_generation b) b.frozen e
@@ -210,7 +210,7 @@ set_twice [] n x y = refl
 set_twice (z ∷ xs) zero x y = refl
 set_twice {X = X} (z ∷ xs) (suc n) x y = ap (λ (r : List X). z ∷ r) (set_twice xs n x y)
 
--- where the slot of an object was torn, and has its frame now
+-- the slot of an object was torn, and now has a valid frame
 module _ {image : Image} {p : Plan} {generation : ℕ} (ps : List Place) (n s : ℕ) (are : ArePut image p generation (set ps n (Torn s)))
     (lt : n < count_of p)
   where
@@ -240,7 +240,7 @@ pub length_puts : (image : Image) (p : Plan) (generation : ℕ) (ps : List Place
 unfolding puts_in
 length_puts image p generation ps = length-map-range_with_len (λ n. put_of image p generation n (place_at ps n)) 0 (count_of p)
 
--- where nothing has a place nothing was put
+-- if no object has a place, no frame was written
 pub puts_blank : (image : Image) (p : Plan) (generation : ℕ) {m : ℕ} (ps : List Place) → ((n : ℕ) → place_at ps n ≡ Nowhere) →
     m ≡ count_of p → puts_in image p generation ps ≡ replicate m Absent
 unfolding puts_in

@@ -10,7 +10,7 @@ use native.Mathlib.Numerals.{unary_clauses}
 
 -- ---- counts
 
--- one place has changed
+-- one place changed
 pub tally-set : (has : Place → ℕ) (ps : List Place) (n : ℕ) (q : Place) → n < length ps →
     tally has (set ps n q) + has (place_at ps n) ≡ tally has ps + has q
 unfolding tally
@@ -18,7 +18,7 @@ tally-set has [] n q lt = absurd (omega (arith, lt))
 tally-set has (p ∷ ps) zero q lt = omega arith
 tally-set has (p ∷ ps) (suc n) q lt = let rest = tally-set has ps n q (omega (arith, lt)) in omega (arith, rest)
 
--- what one has is among what all have
+-- the count at one place is part of the count of all
 tally_at : (has : Place → ℕ) (ps : List Place) (n : ℕ) → n < length ps → has (place_at ps n) ≤ tally has ps
 unfolding tally
 tally_at has [] n lt = absurd (omega (arith, lt))
@@ -36,7 +36,7 @@ whole_taken (p ∷ ps) = let rest = whole_taken ps in let here = frame_slot p in
 whole_of : (p : Place) {s : ℕ} → has_slot p ≤ has_frame p → slot_of p ≡ Some s → p ≡ Whole s
 whole_of p {s} le is = grind (arith, nat_tests)
 
--- where no slot is torn, each has its frame
+-- if no slot is torn, each slot has a valid frame
 pub all_whole : (ps : List Place) (n : ℕ) {s : ℕ} → taken_count ps ≤ whole_count ps → n < length ps → slot_of (place_at ps n) ≡ Some s →
     place_at ps n ≡ Whole s
 unfolding tally
@@ -70,7 +70,7 @@ some_has p {s} is = grind (arith, nat_tests)
 pub set_here : (ps : List Place) {n : ℕ} {q : Place} → n < length ps → place_at (set ps n q) n ≡ q
 set_here ps {n} {q} lt = get_or-set_same ps n q Nowhere lt
 
--- the slot that an object has stays its own
+-- an object that has a slot keeps it
 pub slot_kept : (ps : List Place) (n : ℕ) {s : ℕ} → slot_of (place_at ps n) ≡ Some s → slot_for ps n ≡ s
 slot_kept ps n is = ap (λ (o : Option ℕ). slot_or o (taken_count ps)) is
 
@@ -111,7 +111,7 @@ length_entries ps = length_from 0 ps
 
 -- ---- the objects that have a slot
 
--- a mark is whether the object has one
+-- each mark says whether the object has a slot
 mark_is : (ps : List Place) (n : ℕ) → is_marked (map is_held ps) n ≡ is_held (place_at ps n)
 mark_is ps n = get_or-map is_held ps n Nowhere
 
@@ -151,17 +151,17 @@ next_held ps {from} {n} next has =
     (λ (o : Option ℕ). entry_before n o (entries_from (n + 1) (drop (n + 1) ps)))
     has
 
--- and where there is none, there are no more entries
+-- if no further object has a slot, there are no more entries
 pub none_held : (ps : List Place) {from : ℕ} → HasNoneMarked (map is_held ps) from → entries_from from (drop from ps) ≡ []
 none_held ps {from} none =
     entries_unheld ps from (length ps) (λ m past within. none m past) ∙ ap (entries_from (from + length ps))
     (drop_all (from + length ps) ps (omega arith))
 
--- as many entries are left as were not yet listed
+-- the entries left are those not yet listed
 pub entries_left : (ps : List Place) (xs rest : List Entry) → entries_of ps ≡ xs ++ rest → length xs + length rest ≡ taken_count ps
 entries_left ps xs rest are = let all = ap length are in omega (arith, all, length_entries ps, length-append xs rest)
 
--- so all are listed in the end
+-- so in the end all are listed
 pub entries_done : (ps : List Place) {xs : List Entry} (rest : List Entry) → entries_of ps ≡ xs ++ rest → length xs ≡ taken_count ps →
     xs ≡ entries_of ps
 entries_done ps {xs} rest are done = search (
@@ -176,11 +176,11 @@ entries_done ps {xs} rest are done = search (
 pub none_taken : (ps : List Place) → HasNoneMarked (map is_held ps) 0 → taken_count ps ≡ 0
 none_taken ps none = sym (length_from 0 ps) ∙ ap length (none_held ps none)
 
--- one is taken away
+-- one slot is taken away
 pub one_less : (ps : List Place) {n : ℕ} → IsNextMarked (map is_held ps) 0 n → taken_count (set ps n Nowhere) + 1 ≡ taken_count ps
 one_less ps {n} next = grind (arith, nat_tests, length-map, tally-set, held_has, mark_is)
 
--- and then none has one
+-- in the end no object has a slot
 pub all_nowhere : (ps : List Place) → taken_count ps ≡ 0 → ps ≡ replicate (length ps) Nowhere
 unfolding tally
 all_nowhere [] none = refl

@@ -1,4 +1,4 @@
-// What memory holds of an image.
+// The part of a durable store that is in memory.
 ghost use Rattle.std.specs.Prelude.{◌≡◌, ℕ, ◌<◌, ◌≤◌, None, Some, length, slice_set, OnOk, OnErr, option_map};
 ghost use Rattle.model.specs.Keepable.{IsKeepable};
 ghost use Rattle.device.specs.Calls.{Counts};
@@ -34,27 +34,27 @@ use layout::{CheckpointHeader, Superblock};
 use model::{Cap, ContentRef, ObjectHeader};
 use std::mem;
 
-/// What memory holds of an image: its superblock, the committed header and its directory, and where the frames lie
-/// that were put since. Each call is lent the device.
+/// The part of a durable store that is in memory: the superblock, the committed header and its directory, and the
+/// slots of the frames written to the log since. The device is passed to each call.
 #[derive(Drop)]
 pub(crate) struct Books {
     pub plan: Superblock,
     pub header: CheckpointHeader,
     /// The entries of the committed checkpoint.
     pub directory: Directory,
-    /// How many of its entries are home.
+    /// How many of the directory's entries are home.
     pub moved: u64,
-    /// The slots of the frozen checkpoint.
+    /// The slots of the frozen frames.
     pub frozen: Table,
-    /// How many objects the frozen checkpoint writes, if one is frozen.
+    /// How many objects the frozen checkpoint has to write; `None` if none is frozen.
     pub frozen_size: Option<u64>,
-    /// The slots of the frames that were put since it began.
+    /// The slots of the working frames: those written since the last freeze.
     pub working: Table,
-    /// A cluster that the device failed to write.
+    /// A cluster that the device failed to write, if there is one.
     pub unwritten: ClusterBuffer,
 }
 
-// Writes the frame of an object into its slot in the half of a generation, or into the next one.
+// Writes the frame of an object into its slot in the half of a generation; if it has none, into the next free slot.
 // After `Failed` the slot may hold any bytes.
 fn put_frame<D: Device>(
     device: &mut D,
@@ -90,7 +90,7 @@ fn put_frame<D: Device>(
 }
 
 impl Books {
-    // The generation that frames are put for now.
+    // Returns the generation that working frames belong to now.
     fn working_generation(&self) -> u64
         requires { IsHeader self.now.plan.geometry.log self.now.header }
         ensures { result ≡ working_generation self.now }
@@ -101,8 +101,8 @@ impl Books {
         }
     }
 
-    /// Writes the frame of an object into a slot of its own, in the half of the log that nothing saved or frozen lies
-    /// in. After `Failed` the slot may hold any bytes.
+    /// Writes a working frame of an object into a slot of its own, in the half of the log that has no saved and no
+    /// frozen frames. After `Failed` the slot may hold any bytes.
     #[tactic(auto, using(crate::proofs::PutFrames::working_room))]
     pub(crate) fn put_working<D: Device>(
         &mut self,
@@ -133,8 +133,8 @@ impl Books {
         )
     }
 
-    // Marks an object's frozen slot as torn, which drops the frame that was put there. Then writes the cluster that the
-    // device failed to write, if there is one.
+    // Marks the frozen slot of an object as torn, so the frame in it no longer counts. Then, if there is a cluster
+    // that the device failed to write, writes it again.
     fn tear_and_write_back<D: Device>(&mut self, device: &mut D, number: u64) -> Result<(), Failed>
         requires stands { IsDurable (D.disk device.old) self.old }
         requires object { IsObject self.old.plan.geometry number }
@@ -152,7 +152,7 @@ impl Books {
         self.unwritten.write(device)
     }
 
-    // Writes the frame of an object for the checkpoint on its way, where all clusters are written.
+    // Writes the frozen frame of an object. No cluster may be unwritten.
     fn put_written<D: Device>(
         &mut self,
         device: &mut D,
@@ -179,8 +179,8 @@ impl Books {
         )
     }
 
-    /// Writes the frame of an object for the checkpoint on its way into a slot of its own, in the half of the log that
-    /// nothing saved lies in. After `Failed` the slot may hold any bytes.
+    /// Writes the frozen frame of an object into a slot of its own, in the half of the log that has no saved frames.
+    /// After `Failed` the slot may hold any bytes.
     pub(crate) fn put_running<D: Device>(
         &mut self,
         device: &mut D,
@@ -198,7 +198,7 @@ impl Books {
         self.put_written(device, number, header, content)
     }
 
-    /// Freezes what was put: a checkpoint of `size` objects is on its way.
+    /// Freezes the working frames: a checkpoint of `size` objects is frozen.
     pub(crate) fn freeze(&mut self, size: u64)
         requires idle { self.old.frozen_size ≡ None }
         requires home { self.old.header.entries ≡ 0 }
@@ -212,7 +212,7 @@ impl Books {
         self.frozen_size = Some(size);
     }
 
-    /// How many objects of the checkpoint on its way have no frame yet.
+    /// Returns how many objects of the frozen checkpoint have no frame in the log yet, or `None` if none is frozen.
     pub(crate) fn left(&self) -> Option<u64>
         requires { (size : ℕ) × (image : Image) × IsIntact size image self.now }
         ensures { (image : Image) → result ≡ option_map left_of (stored_in image self.now).frozen }

@@ -1,4 +1,4 @@
-// A cluster on its way into a slot of the log.
+// The cluster that is being written into a slot of the log.
 ghost use Rattle.std.specs.Prelude.{◌≡◌, ◌+◌, ◌<◌, ◌≤◌, None, Some, true, false, length, IfOk, OnOk, OnErr};
 ghost use Rattle.device.specs.Calls.{Counts};
 ghost use Rattle.layout.specs.Directory.{IsDirectory, entry_at};
@@ -29,11 +29,11 @@ use std::marker::Model;
 // How many bytes a cluster of more than one node takes.
 const CLUSTER_BYTES: usize = 4096;
 
-/// The cluster that a slot is to have. Where the device failed to write it, the slot may hold any
-/// bytes, and this is the only copy of what it is to have.
+/// The new content of a slot that holds a cluster. If the device failed to write it, the slot may hold any bytes, and
+/// this is the only copy.
 #[derive(Drop)]
 pub(crate) struct ClusterBuffer {
-    // The first sector of the slot, where the device failed to write it.
+    // The first sector of the slot, if the device failed to write it.
     sector: Option<u64>,
     bytes: Vec<u8>,
 }
@@ -49,8 +49,8 @@ impl Model for ClusterBuffer {
     ghost invariant = { λ b. length b.bytes.items ≡ 4096 };
 }
 
-// Puts a cluster together for the slot of an entry: the frame that lies there, the frames of the other
-// nodes from home, and zeros after them.
+// Assembles the cluster for the slot of an entry: the frame that lies there, the home frames of the other nodes, and
+// zeros after them.
 fn fill<D: Device>(
     device: &mut D,
     plan: &Superblock,
@@ -77,7 +77,7 @@ fn fill<D: Device>(
 }
 
 impl ClusterBuffer {
-    /// One that nothing is in.
+    /// Returns a buffer in which no write failed. Fails only if memory runs out.
     pub(crate) fn new(alloc: Global) -> Result<ClusterBuffer, AllocError>
         ensures { IfOk result (λ b. b ≡ None) }
     {
@@ -89,8 +89,7 @@ impl ClusterBuffer {
         })
     }
 
-    /// Writes the cluster into its slot, where a device failed to. It is refused exactly if the
-    /// device fails.
+    /// Writes the cluster into its slot, if an earlier write failed. Fails exactly if the device fails.
     pub(crate) fn write<D: Device>(&mut self, device: &mut D) -> Result<(), Failed>
         requires inside { (u : Unwritten) → self.old ≡ Some u
             → u.sector + 8 ≤ (D.disk device.old).sectors }
@@ -119,7 +118,7 @@ impl ClusterBuffer {
         self.sector == Some(sector)
     }
 
-    /// Reads the frame of a node that lies in the cluster.
+    /// Reads the frame of a node from the cluster.
     pub(crate) fn read(
         &self,
         shape: Shape,
@@ -138,8 +137,8 @@ impl ClusterBuffer {
         }
     }
 
-    // Completes the slot of an entry that is the first of its home: beside its frame it gets those
-    // that the other nodes of the cluster have at home.
+    // If an entry is the first of its cluster, completes its slot: the other nodes of the cluster get their home
+    // frames there.
     fn complete_one<D: Device>(
         &mut self,
         device: &mut D,
@@ -176,12 +175,12 @@ impl ClusterBuffer {
         self.write(device)
     }
 
-    /// Completes the slots of a directory's entries: each node without an entry, whose cluster has
-    /// one, gets the frame that it has at home into the slot of the first of these. A cluster that
-    /// the device failed to write before goes first.
+    /// Completes the slots of a directory's entries. In each cluster with an entry, the nodes without one get their
+    /// home frames into the slot of the cluster's first entry. If the device failed to write a cluster before, that
+    /// is written first.
     ///
-    /// It is refused exactly if the device fails; the frames of the entries are then read from
-    /// this buffer where they can't be from their slots.
+    /// Fails exactly if the device fails. Then the frames of the entries are still readable: from this buffer if
+    /// their slot was torn.
     pub(crate) fn complete<D: Device>(
         &mut self,
         device: &mut D,

@@ -14,8 +14,8 @@ use device::{Device, Failed, SECTOR_SIZE};
 use home_ranges::Home;
 use layout::{BLOCK_BYTES, Entry, Superblock};
 
-/// Writes the home of an object: the saved frames of all that have it, and zeros after them. At `Failed` its sectors
-/// may hold any bytes. The buffer is for any block, so that a run of them clears one.
+/// Writes the home of an object: the saved frames of all objects that share it, and zeros after them. After `Failed`
+/// its sectors may hold any bytes. The caller lends the buffer, so that a series of copies initializes only one.
 pub(crate) fn copy_home<D: Device>(
     device: &mut D,
     plan: &Superblock,

@@ -7,8 +7,7 @@ use layout::{Entry, MAX_LOG};
 use std::alloc::{AllocError, Global};
 use std::marker::Model;
 
-/// The entries of a checkpoint. There is memory for as many as a half of any log has slots, so that no call but `new`
-/// takes memory.
+/// The entries of a checkpoint. There is memory for as many as any log half has slots, so only `new` takes memory.
 #[derive(Drop)]
 pub(crate) struct Directory {
     entries: Vec<Entry>,
@@ -25,7 +24,7 @@ impl Model for Directory {
     ghost invariant = { λ d. 4096 ≤ vec_capacity d.entries };
 }
 
-/// The entries of a directory: `count` blank ones, in memory for as many as a directory may have.
+/// Returns `count` blank entries, in memory for as many as a directory may have. Fails only if memory runs out.
 pub(crate) fn blank_entries(alloc: Global, count: u64) -> Result<Vec<Entry>, AllocError>
     ensures length { IfOk result (λ entries. length entries.items ≡ count) }
     ensures room { IfOk result (λ entries. 4096 ≤ vec_capacity entries) }
@@ -36,7 +35,7 @@ pub(crate) fn blank_entries(alloc: Global, count: u64) -> Result<Vec<Entry>, All
 }
 
 impl Directory {
-    /// A directory without entries.
+    /// Returns a directory without entries. Fails only if memory runs out.
     pub(crate) fn new(alloc: Global) -> Result<Directory, AllocError>
         ensures { IfOk result (λ directory. directory ≡ []) }
     {
@@ -45,7 +44,7 @@ impl Directory {
         })
     }
 
-    /// The first `count` of these entries.
+    /// Returns a directory of the first `count` of these entries.
     pub(crate) fn of(entries: Vec<Entry>, count: u64) -> Directory
         requires { 4096 ≤ vec_capacity entries }
         ensures { result ≡ take count entries.items }
@@ -69,7 +68,7 @@ impl Directory {
         self.entries.clear();
     }
 
-    /// Makes this the one entry.
+    /// Replaces all entries by this one.
     pub(crate) fn put_one(&mut self, entry: Entry)
         ensures { self.new ≡ entry ∷ [] }
     {
@@ -77,7 +76,7 @@ impl Directory {
         self.entries.push_reserved(entry);
     }
 
-    /// Makes these the entries of the objects that have a slot, in the order of their numbers.
+    /// Replaces all entries by those of the objects that have a slot in `table`, in the order of their numbers.
     pub(crate) fn fill(&mut self, table: &Table)
         requires { taken_count table.now ≤ 4096 }
         ensures { self.new ≡ entries_of table.now }

@@ -24,8 +24,8 @@ mod open;
 
 pub use open::Opened;
 
-/// What a device holds: the frames that are saved, those of a checkpoint on its way, and those that
-/// were put since.
+/// The frames that a device holds: the saved ones, the frozen ones, and the working ones, which were written since
+/// the last freeze.
 #[derive(Drop)]
 pub struct Durable<D: Device> {
     device: D,
@@ -45,10 +45,9 @@ impl<D: Device> Model for Durable<D> {
 }
 
 impl<D: Device> Durable<D> {
-    /// Puts the frame of an object, for the checkpoint after the one on its way or, where none is,
-    /// for the next one. It is written into a slot of its own in the half of the log that nothing
-    /// saved or frozen lies in. It returns `Failed` exactly if the device failed; then the
-    /// slot may hold any bytes.
+    /// Writes the working frame of an object, for the next checkpoint that will be frozen. It goes into a slot of its
+    /// own, in the log half that has no saved and no frozen frames. Returns `Failed` exactly if the device failed;
+    /// then the slot may hold any bytes.
     pub fn put_working(
         &mut self,
         number: u64,
@@ -72,10 +71,9 @@ impl<D: Device> Durable<D> {
             .put_working(&mut self.device, number, header, content)
     }
 
-    /// Puts the frame of an object for the checkpoint on its way. It is written into a slot of its
-    /// own in the half of the log that nothing saved lies in. It returns `Fault` exactly if the
-    /// device failed; then the slot may hold any bytes. It returns `NoCheckpoint` exactly if
-    /// no checkpoint is on its way.
+    /// Writes the frozen frame of an object. It goes into a slot of its own, in the log half that has no saved
+    /// frames. Returns `Fault` exactly if the device failed; then the slot may hold any bytes. Returns `NoCheckpoint`
+    /// exactly if no checkpoint is frozen.
     pub fn put_frozen(
         &mut self,
         number: u64,
@@ -106,10 +104,9 @@ impl<D: Device> Durable<D> {
         }
     }
 
-    /// Freezes what was put since the last checkpoint began: a checkpoint is on its way that writes
-    /// `size` objects, those that were put among them. It makes no device call. It is refused by
-    /// `CheckpointRunning` exactly if one is on its way, and else by `MigrationPending` exactly
-    /// if something saved isn't home.
+    /// Freezes a checkpoint of `size` objects; the working frames become frozen ones, and count among these. It makes
+    /// no device call. It is refused by `CheckpointRunning` exactly if a checkpoint is frozen already, else by
+    /// `MigrationPending` exactly if a saved object isn't home.
     pub fn freeze(&mut self, size: u64) -> Result<(), Refusal>
         requires enough { sum_of held_slot (stored_of D.disk self.old).working ≤ size }
         requires few { size ≤ self.old.books.plan.geometry.log }
@@ -132,13 +129,12 @@ impl<D: Device> Durable<D> {
         Ok(())
     }
 
-    /// Commits the checkpoint on its way: its frames are saved, at an age, and those of the other
-    /// objects as before. Answers its generation.
+    /// Commits the frozen checkpoint: its frames are saved, at an age, and those of other objects stay saved. Returns
+    /// its generation.
     ///
-    /// It is refused by `NoCheckpoint` exactly if none is on its way, and else by
-    /// `NotStable(left)` exactly if `left` of its frames are still to be put. It returns
-    /// `Fault` exactly if the device failed; then a crash leaves what was saved before, or what
-    /// the frozen frames make of it.
+    /// It is refused by `NoCheckpoint` exactly if no checkpoint is frozen, else by `NotStable(left)` exactly if
+    /// `left` of its frames aren't in the log yet. It returns `Fault` exactly if the device failed; then a crash
+    /// leaves what was saved before, or the same with the frozen frames.
     pub fn commit(&mut self, age: u64) -> Result<u64, Refusal>
         requires sound { is_sound D.disk self.old }
         requires ready { (f : FrozenPuts) → (stored_of D.disk self.old).frozen ≡ Some f

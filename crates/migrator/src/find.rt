@@ -8,8 +8,8 @@ use crate::whole::is_whole;
 use home_ranges::Home;
 use layout::{Entry, Superblock};
 
-// The index of the first entry whose number isn't less than this one: that of an entry, or how many
-// there are. Each step halves the entries that are left.
+// Returns the index of the first entry whose number is at least `number`, or how many entries there are if none is. A
+// binary search.
 fn first_from(entries: &[Entry], number: u64) -> usize
     requires { AreRising entries.now }
     ensures within { result ≤ length entries.now }
@@ -30,7 +30,7 @@ fn first_from(entries: &[Entry], number: u64) -> usize
     low
 }
 
-// The slot that a directory gives an object.
+// Returns the slot that a directory gives to an object, or `None`.
 fn find(entries: &[Entry], number: u64) -> Option<u64>
     requires { AreRising entries.now }
     ensures { result ≡ slot_in entries.now number }
@@ -43,7 +43,7 @@ fn find(entries: &[Entry], number: u64) -> Option<u64>
     }
 }
 
-// The slot that it gives the first of those that share the home of an object, which has none itself.
+// Returns the slot of the first entry that shares the home of an object, which has no entry itself; or `None`.
 fn find_beside(plan: &Superblock, entries: &[Entry], number: u64) -> Option<u64>
     requires directory { IsDirectory plan.now.geometry entries.now }
     requires object { IsObject plan.now.geometry number }
@@ -62,8 +62,8 @@ fn find_beside(plan: &Superblock, entries: &[Entry], number: u64) -> Option<u64>
     }
 }
 
-/// The slot whose sectors have the frame of an object: its own, or else that of the least that has
-/// one of the nodes in its cluster.
+/// Returns the slot that holds the frame of an object: its own slot if it has one, else that of the first entry in
+/// its cluster; or `None`.
 pub(crate) fn find_frame_slot(plan: &Superblock, entries: &[Entry], number: u64) -> Option<u64>
     requires directory { IsDirectory plan.now.geometry entries.now }
     requires object { IsObject plan.now.geometry number }

@@ -1,4 +1,4 @@
-// The saved frames of all that share a home.
+// The saved frames of all objects that share a home.
 ghost use Rattle.std.specs.Prelude.{◌≡◌, ◌+◌, ◌*◌, ◌≤◌, length, drop, OnOk};
 ghost use Rattle.device.specs.Calls.{Counts};
 ghost use Rattle.layout.specs.declared.shape.Shape.{Shape};
@@ -17,8 +17,8 @@ use device::{Device, Failed, SECTOR_SIZE};
 use home_ranges::Home;
 use layout::{BLOCK_BYTES, Entry, Shape, Superblock, blank, copy_frame, read_sectors};
 
-/// Copies the frame of this shape that lies in the sectors from `at` on into its place in a block. The
-/// bytes beside it stay.
+/// Copies the frame of this shape from the sectors at `at` into its place in a block. The other bytes of the block
+/// stay.
 pub(crate) fn copy_place<D: Device>(
     device: &mut D,
     at: u64,
@@ -44,7 +44,7 @@ pub(crate) fn copy_place<D: Device>(
     Ok(())
 }
 
-// Copies the saved frame of an object into its place in a block. The bytes beside it stay.
+// Copies the saved frame of an object into its place in a block. The other bytes of the block stay.
 fn gather_one<D: Device>(
     device: &mut D,
     plan: &Superblock,
@@ -76,8 +76,7 @@ fn gather_one<D: Device>(
     copy_place(device, at, plan.shape(number), block)
 }
 
-/// Fills a block with the saved frames of all that have the home of an object, and with zeros after
-/// them.
+/// Fills a block with the saved frames of all objects that share the home of an object, and with zeros after them.
 pub(crate) fn gather<D: Device>(
     device: &mut D,
     plan: &Superblock,

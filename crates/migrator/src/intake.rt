@@ -1,4 +1,4 @@
-// What takes the frames of an image while they are read.
+// What takes the frames of an image while they are being read.
 ghost use Rattle.std.specs.Prelude.{◌≡◌, ℕ, ◌+◌, ◌<◌, ◌≤◌, ◌++◌, ◌∷◌, [], List, length, IfOk, OnOk};
 ghost use Rattle.model.specs.declared.frame.Frame.{Frame};
 ghost use Rattle.layout.specs.Frame.{frame_of};
@@ -7,26 +7,26 @@ use layout::{Body, Scratch};
 use model::{Geometry, ObjectHeader};
 use std::alloc::{AllocError, Global};
 
-/// Takes the saved frames of an image while they are read, in the order of their numbers.
+/// Takes the saved frames of an image while they are being read, in the order of their numbers.
 pub trait Intake: Drop + Sized {
     /// Memory that a new intake may use.
     type Memory: Drop;
 
-    /// These frames were taken.
+    /// Whether exactly these frames were taken.
     ghost Took: { Self → List Frame → Type 0 };
 
     /// How many frames there is memory for.
     ghost room: { Self → ℕ };
 
-    /// An intake that took no frame, with memory for all. It may take some from `memory`. Fails only where memory runs
-    /// out.
+    /// Returns an intake that took no frame, with memory for all. It may take memory from `memory`. Fails only if
+    /// memory runs out.
     fn new(alloc: Global, geometry: Geometry, memory: &mut Self::Memory) -> Result<Self, AllocError>
         requires few { geometry.nodes + geometry.pages ≤ 8192 }
         ensures none { IfOk result (λ taken. Took taken []) }
         ensures room { IfOk result (λ taken. geometry.nodes + geometry.pages ≤ room taken) };
 
-    /// Takes the next frame. The slots of a node or an annex and the words of a page are those in `scratch`. Fails only
-    /// where memory runs out.
+    /// Takes the next frame. The slots of a node or an annex and the words of a page are in `scratch`. Fails only if
+    /// memory runs out.
     fn take(
         &mut self,
         alloc: Global,
@@ -39,7 +39,7 @@ pub trait Intake: Drop + Sized {
             → Took self.new (fs ++ frame_of read scratch.now ∷ [])) };
 }
 
-// The headers of the frames.
+// An intake that keeps only the headers of the frames.
 impl Intake for Vec<ObjectHeader> {
     ghost use Rattle.std.specs.Prelude.{◌≡◌, vec_capacity};
     ghost use Rattle.model.specs.Frame.{headers};

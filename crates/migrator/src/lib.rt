@@ -1,4 +1,4 @@
-//! The durable store: the frames that are saved on a device, and those of the next checkpoint.
+//! The durable store: the saved frames on a device, and the frames in the log for the next checkpoint.
 #![tactic(auto)]
 
 mod books;

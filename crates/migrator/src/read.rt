@@ -1,4 +1,4 @@
-// Reading what a device holds.
+// Reading the superblock and frames of a device.
 ghost use Rattle.std.specs.Prelude.{◌≡◌, ◌<◌, ◌≤◌, IfOk, IfErr};
 ghost use Rattle.layout.specs.Directory.{IsDirectory};
 ghost use Rattle.layout.specs.Frame.{IsFrameOf, frame_of};
@@ -22,9 +22,8 @@ use layout::{
 };
 use model::ObjectHeader;
 
-/// Reads the superblock of a device, and no other sector. It is refused by `Failed` exactly if
-/// the device failed, and else by the least of the first three reasons that holds. It takes no
-/// memory.
+/// Reads the superblock of a device, and no other sector. Returns `Failed` exactly if the device failed, else the
+/// least of reasons 1 to 3 to refuse an image that holds, if one does. It takes no memory.
 pub fn read_superblock<D: Device>(device: &mut D) -> Result<Superblock, OpenFault>
     ensures found { IfOk result (λ s.
         HasPlan (D.disk device.old).seen (D.disk device.old).sectors s) }
@@ -45,9 +44,8 @@ pub fn read_superblock<D: Device>(device: &mut D) -> Result<Superblock, OpenFaul
     Ok(decode_superblock(&sector)?)
 }
 
-/// Reads the saved frame of an object: from the slot that the directory gives it, or gives a node
-/// of its cluster, else from its home. The slots of a node or an annex and the words of a page are
-/// left in `scratch`.
+/// Reads the saved frame of an object: from the slot that the directory gives to it or to a node of its cluster, else
+/// from its home. Puts the slots of a node or an annex and the words of a page into `scratch`.
 pub(crate) fn read_saved<D: Device>(
     device: &mut D,
     plan: &Superblock,
@@ -75,7 +73,7 @@ pub(crate) fn read_saved<D: Device>(
     }
 }
 
-// The failure where a frame that was read before isn't read again.
+// Returns the failure of a second read of a frame. The first read accepted the frame, so only the device can fail.
 fn failure(fault: OpenFault) -> Failed
     requires { fault ≡ OpenFault.Failed }
 {
@@ -85,7 +83,7 @@ fn failure(fault: OpenFault) -> Failed
     }
 }
 
-/// Reads a frame that was put into a slot of the half of a generation.
+/// Reads a frame that was written into a slot of the half of a generation.
 pub(crate) fn read_put<D: Device>(
     device: &mut D,
     plan: &Superblock,
@@ -112,7 +110,7 @@ pub(crate) fn read_put<D: Device>(
     }
 }
 
-/// Reads a saved frame that was read before.
+/// Reads a saved frame that was read once already, so only the device can fail.
 pub(crate) fn read_again<D: Device>(
     device: &mut D,
     plan: &Superblock,

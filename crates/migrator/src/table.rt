@@ -1,4 +1,4 @@
-// Which slots of a half of the log objects have.
+// Which objects have which slots in a half of the log.
 ghost use Rattle.std.specs.Prelude.{◌≡◌, ◌+◌, ◌<◌, ◌≤◌, [], ◌∷◌, None, Some, length, map, drop, replicate};
 ghost use Rattle.std.specs.Prelude.{vec_capacity, slice_set, IfSome, IfOk};
 ghost use Rattle.migrator.specs.Table.{place_at, slot_of, slot_for, is_held, has_slot, has_frame, taken_count};
@@ -14,14 +14,14 @@ use std::marker::Model;
 pub enum Place {
     /// In no slot.
     Nowhere,
-    /// It has a slot, which may hold any bytes.
+    /// In this slot, but a write failed: the slot may hold any bytes.
     Torn(u64),
-    /// In this slot.
+    /// In this slot, and valid.
     Whole(u64),
 }
 
 impl Place {
-    // The slot that it has.
+    // Returns the slot of this place, if it has one.
     fn slot(self) -> Option<u64>
         ensures { result ≡ slot_of self }
     {
@@ -32,7 +32,7 @@ impl Place {
         }
     }
 
-    // How many slots it has: one or none.
+    // Returns how many slots this place takes: 0 or 1.
     fn slots(self) -> u64
         ensures count { result ≡ has_slot self }
         ensures few { result ≤ 1 }
@@ -44,7 +44,7 @@ impl Place {
         }
     }
 
-    // How many frames it has: one or none.
+    // Returns how many valid frames this place has: 0 or 1.
     fn frames(self) -> u64
         ensures count { result ≡ has_frame self }
         ensures few { result ≤ 1 }
@@ -57,8 +57,8 @@ impl Place {
     }
 }
 
-/// The places of all objects in a half of the log, by number. No two have the same slot, and the
-/// slots that they have are the first ones.
+/// The places of all objects in a half of the log, by number. No two objects have the same slot, and the slots in use
+/// are the first ones of the half.
 #[derive(Drop)]
 pub(crate) struct Table {
     places: Vec<Place>,
@@ -66,7 +66,7 @@ pub(crate) struct Table {
     held: NumberSet,
     /// How many objects have a slot.
     taken: u64,
-    /// How many of them have their frame in it.
+    /// How many objects have a valid frame in their slot.
     whole: u64,
 }
 
@@ -85,7 +85,7 @@ impl Model for Table {
         × (t.whole ≡ whole_count t.places.items) };
 }
 
-// The places of `count` objects that have no slot.
+// Returns the places of `count` objects without slots. Fails only if memory runs out.
 fn blank_places(alloc: Global, count: usize) -> Result<Vec<Place>, AllocError>
     ensures { IfOk result (λ places. places.items ≡ replicate count Place.Nowhere) }
 {
@@ -94,7 +94,7 @@ fn blank_places(alloc: Global, count: usize) -> Result<Vec<Place>, AllocError>
     Ok(places)
 }
 
-// Takes its slot from each object that has one.
+// Sets the place of each object that has a slot to `Nowhere`.
 fn clear_places(places: &mut [Place], held: &mut NumberSet, taken: u64)
     requires held { held.old ≡ map is_held places.old }
     requires taken { taken ≡ taken_count places.old }
@@ -112,7 +112,7 @@ fn clear_places(places: &mut [Place], held: &mut NumberSet, taken: u64)
     }
 }
 
-// The entry of the first object from a number on that has a slot.
+// Returns the entry of the first object with a slot whose number is at least `from`, or `None`.
 #[tactic(auto, using(crate::proofs::Tables::next_held))]
 fn next_entry(places: &[Place], held: &NumberSet, from: usize) -> Option<Entry>
     requires held { held.now ≡ map is_held places.now }
@@ -129,7 +129,7 @@ fn next_entry(places: &[Place], held: &NumberSet, from: usize) -> Option<Entry>
     })
 }
 
-// Puts the entries of the objects that have a slot after those that are there.
+// Appends to `into` the entries of all objects that have a slot.
 #[tactic(auto, unfolding(crate::specs::Table::entries_of))]
 fn list_entries(places: &[Place], held: &NumberSet, taken: u64, into: &mut Vec<Entry>)
     requires held { held.now ≡ map is_held places.now }
@@ -152,7 +152,7 @@ fn list_entries(places: &[Place], held: &NumberSet, taken: u64, into: &mut Vec<E
 }
 
 impl Table {
-    /// A table of `count` objects that have no slot. Fails only where memory runs out.
+    /// Returns a table of `count` objects without slots. Fails only if memory runs out.
     pub(crate) fn new(alloc: Global, count: usize) -> Result<Table, AllocError>
         ensures { IfOk result (λ table. table ≡ replicate count Place.Nowhere) }
     {
@@ -181,14 +181,14 @@ impl Table {
         self.taken
     }
 
-    /// How many objects have their frame in their slot.
+    /// How many objects have a valid frame in their slot.
     pub(crate) fn whole(&self) -> u64
         ensures { result ≡ whole_count self.now }
     {
         self.whole
     }
 
-    /// The slot of an object, or else the next one.
+    /// Returns the slot of an object; if it has none, the next free slot.
     pub(crate) fn slot_for(&self, number: u64) -> u64
         requires { number < length self.now }
         ensures { result ≡ slot_for self.now number }
@@ -200,7 +200,7 @@ impl Table {
         }
     }
 
-    /// Puts an object into its slot, or into the next one.
+    /// Sets the place of an object, in its own slot or the next free one.
     pub(crate) fn set(&mut self, number: u64, place: Place)
         requires known { number < length self.old }
         requires slot { slot_of place ≡ Some (slot_for self.old number) }
@@ -213,7 +213,7 @@ impl Table {
         self.held.set(number as usize, true);
     }
 
-    /// Takes their slots from all objects.
+    /// Sets the place of every object to `Nowhere`.
     pub(crate) fn clear(&mut self)
         ensures { self.new ≡ replicate (length self.old) Place.Nowhere }
     {
@@ -222,7 +222,7 @@ impl Table {
         self.whole = 0;
     }
 
-    /// Puts the entries of the objects that have a slot into an empty list, in the order of their numbers.
+    /// Puts the entries of all objects that have a slot into an empty list, in the order of their numbers.
     pub(crate) fn list(&self, into: &mut Vec<Entry>)
         requires none { into.old.items ≡ [] }
         requires room { taken_count self.now ≤ vec_capacity into.old }

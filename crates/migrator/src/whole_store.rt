@@ -17,8 +17,8 @@ pub struct AllObjects {
     pub contents: Vec<Content<Cap>>,
 }
 
-/// A store over a durable store that has all objects in memory from its opening on: to read them it makes no call of
-/// the device.
+/// A store over a durable store that has all objects in memory from its opening on: reading them makes no call of the
+/// device.
 pub trait WholeStore<D: Device>: ObjectStore<D> {
     /// The durable store beneath.
     ghost durable: { Self → DurableState D };
@@ -27,15 +27,15 @@ pub trait WholeStore<D: Device>: ObjectStore<D> {
     fn superblock(&self) -> &Superblock
         ensures { result.now ≡ (durable self.now).books.plan };
 
-    /// The durable store, which has the saved frames, and all present objects. It makes no call of the device. It fails
-    /// to return the objects only if memory runs out.
+    /// Returns the durable store, which has the saved frames, and all present objects. It makes no call of the
+    /// device. It fails to return the objects only if memory runs out.
     fn into_parts(self, alloc: Global) -> (Durable<D>, Result<AllObjects, AllocError>)
         ensures durable { result.0 ≡ durable self }
         ensures objects { IfOk result.1 (λ objects. AreObjectsOf (Self.parts self) objects) };
 
-    /// The store saves what the durable store does.
+    /// The store saves what the durable store saves.
     ghost is_over: { (s : Self) → IsOver D.disk (Self.view s) (durable s) };
 
-    /// Writing and bringing in present objects never changes the durable store.
+    /// Changes and fetches of present objects never change the durable store.
     ghost still: { (s t : Self) → Self.ContinuesTo s t → durable t ≡ durable s };
 }

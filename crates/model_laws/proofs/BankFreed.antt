@@ -12,7 +12,7 @@ use Rattle.model_laws.proofs.BankTree.{owner_bank}
 use Rattle.model_laws.proofs.NumberLists.{AllDiffer, member_cases, no_member, only_member, all_members, found_in, stands_in, filter_once}
 use Rattle.model_laws.proofs.BankRescind.{IsClosedSet, lost_together, used_owner, used_where, usage_rescinded}
 
--- what isn't free is one of the objects
+-- a number that isn't free is below the length of the objects
 pub used_within : (os : List Object) (n : ℕ) → is_free (content_at os n) ≡ false → n < length os
 used_within os n used = grind (arith, nat_tests, get_or_past)
 
@@ -25,7 +25,7 @@ pub record IsGivenUp (os : List Object) (set : List ℕ) : Type 0 where
 pub given_up_within : (os : List Object) (set : List ℕ) → IsGivenUp os set → (n : ℕ) → is_member set n ≡ true → n < length os
 given_up_within os set h n member = used_within os n (h.used n member)
 
--- where a bank is above all of them or above none, what's left of its usage and what goes are what it was
+-- if a bank is above all freed objects or above none, its usage afterwards plus their count is its usage before
 pub usage_given_up : (os : List Object) (set : List ℕ) → IsTree os → IsGivenUp os set → (x : ℕ) → is_member set x ≡ false
     → (above : Bool) → ((n : ℕ) → is_member set n ≡ true → is_under os x (object_at os n) ≡ above)
     → usage (rescind set os) x + (if above then length set else 0) ≡ usage os x
@@ -36,7 +36,7 @@ pub differ_where : (test : Content Capability → Bool) (os : List Object) (m n 
     test (content_at os n) ≡ false → m ≢ n
 differ_where test os m n is isnt same = false≢true (sym isnt ∙ (ap (λ (k : ℕ). test (content_at os k)) (sym same) ∙ is))
 
--- what one kind of content isn't
+-- contents of one kind aren't of another
 
 root_no_annex : (c : Content Capability) → is_root c ≡ true → is_annex c ≡ false
 root_no_annex c e = grind (arith, nat_tests)
@@ -63,7 +63,7 @@ module _ (g : Geometry) (os : List Object) (h : IsFramed g os) where
     | inr later ↦ only P a n second later
   ]
 
-  -- a process and its annex are two
+  -- the annex of a process isn't its root
   pub annex_differs : (p : ℕ) → IsTrue (is_process os p) → annex_at os p ≢ p
   annex_differs p is = differ_where is_annex os (annex_at os p) p (h.annexes p is).0 (root_no_annex (content_at os p) is)
 
@@ -80,7 +80,7 @@ module _ (g : Geometry) (os : List Object) (h : IsFramed g os) where
         no_bank = none;
       }
 
-  -- what a capability frees is rescinded together
+  -- the objects that a capability frees may be rescinded together
   pub freed_set : (c : Capability) (n : ℕ) (ns : List ℕ) → NamesItsKind os c → freed_by os c ≡ n ∷ ns →
       IsFreedSet os (owner_at os n) (n ∷ ns)
   freed_set (Page o a) n ns names e = grind (arith, nat_tests, used_where)
@@ -88,12 +88,12 @@ module _ (g : Geometry) (os : List Object) (h : IsFramed g os) where
   freed_set (Process p) n ns names e = subst (λ xs. IsFreedSet os (owner_at os (get_or xs 0 0)) xs) e (process_freed p names)
   freed_set c n ns names e = cc
 
--- what isn't free is under a bank where the chain of its owner passes through it
+-- an object that isn't free is under a bank exactly if the chain of its owner contains the bank
 pub under_owner : (os : List Object) (x n : ℕ) → is_free (content_at os n) ≡ false →
     is_under os x (object_at os n) ≡ is_member (chain os (owner_at os n)) x
 under_owner os x n used = rw used refl
 
--- what is left of a bank's usage after a free, with what is freed, is what it was
+-- a bank's usage after a free, plus the number of freed objects, is its usage before
 usage_freed_both : (g : Geometry) (os : List Object) (c : Capability) (b n : ℕ) (ns : List ℕ) → IsNow g os → owner_at os n ≡ b →
     freed_by os c ≡ n ∷ ns → NamesItsKind os c → (x : ℕ) → IsTrue (is_bank (content_at os x))
     → usage (rescind (n ∷ ns) os) x + (if is_member (chain os b) x then length (n ∷ ns) else 0) ≡ usage os x
@@ -110,13 +110,13 @@ pub usage_freed : (g : Geometry) (os : List Object) (c : Capability) (b n : ℕ)
     → usage (rescind (n ∷ ns) os) x ≡ usage os x - (if is_member (chain os b) x then length (n ∷ ns) else 0)
 usage_freed g os c b n ns h own frees names x bank = omega (arith, usage_freed_both g os c b n ns h own frees names x bank)
 
--- what is freed isn't more than was used
+-- a bank's usage is at least the number of objects that a free gives up
 pub freed_fits : (g : Geometry) (os : List Object) (c : Capability) (b n : ℕ) (ns : List ℕ) → IsNow g os → owner_at os n ≡ b →
     freed_by os c ≡ n ∷ ns → NamesItsKind os c → (x : ℕ) → IsTrue (is_bank (content_at os x)) →
     (if is_member (chain os b) x then length (n ∷ ns) else 0) ≤ usage os x
 freed_fits g os c b n ns h own frees names x bank = omega (arith, usage_freed_both g os c b n ns h own frees names x bank)
 
--- the lists of what is under a bank and of what it owns
+-- the lists of the objects under a bank, and of those that it owns
 
 pub under_once : (os : List Object) (b : ℕ) → AllDiffer (under os b)
 unfolding under
@@ -134,7 +134,7 @@ unfolding under
 under_stands os b n below passes = stands_in (λ n. (n == b) || is_under os b (object_at os n)) 0 (length os) n (omega arith)
     (omega (arith, below)) passes
 
--- what a bank owns: the numbers below the length that aren't free and have it as their owner
+-- the objects that a bank owns are the numbers below the length that aren't free and have it as their owner
 pub owned_found : (os : List Object) (b n : ℕ) → is_member (owned_by os b) n ≡ true →
     (n < length os) × (is_free (content_at os n) ≡ false) × (owner_at os n ≡ b)
 unfolding owned_by
@@ -146,7 +146,7 @@ under_within os b = all_members (λ n. n < length os) (under os b) (λ n e. (und
 pub owned_within : (os : List Object) (b : ℕ) → All (λ n. n < length os) (owned_by os b)
 owned_within os b = all_members (λ n. n < length os) (owned_by os b) (λ n e. (owned_found os b n e).0)
 
--- what holds of the prime bank, and of each other bank whose owner it holds of, holds of every bank
+-- a property of the prime bank that each bank inherits from its owner holds of every bank
 pub tree_induction : (os : List Object) → IsTree os → (P : ℕ → Type 0) → P 0
     → ((c : ℕ) → IsTrue (is_bank (content_at os c)) → c ≢ 0 → P (owner_at os c) → P c)
     → (b : ℕ) → IsTrue (is_bank (content_at os b)) → P b
@@ -170,12 +170,12 @@ module _ (g : Geometry) (os : List Object) (h : IsFramed g os) (b : ℕ) (is : I
         below).0
   ]
 
-  -- what isn't free and has the bank in its owner's chain is under it
+  -- an object that isn't free is under a bank if the chain of its owner contains the bank
   under_chain : (n : ℕ) → is_free (content_at os n) ≡ false → is_member (chain os (owner_at os n)) b ≡ true →
       is_member (under os b) n ≡ true
   under_chain n used passes = grind (arith, nat_tests, under_stands, used_within, under_owner)
 
-  -- a bank with it in its chain is it or under it
+  -- a bank whose chain contains this bank is this bank, or under it
   under_bank : (c : ℕ) → IsTrue (is_bank (content_at os c)) → is_member (chain os c) b ≡ true → is_member (under os b) c ≡ true
   under_bank c bank passes = grind (
     arith,
@@ -190,7 +190,7 @@ module _ (g : Geometry) (os : List Object) (h : IsFramed g os) (b : ℕ) (is : I
     tree,
   )
 
-  -- and one that is it or under it has it in its chain
+  -- this bank, and each bank under it, has it in its chain
   bank_under : (c : ℕ) → IsTrue (is_bank (content_at os c)) → is_member (under os b) c ≡ true → is_member (chain os c) b ≡ true
   bank_under c bank e = elim (cases_eq c b) [
     | inl same ↦ subst (λ k. is_member (chain os k) b ≡ true) (sym same) (chain_itself os tree b is)
@@ -208,7 +208,7 @@ module _ (g : Geometry) (os : List Object) (h : IsFramed g os) (b : ℕ) (is : I
     ]
   ]
 
-  -- a bank that isn't destroyed with it is above what is under it where it's above it
+  -- a bank that stays is above everything under this bank exactly if it is above this bank
   above_alike : (x : ℕ) → is_member (under os b) x ≡ false → (c : ℕ) → IsTrue (is_bank (content_at os c)) → is_member (chain os c) b ≡ true
       → is_member (chain os c) x ≡ is_member (chain os (owner_at os b)) x
   above_alike x stays =
@@ -231,7 +231,7 @@ module _ (g : Geometry) (os : List Object) (h : IsFramed g os) (b : ℕ) (is : I
         | inr below ↦ grind (arith, nat_tests, above_alike, used_owner, tree, under_owner)
       ]
 
-  -- what is no bank is under it where the chain of its owner passes through it
+  -- an object that isn't a bank is under this bank exactly if the chain of its owner contains this bank
   under_other : (n : ℕ) → is_free (content_at os n) ≡ false → is_bank (content_at os n) ≡ false →
       is_member (under os b) n ≡ is_member (chain os (owner_at os n)) b
   under_other n used none = elim (cases_Bool (is_member (chain os (owner_at os n)) b)) [
@@ -273,7 +273,7 @@ pub usage_destroyed : (g : Geometry) (os : List Object) (b : ℕ) → IsNow g os
     → usage (rescind (under os b) os) x ≡ usage os x - (if is_member (chain os (owner_at os b)) x then length (under os b) else 0)
 usage_destroyed g os b h is on x stays = omega (arith, usage_destroyed_both g os h.frame b is on x stays)
 
--- what is destroyed isn't more than was used
+-- a bank's usage is at least the number of objects that are destroyed
 pub destroyed_fits : (g : Geometry) (os : List Object) (b : ℕ) → IsNow g os → IsTrue (is_bank (content_at os b)) → b ≢ 0
     → (x : ℕ) → is_member (under os b) x ≡ false
     → (if is_member (chain os (owner_at os b)) x then length (under os b) else 0) ≤ usage os x

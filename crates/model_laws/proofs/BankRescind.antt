@@ -24,17 +24,17 @@ pub record IsClosedSet (os : List Object) (set : List ℕ) : Type 0 where
   pub annexes : (p : ℕ) → IsTrue (is_process os p) → is_member set (annex_at os p) ≡ is_member set p
   pub owned : (n : ℕ) → is_free (content_at os n) ≡ false → is_member set (owner_at os n) ≡ true → is_member set n ≡ true
 
--- a test that a free content fails, where it is passed
+-- contents that pass a test which free ones fail aren't free
 pub used_where : (test : Content Capability → Bool) → test content.Free ≡ false → (c : Content Capability) → test c ≡ true →
     is_free c ≡ false
 used_where test fails c is = grind (arith, nat_tests)
 
--- what isn't free is owned by a bank
+-- the owner of each object that isn't free is a bank
 pub used_owner : (os : List Object) → IsTree os → (n : ℕ) → is_free (content_at os n) ≡ false →
     IsTrue (is_bank (content_at os (owner_at os n)))
 used_owner os tree n used = tree.owners n (λ gone. false≢true (sym used ∙ gone))
 
--- what stays and what goes
+-- which objects stay, and which are rescinded
 
 module _ (os : List Object) (set : List ℕ) where
   went_object : (n : ℕ) → is_member set n ≡ true → object_at (rescind set os) n ≡ free
@@ -49,7 +49,7 @@ module _ (os : List Object) (set : List ℕ) where
   pub kept_tests : (n : ℕ) → is_member set n ≡ false → SameTests (content_at os n) (content_at (rescind set os) n)
   kept_tests n e = same_tests (content_at os n) (content_at (rescind set os) n) (kept_alike n e).role
 
-  -- what isn't free afterwards is no member
+  -- an object that isn't free afterwards wasn't a member
   stays_where : (test : Content Capability → Bool) → test content.Free ≡ false → (n : ℕ) → test (content_at (rescind set os) n) ≡ true →
       is_member set n ≡ false
   stays_where test fails n is = grind (arith, nat_tests, went_object)
@@ -58,7 +58,7 @@ module _ (os : List Object) (set : List ℕ) where
   unfolding rescind
   length_rescind = length-map (enumerate_from 0 os) _ ∙ length-enumerate_from 0 os
 
--- what goes of the usage of a bank with a set
+-- by how much the rescind of a set lowers the usage of a bank
 unfoldable pub lost : List Object → List ℕ → ℕ → ℕ
 lost os set x = count_by (λ p. is_member set p.0 && is_under os x p.1) (enumerate_from 0 os)
 
@@ -66,7 +66,7 @@ module _ (os : List Object) (set : List ℕ) (tree : IsTree os) (closed : IsClos
   owner_stays : (n : ℕ) → is_free (content_at os n) ≡ false → is_member set n ≡ false → is_member set (owner_at os n) ≡ false
   owner_stays n used stays = false_from_ne_true (is_member set (owner_at os n)) (λ e. false≢true (sym stays ∙ closed.owned n used e))
 
-  -- the chain of a bank that stays is as it was
+  -- the chain of a bank that stays doesn't change
   chain_within_kept : (k b : ℕ) → IsTrue (is_bank (content_at os b)) → is_member set b ≡ false →
       chain_within k (rescind set os) b ≡ chain_within k os b
   chain_within_kept zero b is stays = refl
@@ -79,7 +79,7 @@ module _ (os : List Object) (set : List ℕ) (tree : IsTree os) (closed : IsClos
   unfolding chain
   chain_kept b is stays = chain_within_kept 16 b is stays
 
-  -- what stays is under the banks that it was under, and what goes under none
+  -- an object that stays is under the same banks as before, and a rescinded one under none
   under_kept : (x n : ℕ) → is_member set n ≡ false → is_under (rescind set os) x (object_at (rescind set os) n)
       ≡ is_under os x (object_at os n)
   under_kept x n stays = grind (arith, nat_tests, kept_tests, kept_alike, chain_kept, used_owner, owner_stays)
@@ -87,12 +87,12 @@ module _ (os : List Object) (set : List ℕ) (tree : IsTree os) (closed : IsClos
   under_went : (x n : ℕ) → is_member set n ≡ true → is_under (rescind set os) x (object_at (rescind set os) n) ≡ false
   under_went x n goes = rw (went_object os set n goes) refl
 
-  -- at each number what stays and what goes add up to what was
+  -- for each number, what is counted afterwards and what is lost add up to what was counted before
   sums_up : (itself now before goes : Bool) → (goes ≡ false → now ≡ before) → (goes ≡ true → now ≡ false) → (goes ≡ true → itself ≡ false)
       → cond (not itself && now) 1 0 + cond (goes && before) 1 0 ≡ cond (not itself && before) 1 0
   sums_up itself now before goes same none other = grind (arith, nat_tests)
 
-  -- what is left of a bank's usage, with what goes, is what it was
+  -- a bank's usage afterwards, plus what it loses, is its usage before
   pub usage_rescinded : (x : ℕ) → is_member set x ≡ false → usage (rescind set os) x + lost os set x ≡ usage os x
   unfolding usage lost
   usage_rescinded x stays =
@@ -167,7 +167,7 @@ pub record IsAsBefore (os us : List Object) (n : ℕ) : Type 0 where
   pub role : role_of (content_at us n) ≡ role_of (content_at os n)
   pub state : state_at us n ≡ state_at os n
 
--- a capability may be held still where what it names is as before
+-- a capability may still be held if the object that it names is as before
 pub held_as_before : (os us : List Object) (c : Capability) → ((n : ℕ) → named c ≡ Some n → IsAsBefore os us n) → IsHeld os (Waits os) c →
     IsHeld us (Waits us) c
 held_as_before os us c f is = grind (arith, nat_tests)
@@ -218,7 +218,7 @@ rescinded_now g os set h closed = record {
 
 -- how much goes with a set
 
--- a list of numbers of objects, each once, has as many as there are
+-- a list of numbers of objects without repetition is as long as the number of its members
 pub count_members : (os : List Object) (set : List ℕ) → AllDiffer set → ((n : ℕ) → is_member set n ≡ true → n < length os)
     → count_by (λ p. is_member set p.0) (enumerate_from 0 os) ≡ length set
 count_members os [] once below = count_none (λ p. false) os free (λ i. refl)
@@ -232,7 +232,7 @@ count_members os (m ∷ ms) once below =
     apart : (j : ℕ) → (j ≡ m) ⊎ (j ≢ m) → cond (j == m) 1 0 + cond (is_member ms j) 1 0 ≡ cond (is_member (m ∷ ms) j) 1 0
     apart j is = grind (arith, nat_tests)
 
--- where a bank is above all of a set or above none of it, so much of its usage goes
+-- if a bank is above all members of a set or above none, it loses all of them from its usage or none
 pub lost_together : (os : List Object) (set : List ℕ) (x : ℕ) (above : Bool) → AllDiffer set →
     ((n : ℕ) → is_member set n ≡ true → n < length os) → ((n : ℕ) → is_member set n ≡ true → is_under os x (object_at os n) ≡ above) →
     lost os set x ≡ (if above then length set else 0)

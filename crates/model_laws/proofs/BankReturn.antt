@@ -61,7 +61,7 @@ module _ (os : List Object) (t : IsTree os) (b : ℕ) (is : IsTrue (is_bank (con
   heir_differs : (n : ℕ) → heir b (owner_at os b) n ≢ b
   heir_differs n e = grind (arith, nat_tests, parent_other, heir_of, heir_other)
 
-  -- the bank is in no chain but its own
+  -- afterwards the bank is in no chain but its own
   no_heir_within : (k n : ℕ) → is_member (chain_within k (inherited os b) (heir b (owner_at os b) n)) b ≡ false
   no_heir_within zero n = refl
   no_heir_within (suc k) n = elim (cases_eq (heir b (owner_at os b) n) 0) [
@@ -72,7 +72,7 @@ module _ (os : List Object) (t : IsTree os) (b : ℕ) (is : IsTrue (is_bank (con
         ∙ no_heir_within k (owner_at os (heir b (owner_at os b) n)))
   ]
 
-  -- all others are in the chains that they were in
+  -- all other banks are in the same chains as before
   heir_within : (x : ℕ) → x ≢ b → (c : ℕ) → IsTrue (is_bank (content_at os c)) → (k : ℕ) → length (chain os c) ≤ k
       → is_member (chain_within k (inherited os b) (heir b (owner_at os b) c)) x ≡ is_member (chain os c) x
   heir_within x differ =
@@ -137,7 +137,7 @@ module _ (os : List Object) (t : IsTree os) (b : ℕ) (is : IsTrue (is_bank (con
         (chain_heir 0 c (λ e. on (sym e)) bank ∙ has_prime c bank)
   ]
 
-  -- the others' usage is as it was, and the bank has none
+  -- the usage of other banks doesn't change, and the bank has usage 0
   under_heir : (x n : ℕ) → x ≢ b → is_under (inherited os b) x (object_at (inherited os b) n) ≡ is_under os x (object_at os n)
   under_heir x n differ = grind (arith, nat_tests, inherited_content, inherited_owner, chain_heir, used_owner)
 
@@ -209,7 +209,7 @@ inherited_now g os b h is on =
           });
     }
 
--- then the bank can be rescinded alone
+-- after the transfer the bank can be rescinded alone
 alone_given_up : (g : Geometry) (os : List Object) (b : ℕ) → IsFramed g os → IsTrue (is_bank (content_at os b)) → b ≢ 0 →
     IsGivenUp (inherited os b) (b ∷ [])
 alone_given_up g os b h is on =
@@ -248,13 +248,13 @@ usage_returned_both g os b h is on x differ =
     chain_heir os t b is on x (owner_at os b) differ (owner_bank os t b is))))
     ∙ usage_inherited os t b is on x differ
 
--- the usage of a bank where another is returned to its parent
+-- the usages of banks if another bank is returned to its parent
 pub usage_returned : (g : Geometry) (os : List Object) (b : ℕ) → IsNow g os → IsTrue (is_bank (content_at os b)) → b ≢ 0
     → (x : ℕ) → x ≢ b
     → usage (rescind (b ∷ []) (inherited os b)) x ≡ usage os x - (if is_member (chain os (owner_at os b)) x then 1 else 0)
 usage_returned g os b h is on x differ = omega (arith, usage_returned_both g os b h is on x differ)
 
--- what is returned isn't more than was used
+-- a bank's usage is at least what it loses by the return
 pub returned_fits : (g : Geometry) (os : List Object) (b : ℕ) → IsNow g os → IsTrue (is_bank (content_at os b)) → b ≢ 0
     → (x : ℕ) → x ≢ b → (if is_member (chain os (owner_at os b)) x then 1 else 0) ≤ usage os x
 returned_fits g os b h is on x differ = omega (arith, usage_returned_both g os b h is on x differ)
@@ -282,14 +282,14 @@ module _ (g : Geometry) (os : List Object) (b : ℕ) (args : Arguments) (h : IsN
             e).given_up.closed))
             (λ other. refused_keeps g os _ h)
 
-    -- so does the end of a bank with all under it
+    -- destroying a bank with all objects under it keeps objects sound
     pub destroyed_keeps : IsOutcome g (on_bank g os b bank.Destroy args)
     unfolding on_bank
     destroyed_keeps =
         chosen (IsOutcome g) (b == 0) _ _ (λ prime. refused_keeps g os _ h)
         (λ on. void_keeps g _ _ (rescinded_now g os (under os b) h (under_given_up g os h.frame b is (eqb-false b 0 on)).closed))
 
-    -- and a bank's return to its parent
+    -- returning a bank to its parent keeps objects sound
     pub returned_keeps : IsOutcome g (on_bank g os b bank.ReturnToParent args)
     unfolding on_bank
     returned_keeps =

@@ -25,7 +25,7 @@ bank_used c is gone = grind (arith, nat_tests)
 contains_more : (x y : ℕ) (xs : List ℕ) → Contains xs y → Contains (x ∷ xs) y
 contains_more x y xs h = (suc h.0, omega (arith, h.1), h.2)
 
--- a member other than the first is one of the rest
+-- a member of a list other than its first is a member of the rest
 pub member_tail : (x b : ℕ) (xs : List ℕ) → x ≢ b → is_member (b ∷ xs) x ≡ is_member xs x
 member_tail x b xs differ = ap (λ t. t || is_member xs x) (ne_eqb x b differ)
 
@@ -33,7 +33,7 @@ member_tail x b xs differ = ap (λ t. t || is_member xs x) (ne_eqb x b differ)
 pub member_head : (x b : ℕ) (xs : List ℕ) → x ≡ b → is_member (b ∷ xs) x ≡ true
 member_head x b xs same = ap (λ t. t || is_member xs x) (eq-eqb x b same)
 
--- chains of so many banks
+-- chains of at most a given length
 
 within_end : (os : List Object) (k b : ℕ) → b ≡ 0 → chain_within (suc k) os b ≡ b ∷ []
 within_end os k b end = rw (eq-eqb b 0 end) refl
@@ -74,12 +74,12 @@ pub chain_prime : (os : List Object) → chain os 0 ≡ 0 ∷ []
 unfolding chain
 chain_prime os = within_end os 15 0 refl
 
--- the same, of a number that is 0
+-- the chain of number 0
 pub chain_zero : (os : List Object) (b : ℕ) → b ≡ 0 → chain os b ≡ b ∷ []
 unfolding chain
 chain_zero os b end = within_end os 15 b end
 
--- a chain that isn't as long as it may be goes on from what the bank owns
+-- a chain that is shorter than the limit is extended by an object that the bank owns
 chain_below : (os us : List Object) (n b : ℕ) → n ≢ 0 → owner_at us n ≡ b → chain us b ≡ chain os b → length (chain os b) < 16 →
     chain us n ≡ n ∷ chain os b
 unfolding chain
@@ -95,7 +95,7 @@ module _ (os : List Object) (t : IsTree os) where
   unfolding chain
   chain_unfolds b is on = grind (arith, nat_tests)
 
-  -- what holds of a bank, and of the owner of each bank that it holds of, holds all along the chain
+  -- a property that passes from each bank to its owner passes all along the chain
   pub chain_climbs : (P : ℕ → Type 0) → ((c : ℕ) → IsTrue (is_bank (content_at os c)) → c ≢ 0 → P c → P (owner_at os c))
       → (b x : ℕ) → IsTrue (is_bank (content_at os b)) → P b → is_member (chain os b) x ≡ true → P x
   unfolding chain
@@ -129,7 +129,7 @@ module _ (os : List Object) (t : IsTree os) where
   pub chain_owner_length : (b : ℕ) → IsTrue (is_bank (content_at os b)) → b ≢ 0 → length (chain os (owner_at os b)) < 16
   chain_owner_length b is on = omega (arith, chain_longer b is on, chain_length os b)
 
-  -- no chain is longer than that of a bank that it's in
+  -- a bank in the chain of another has no longer chain than that
   pub chain_shorter : (b x : ℕ) → IsTrue (is_bank (content_at os b)) → is_member (chain os b) x ≡ true →
       length (chain os x) ≤ length (chain os b)
   chain_shorter b x is member =
@@ -146,27 +146,27 @@ module _ (os : List Object) (t : IsTree os) where
 
 -- a new object at a free number
 
--- what stands at its number
+-- the object at the new object's number
 pub at_new : (os : List Object) (n b : ℕ) (c : Content Capability) → n < length os →
     object_at (with_new os n b c) n ≡ record { owner = b; content = c }
 unfolding with_new
 at_new os n b c inside = get_or-set_same os n (record { owner = b; content = c }) free inside
 
--- what stands at any other
+-- the object at any other number
 pub at_other : (os : List Object) (n b : ℕ) (c : Content Capability) (x : ℕ) → x ≢ n → object_at (with_new os n b c) x ≡ object_at os x
 unfolding with_new
 at_other os n b c x differ = get_or-set_other os n x (record { owner = b; content = c }) free differ
 
--- there are as many objects
+-- the number of objects doesn't change
 pub length_new : (os : List Object) (n b : ℕ) (c : Content Capability) → length (with_new os n b c) ≡ length os
 unfolding with_new
 length_new os n b c = length-set os n (record { owner = b; content = c })
 
--- the number of a bank isn't a free one
+-- the number of a bank isn't free
 pub bank_not_free : (os : List Object) (x n : ℕ) → IsTrue (is_bank (content_at os x)) → IsTrue (is_free (content_at os n)) → x ≢ n
 bank_not_free os x n is gone same = bank_used (content_at os x) is (ap (λ (m : ℕ). is_free (content_at os m)) same ∙ gone)
 
--- an object of a bank at a number that is free; a bank only where the chain isn't as long as it may be
+-- a new object of a bank at a free number; it may be a bank only if the chain is shorter than the limit
 module _ (os : List Object) (n b : ℕ) (c : Content Capability) (t : IsTree os) (bank : IsTrue (is_bank (content_at os b)))
     (inside : n < length os)
     (unused : IsTrue (is_free (content_at os n))) (used : is_free c ≡ false) (short : IsTrue (is_bank c) → length (chain os b) < 16) where
@@ -177,11 +177,11 @@ module _ (os : List Object) (n b : ℕ) (c : Content Capability) (t : IsTree os)
   pub new_bank_kept : (x : ℕ) → IsTrue (is_bank (content_at os x)) → IsTrue (is_bank (content_at (with_new os n b c) x))
   new_bank_kept x is = ap (λ (o : Object). is_bank o.content) (bank_kept x is) ∙ is
 
-  -- the chains of the banks that were there are the same
+  -- the chains of all other banks don't change
   pub chain_new : (x : ℕ) → IsTrue (is_bank (content_at os x)) → chain (with_new os n b c) x ≡ chain os x
   chain_new x is = grind (arith, nat_tests, chain_on, bank_kept, chain_banks)
 
-  -- that of a new bank goes on from its owner
+  -- the chain of a new bank is the bank, then the chain of its owner
   pub chain_new_bank : IsTrue (is_bank c) → chain (with_new os n b c) n ≡ n ∷ chain os b
   chain_new_bank is = grind (arith, nat_tests, chain_below, bank_not_free, at_new, chain_new)
 

@@ -16,7 +16,7 @@ module _ (os : List Object) (n b : ℕ) (c : Content Capability) (t : IsTree os)
   kept_chain : (x : ℕ) → IsTrue (is_bank (content_at os x)) → chain (with_new os n b c) x ≡ chain os x
   kept_chain = chain_new os n b c t bank inside unused used short
 
-  -- what was there is under the same banks
+  -- all other objects are under the same banks as before
   under_kept : (x y : ℕ) → y ≢ n → is_under (with_new os n b c) x (object_at (with_new os n b c) y) ≡ is_under os x (object_at os y)
   under_kept x y differ = grind (arith, nat_tests, at_other, kept_chain)
 
@@ -24,11 +24,11 @@ module _ (os : List Object) (n b : ℕ) (c : Content Capability) (t : IsTree os)
   under_none : (y : ℕ) → is_under os n (object_at os y) ≡ false
   under_none y = grind (arith, nat_tests, bank_not_free, chain_banks)
 
-  -- a new object is under its bank and what that is under
+  -- a new object is under its bank and under all banks of that one's chain
   under_new : (x : ℕ) → is_under (with_new os n b c) x (object_at (with_new os n b c) n) ≡ is_member (chain os b) x
   under_new x = grind (arith, nat_tests, at_new, kept_chain)
 
-  -- a new object counts once more at its bank and at each that this is under
+  -- a new object adds one to the usage of each bank in its bank's chain
   pub usage_new : (x : ℕ) → IsTrue (is_bank (content_at os x)) → usage (with_new os n b c) x
       ≡ usage os x + (if is_member (chain os b) x then 1 else 0)
   unfolding usage
@@ -57,7 +57,7 @@ module _ (os : List Object) (n b : ℕ) (c : Content Capability) (t : IsTree os)
             (under_kept n i differ ∙ under_none i)
       ])
 
--- Where the frame is the same, an order of a bank is the same.
+-- In worlds with the same frame, an order of a bank does the same.
 
 module _ (os us : List Object) (s : SameFrame os us) where
   free_alike : (ns : List ℕ) → are_free us ns ≡ are_free os ns

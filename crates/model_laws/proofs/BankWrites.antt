@@ -16,7 +16,7 @@ use Rattle.model_laws.proofs.Revoking.{at_rescind}
 use Rattle.model_laws.proofs.Mapped.{at_map}
 use Rattle.model_laws.proofs.SoundOrders.{IsNow}
 
--- what is a process before and after has the same annex
+-- a number that is a process before and after has the same annex
 abbrev KeepsAnnexes : List Object → List Object → Type 0
 KeepsAnnexes os us = (p : ℕ) → is_process os p ≡ true → is_process us p ≡ true → annex_at us p ≡ annex_at os p
 
@@ -99,7 +99,7 @@ annex_kept g os b requested args p is has =
 bank_is_used : (c : Content Capability) → IsTrue (is_bank c) → is_free c ≡ false
 bank_is_used c is = grind (arith, nat_tests)
 
--- every number that is written is one of the objects
+-- every number written is that of an object
 abbrev Within : List Object → OrderOutcome → Type 0
 Within os o = All (λ n. n < length os) o.written
 

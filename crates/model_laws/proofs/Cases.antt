@@ -6,14 +6,14 @@ use Rattle.std.proofs.Common.{◌≡◌}
 use Rattle.std.specs.Prelude.{if◌then◌else◌}
 
 module _ {X : Type 0} (P : X → Type 0) where
-  -- of both, or of the one that a test chooses
+  -- a property of two values holds of the one that a test chooses
   pub one_of : (b : Bool) (x y : X) → P x → P y → P (if b then x else y)
   one_of b x y p q = grind (arith, nat_tests)
 
   pub chosen : (b : Bool) (x y : X) → (b ≡ true → P x) → (b ≡ false → P y) → P (if b then x else y)
   chosen b x y p q = grind (arith, nat_tests)
 
-  -- of what is given for nothing, and for something
+  -- a property holds of either result of a choice on an option
   pub found_or : {A : Type 0} (found : Option A) (x : X) (f : A → X) → P x → ((a : A) → P (f a)) →
       P (elim found [ None ↦ x | Some a ↦ f a ])
   found_or {A} found x f p q = grind (arith, nat_tests)
@@ -31,7 +31,7 @@ module _ (P : List Object → Type 0) (os : List Object) (i : Invocation) where
       P (replied os i o)
   replied_by o same delivered = grind (arith, nat_tests)
 
-  -- it holds after an effect that is the one given
+  -- the property holds after the effect, if there is one
   abbrev Gives : Effect → Option Effect → Type 0
   Gives e o = o ≡ Some e → P e.objects
 

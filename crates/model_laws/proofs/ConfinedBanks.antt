@@ -20,7 +20,7 @@ use Rattle.model.specs.declared.order.BankOrder.TheVariants as bank
 use Rattle.model.specs.declared.order.ResultCode.TheVariants as code
 use Rattle.model_laws.proofs.Kept.{kept_refl, stays_refl, stays_rescind, stays_trans}
 
--- an outcome whose objects, and the capability that it gives, stay in a set
+-- an outcome of an order whose objects, and given capability, stay within a set
 abbrev pub OutcomeStays : (ℕ → Bool) → List Object → OrderOutcome → Type 0
 OutcomeStays inside os o = StaysWithin inside os o.objects × StaysInside inside o.capability
 
@@ -53,13 +53,13 @@ module _ (g : Geometry) (inside : ℕ → Bool) (os : List Object) (h : IsNow g 
   refused_stays : (why : ResultCode) → OutcomeStays inside os (refused os why)
   refused_stays why = (stays_refl inside os k, inl tt)
 
-  -- what a bank inside owns is inside
+  -- each object that a member bank owns is a member
   owner_inside : (n : ℕ) → is_free (content_at os n) ≡ false → IsTrue (inside (owner_at os n)) → IsTrue (inside n)
   owner_inside n used is = k.closed.owned (owner_at os n) n is (tree.owners n (λ gone. false≢true (sym used ∙ gone))) used refl
 
   -- new objects
 
-  -- each object is as it was, or a member whose content has authority over members alone
+  -- each object is unchanged, or a member whose content has authority only over members
   changed_stays : (us : List Object) → ((n : ℕ) → (object_at us n ≡ object_at os n)
       ⊎ (IsTrue (inside n) × IsFresh inside (content_at us n))) → StaysWithin inside os us
   changed_stays us each = record {
@@ -99,12 +99,12 @@ module _ (g : Geometry) (inside : ℕ → Bool) (os : List Object) (h : IsNow g 
   abbrev IsUnused : ℕ → Type 0
   IsUnused n = (n < length os) × IsTrue (is_free (content_at os n))
 
-  -- each free number of a range of objects is one
+  -- each number in a list of free numbers is free
   unused_at : (from count : ℕ) → from + count ≤ length os → (ns : List ℕ) → are_free os (range_with_len from count) ≡ ns → (n : ℕ) →
       is_member ns n ≡ true → IsUnused n
   unused_at from count fits ns e n member = grind (arith, nat_tests, found_in)
 
-  -- one new object
+  -- making one new object
   new_stays : (n b : ℕ) (c : Content Capability) → IsUnused n → IsFresh inside c → StaysWithin inside os (with_new os n b c)
   new_stays n b c unused fresh = changed_stays (with_new os n b c) (λ x. elim (cases_eq x n) [
     | inl e ↦ rw e (inr (k.free n unused.1, subst (λ (o : Object). IsFresh inside o.content) (sym (at_new os n b c unused.0)) fresh))
@@ -120,7 +120,7 @@ module _ (g : Geometry) (inside : ℕ → Bool) (os : List Object) (h : IsNow g 
       let unused : IsUnused n = unused_at from count fits (n ∷ ns) e n (member_head n n ns refl) in
       (new_stays n b c unused fresh, stays n (k.free n unused.1))
 
-  -- a new process: a root and its annex
+  -- making a new process: a root and its annex
   process_stays : (p a b : ℕ) → p ≢ a → IsUnused p → IsUnused a → StaysWithin inside os
       (with_new (with_new os p b (new_root a)) a b new_annex)
   process_stays p a b apart root annex =
@@ -133,9 +133,9 @@ module _ (g : Geometry) (inside : ℕ → Bool) (os : List Object) (h : IsNow g 
         | inr no_annex ↦ grind (arith, nat_tests, fresh_root, at_other)
       ])
 
-  -- what a bank gives up
+  -- giving up objects of a bank
 
-  -- what goes is inside
+  -- a rescind of members stays within the set
   gone_stays : (set : List ℕ) → ((n : ℕ) → is_member set n ≡ true → IsTrue (inside n)) → StaysWithin inside os (rescind set os)
   gone_stays set within = stays_rescind inside os set k within
 
@@ -144,12 +144,12 @@ module _ (g : Geometry) (inside : ℕ → Bool) (os : List Object) (h : IsNow g 
   freed_stays b (n ∷ ns) within = chosen (OutcomeStays inside os) (owner_at os n == b) _ _ (λ _. (gone_stays (n ∷ ns) within, inl tt))
       (λ _. refused_stays code.NotFromThisBank)
 
-  -- what a capability frees that stays inside is inside
+  -- the objects that a capability frees are members if the capability stays inside
   freed_inside : (c : Capability) → NamesItsKind os c → StaysInside inside c → (n : ℕ) → is_member (freed_by os c) n ≡ true →
       IsTrue (inside n)
   freed_inside c names within n member = grind (arith, nat_tests)
 
-  -- a bank whose chain passes through one inside is inside
+  -- a bank whose chain contains a member is a member
   above_inside : (b : ℕ) → IsTrue (inside b) → (c : ℕ) → IsTrue (is_bank (content_at os c)) → is_member (chain os c) b ≡ true →
       IsTrue (inside c)
   above_inside b is =
@@ -168,7 +168,7 @@ module _ (g : Geometry) (inside : ℕ → Bool) (os : List Object) (h : IsNow g 
     | inr below ↦ grind (arith, nat_tests, owner_inside, above_inside, tree)
   ]
 
-  -- what a bank owned is transferred, and nothing else changes
+  -- transferring the objects of a bank, with nothing else changed
   module _ (b : ℕ) (kind : IsTrue (is_bank (content_at os b))) (on : b ≢ 0) (is : IsTrue (inside b)) where
     transferred : (n : ℕ) → (object_at (inherited os b) n ≡ object_at os n) ⊎ IsTrue (inside n)
     transferred n = grind (arith, nat_tests, inherited_object, tree, owner_inside)
@@ -186,7 +186,7 @@ module _ (g : Geometry) (inside : ℕ → Bool) (os : List Object) (h : IsNow g 
       )
     ])
 
-  -- each order of a bank
+  -- the orders of a bank
 
   module _ (b : ℕ) (args : Arguments) (kind : IsTrue (is_bank (content_at os b))) (is : IsTrue (inside b)) where
     page_made_stays : OutcomeStays inside os (on_bank g os b bank.NewPage args)

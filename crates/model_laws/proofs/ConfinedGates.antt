@@ -31,7 +31,7 @@ deliver_stays inside os p m h is root sent =
     stays_trans inside os us (with_slots_from us old.annex 28 m.capabilities) first
     (stays_slots inside us old.annex 28 m.capabilities first.encloses annex sent)
 
--- what an invocation sends
+-- the capabilities that an invocation sends
 
 map_stays : (inside : ℕ → Bool) (f : ℕ → Capability) (rs : List ℕ) (j : ℕ) → ((r : ℕ) → StaysInside inside (f r))
     → StaysInside inside (slice_index_or (map f rs) j Void)
@@ -123,7 +123,7 @@ replied_stays inside i o h is given =
     deliver_stays inside o.objects i.process (reply_of o) h is
     (and_parts (is_process o.objects i.process) (is_running (state_at o.objects i.process)) runs).0 (λ j. reply_stays inside o j given))
 
--- what is held before the invoker's state changes is held after it
+-- a capability that may be held before the invoker's state changes may be held afterwards
 held_ready : (g : Geometry) (inside : ℕ → Bool) (os us : List Object) (c : Capability) → IsReady g inside os us → IsHeld os (Waits os) c →
     IsHeld us (Waits us) c
 held_ready g inside os us c ready held = held_on os us (Waits os) (Waits us) c ready.after.frame ready.after.waits held
@@ -164,6 +164,6 @@ invoked_stays g inside os i e h by =
     (λ q has. resume_stays g inside os i q h by (strong inside q has.1) has.0.names.0)
     (kernel_stays g inside os i h by)
 
--- an invocation by a process of a set that encloses its members stays in it
+-- an invocation by a process of a set that encloses its members stays within the set
 pub invocation_confined : InvocationIsConfined
 invocation_confined g w i e inside sound fits runs h is done = search (arith, nat_tests, invoked_stays, nearly_from)

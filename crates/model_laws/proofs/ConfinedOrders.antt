@@ -27,7 +27,7 @@ refused_stays inside os h = still inside os Void h (void_stays inside)
 
 -- accesses
 
--- what may be written through a capability that stays is a member
+-- an object that may be written through a capability that stays inside is a member
 writes : (inside : ℕ → Bool) (o : ℕ) (a : Access) → (a.0 ≡ 3) ⊎ IsTrue (inside o) → not (a.0 == 0) ≡ false → IsTrue (inside o)
 writes inside o a is e = grind (arith, nat_tests)
 
@@ -97,7 +97,7 @@ process_stays inside os p process.SetSpace args h is root sent =
     (λ _. refused_stays inside os h)
 process_stays inside os p which args h is root sent = grind (arith, nat_tests, chosen, still, refused_stays)
 
--- what can't be weak and stays inside names a member
+-- a capability that can't be weak and stays inside names a member
 pub strong : (inside : ℕ → Bool) (n : ℕ) → ⊥ ⊎ IsTrue (inside n) → IsTrue (inside n)
 strong inside n is = grind (arith, nat_tests)
 

@@ -19,7 +19,7 @@ use Rattle.model.specs.declared.object.Content.TheVariants as content
 use Rattle.model_laws.proofs.ConfinedGates.{invocation_confined}
 use Rattle.model_laws.proofs.Kept.{stays_refl, stays_trans, stays_word}
 
--- a closed set with what is free encloses it
+-- a closed set, together with all free numbers, encloses its members
 encloses_free : (inside : ℕ → Bool) (os : List Object) → IsClosed os inside → Encloses (with_free os inside) os
 encloses_free inside os h = grind (arith, nat_tests)
 
@@ -44,7 +44,7 @@ content_alike f k (content.Root r) slots space = grind (arith, nat_tests)
 content_alike f k (content.Annex cs) slots space = ap content.Annex (map_alike f k cs slots)
 content_alike f k c slots space = refl
 
--- in a sound world no capability that goes names what was free
+-- in a sound world no capability that is made void names a number that was free
 kept_inside : (g : Geometry) (os : List Object) (age : ℕ) (inside : ℕ → Bool) (n : ℕ) (new : Object) →
     IsSound g (record { objects = os; age = age }) → IsKept (with_free os inside) (object_at os n) new → IsKept inside (object_at os n) new
 kept_inside g os age inside n new sound k = (
@@ -61,9 +61,9 @@ kept_inside g os age inside n new sound k = (
     alike : (c : Capability) → NamesItsKind os c → void_where k.0 c ≡ void_where goes c
     alike c kind = grind (arith, nat_tests)
 
--- what a store reaches
+-- the pages that stores reach
 
--- what is reached below a space, with the restrictions on the way
+-- a page reached below a space, with the restrictions on the way to it
 record IsBelow (a : Access) (rest : Result (ℕ × Access) MemoryFault) (found : ℕ × Access) : Type 0 where
   next : ℕ × Access
   is : rest ≡ Ok next
@@ -124,7 +124,7 @@ record IsWithin (g : Geometry) (inside : ℕ → Bool) (os : List Object) (s : R
   sound : IsSound g s.now
   stays : StaysWithin inside os s.now.objects
 
--- the same of any machine; nothing is said of one that is down
+-- the same for any machine; a machine that is down has nothing to satisfy
 abbrev MachineWithin : Geometry → (ℕ → Bool) → List Object → Machine → Type 0
 MachineWithin g inside os (Up s) = IsWithin g inside os s
 MachineWithin g inside os (Down saved) = Unit {0}
@@ -179,14 +179,14 @@ store_keeps g inside os s p address value (Err why) is in_p fits h = h
 abbrev IsTurnBy : (ℕ → Bool) → Turn → Type 0
 IsTurnBy inside t = (l : Line) → Says t.line l → IsLineBy inside l
 
--- what is answered, by the refusal
+-- the answer to a command, by the refusal if there is one
 abbrev IsAnswer : Geometry → Running → Command → Answer → Machine → Option Refusal → Type 0
 IsAnswer g s c a after refused = elim refused [
   | Some why ↦ (a ≡ answer.Refused why) × (after ≡ Up s)
   | None ↦ (a ≡ (carried_out g s c).answer) × (after ≡ Up (carried_out g s c).after)
 ]
 
--- so that one that is down stays so
+-- so a machine that is down stays so
 down_keeps : (g : Geometry) (inside : ℕ → Bool) (os : List Object) (saved : List Saved) (c : Command) (a : Answer) (after : Machine)
     → IsBy inside c → Step g (Down saved) c a after → MachineWithin g inside os after
 down_keeps g inside os saved c a after by is = grind (arith, nat_tests)

@@ -9,7 +9,7 @@ use Rattle.model_laws.proofs.SoundWorlds.{Each, each_after, each_at, holds_set, 
 use Rattle.model_laws.proofs.Rows.{IsRight, machine, rows_hold}
 use Rattle.model.specs.declared.object.Content.TheVariants as content
 
--- what holds of each member
+-- a property of each member
 members : (P : ℕ → Type 0) → P 3 → P 4 → P 6 → (n : ℕ) → IsTrue (confined n) → P n
 members P root annex bank zero inside = cc
 members P root annex bank (suc zero) inside = cc

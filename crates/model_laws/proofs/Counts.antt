@@ -4,7 +4,7 @@ use Rattle.model_laws.proofs.Names.{enumerate_from, cases_eq, eq-eqb, ne_eqb, su
 use Rattle.std.proofs.Common.{◌≡◌, ◌+◌, ◌==◌, ◌<◌, ◌≤◌, ◌&&◌, ◌∷◌, ◌∙◌}
 use Rattle.std.specs.Prelude.{if◌then◌else◌}
 
--- two counts add up to a third where they do at each number
+-- two counts add up to a third if they do so at each number
 pub count_both : {X : Type 0} (p q r : ℕ × X → Bool) (k : ℕ) (xs ys : List X) (d : X) → length ys ≡ length xs
     → ((i j : ℕ) → j ≡ k + i → cond (p (j, get_or ys i d)) 1 0 + cond (q (j, get_or xs i d)) 1 0 ≡ cond (r (j, get_or xs i d)) 1 0)
     → count_by p (enumerate_from k ys) + count_by q (enumerate_from k xs) ≡ count_by r (enumerate_from k xs)
@@ -40,7 +40,7 @@ none_before {X} m k (x ∷ xs) e =
     rw (sum_by-cons (λ (z : ℕ × X). cond (z.0 == m) 1 0) (k, x) (enumerate_from (k + 1) xs), ne_eqb k m (λ same. omega (arith, e, same)))
     (zero-add _ ∙ none_before m (k + 1) xs (omega (arith, e)))
 
--- one number
+-- counting one number
 pub one_within : {X : Type 0} (m k : ℕ) (xs : List X) → k ≤ m → m < k + length xs → count_by (λ p. p.0 == m) (enumerate_from k xs) ≡ 1
 one_within m k [] from below = absurd (omega (arith, from, below))
 one_within {X} m k (x ∷ xs) from below =
@@ -50,7 +50,7 @@ one_within {X} m k (x ∷ xs) from below =
       | inr other ↦ rw (ne_eqb k m other) (zero-add _ ∙ one_within m (k + 1) xs (grind (arith, from, other)) (omega (arith, below)))
     ])
 
--- one number, where something holds
+-- counting one number if a condition holds
 pub count_where : {X : Type 0} (m : ℕ) (b : Bool) (xs : List X) (d : X) → m < length xs
     → count_by (λ p. (p.0 == m) && b) (enumerate_from 0 xs) ≡ (if b then 1 else 0)
 count_where {X} m true xs d below =

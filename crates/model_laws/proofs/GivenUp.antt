@@ -20,12 +20,12 @@ use Rattle.model_laws.proofs.SoundOrders.{IsNow}
 use Rattle.model_laws.proofs.SoundParts.{nearly_from}
 use Rattle.model_laws.proofs.Usage.{SameFrame, tests_at}
 
--- where what was there stays there, nothing is rescinded
+-- if no object that was in use becomes free, nothing is given up
 pub none_given_up : (os us : List Object) (n : ℕ) → (is_free (content_at os n) ≡ false → is_free (content_at us n) ≡ false) →
     is_given_up os us n ≡ false
 none_given_up os us n stays = grind (arith, nat_tests)
 
--- what is rescinded is free, and all else as it was
+-- after a rescind the members are free, and all else as before
 pub free_rescinded : (set : List ℕ) (os : List Object) (n : ℕ) →
     is_free (content_at (rescind set os) n) ≡ (if is_member set n then true else is_free (content_at os n))
 free_rescinded set os n = elim (cases_Bool (is_member set n)) [
@@ -33,7 +33,7 @@ free_rescinded set os n = elim (cases_Bool (is_member set n)) [
   | inr e ↦ rw e ((kept_tests os set n e).free)
 ]
 
--- what was there is rescinded where it is rescinded, and only there
+-- a rescind gives up exactly the members, if all of them were in use
 pub rescinded_given_up : (set : List ℕ) (os : List Object) → ((n : ℕ) → is_member set n ≡ true → is_free (content_at os n) ≡ false)
     → (n : ℕ) → is_given_up os (rescind set os) n ≡ is_member set n
 rescinded_given_up set os used n = grind (arith, nat_tests, free_rescinded)
@@ -44,11 +44,11 @@ pub new_used : (os : List Object) (n b : ℕ) (c : Content Capability) → is_fr
 unfolding with_new
 new_used os n b c some m used = grind (arith, nat_tests, get_or-set_other, get_or-set_same, used_within)
 
--- nothing is rescinded in the same frame
+-- between objects of the same frame nothing is given up
 pub none_in_frame : (os us : List Object) → SameFrame os us → (n : ℕ) → is_given_up os us n ≡ false
 none_in_frame os us frame n = none_given_up os us n (λ used. (tests_at os us frame n).free ∙ used)
 
--- what an order gives up of the objects, where it would rescind a list
+-- an order gives up exactly a list if it is done, and nothing otherwise
 abbrev GivesUp : List Object → ℕ → List ℕ → OrderOutcome → Type 0
 GivesUp os n list o = (o.code ≡ code.Done → is_given_up os o.objects n ≡ is_member list n)
     × ((o.code ≡ code.Done → ⊥) → is_given_up os o.objects n ≡ false)
@@ -71,12 +71,12 @@ module _ (os : List Object) (n : ℕ) where
       → GivesUp os n set (if b == 0 then refused os code.PrimeBank else made (rescind set vs) written Void)
   ended_gives b vs set written same used = grind (arith, nat_tests, chosen, by_none, rescinded_given_up)
 
--- what a capability frees was there
+-- each object that a capability frees was in use
 freed_used : (g : Geometry) (os : List Object) (c : Capability) → IsNow g os → NamesItsKind os c → (list : List ℕ) → freed_by os c ≡ list
     → (n : ℕ) → is_member list n ≡ true → is_free (content_at os n) ≡ false
 freed_used g os c h names list frees n member = grind (arith, nat_tests)
 
--- what an order of a bank gives up
+-- the objects that an order of a bank gives up
 pub order_gives_up : (g : Geometry) (os : List Object) (b : ℕ) (requested : BankOrder) (args : Arguments) (n : ℕ) → IsNow g os →
     IsTrue (is_bank (content_at os b)) → NamesItsKind os args.capability
     → GivesUp os n (rescinded_by os b requested args) (on_bank g os b requested args)
@@ -98,7 +98,7 @@ gives_up_rescinded g w b requested args n sound is held = order_gives_up g w.obj
 pub gives_up_nothing : GivesUpNothing
 gives_up_nothing g w i e n sound fits runs other done = search (arith, nat_tests, none_in_frame, invocation_frame, nearly_from)
 
--- where nothing is rescinded no number is renewed
+-- if nothing is given up, no number becomes renewed
 pub renewing_none : (renewed : List Bool) (os us : List Object) → ((n : ℕ) → is_given_up os us n ≡ false) → renewing renewed os us ≡ renewed
 unfolding renewing
 renewing_none renewed os us none =

@@ -101,7 +101,7 @@ bank_refused : (g : Geometry) (os : List Object) (b w : ℕ) (args : Arguments) 
 unfolding order
 bank_refused g os b w args is = grind (arith, nat_tests)
 
--- what isn't a bank's order: the frame stays
+-- an order that isn't a bank's keeps the frame
 pub order_frame : (g : Geometry) (W : ℕ → Type 0) (os : List Object) (c : Capability) (w : ℕ) (args : Arguments) → IsHeld os W c →
     IsNoBankOrder c w → SameFrame os (order g os c w args).objects
 unfolding order
@@ -175,7 +175,7 @@ pub state_now : (g : Geometry) (os : List Object) (p : ℕ) → IsNow g os → I
     → IsNow g (with_state os p Available)
 state_now g os p h is runs = (after_state g os p Available h (rw (is, runs) refl)).now
 
--- and a sound world of the same age stays sound
+-- a sound world with a process in another state, at the same age, stays sound
 pub state_sound : (g : Geometry) (os : List Object) (p age : ℕ) → IsSound g (record { objects = os; age = age }) → IsTrue (is_process os p)
     → IsTrue (is_running (state_at os p)) → IsSound g (record { objects = with_state os p Available; age = age })
 state_sound g os p age h is runs = search (arith, nat_tests, nearly_to, state_now, nearly_from)

@@ -12,7 +12,7 @@ use Rattle.model_laws.proofs.SoundEdits.{at_content, at_set}
 use Rattle.model_laws.proofs.SoundEdits.{object_consume}
 use Rattle.model.specs.declared.object.Content.TheVariants as content
 
--- a content that may stand at a member of a set: it makes no bank of what was none
+-- a content that may be put at a member of a set: it is not a bank unless a bank was there
 pub record MayStand (inside : ℕ → Bool) (os : List Object) (n : ℕ) (c : Content Capability) : Type 0 where
   pub annex : is_root c ≡ true → IsTrue (inside (root_in c).annex)
   pub bank : is_bank c ≡ true → is_bank (content_at os n) ≡ true
@@ -28,7 +28,7 @@ map_same (c ∷ cs) = ap (λ ds. c ∷ ds) (map_same cs)
 content_same : (c : Content Capability) → c ≡ map_content (void_where (λ c. false)) c
 content_same c = grind (arith, nat_tests, map_same)
 
--- what goes first or second
+-- a test that either of two tests makes true
 abbrev either : (Capability → Bool) → (Capability → Bool) → Capability → Bool
 either first second c = first c || second c
 
@@ -61,7 +61,7 @@ kept_trans inside o p q a b = grind (arith, nat_tests, content_twice)
 pub stays_refl : (inside : ℕ → Bool) (os : List Object) → Encloses inside os → StaysWithin inside os os
 stays_refl inside os h = record { encloses = h; kept = λ n out. kept_refl inside (object_at os n) }
 
--- two changes within a set are one
+-- two changes within a set, one after the other, are a change within the set
 pub stays_trans : (inside : ℕ → Bool) (os us vs : List Object) → StaysWithin inside os us → StaysWithin inside us vs →
     StaysWithin inside os vs
 stays_trans inside os us vs a b = record {
@@ -85,7 +85,7 @@ kept_content inside os n c in_n m =
     at_set (λ k o. inside k ≡ false → IsKept inside (object_at os k) o) os n m (record { owner = owner_at os n; content = c }) free
     (λ out. absurd (let both : false ≡ true = sym out ∙ in_n in cc)) (λ out. kept_refl inside (object_at os m))
 
--- a content that may stand at a member
+-- putting such a content at a member changes objects only within the set
 pub stays_content : (inside : ℕ → Bool) (os : List Object) (n : ℕ) (c : Content Capability) → Encloses inside os → IsTrue (inside n)
     → MayStand inside os n c → StaysWithin inside os (with_content os n c)
 stays_content inside os n c h in_n may = record {
@@ -106,7 +106,7 @@ stays_content inside os n c h in_n may = record {
   kept = λ m out. kept_content inside os n c in_n m out;
 }
 
--- what stands at a member may stand there
+-- the content of a member may be put back there
 may_stay : (inside : ℕ → Bool) (os : List Object) (n : ℕ) → Encloses inside os → IsTrue (inside n) → MayStand inside os n (content_at os n)
 may_stay inside os n h in_n = grind (arith, nat_tests)
 
@@ -170,7 +170,7 @@ unfolding with_state
 stays_state inside os p s h in_p is =
     stays_root inside os p (record (root_at os p) { state = s }) h in_p (h.closed.annexes p in_p is) (h.closed.spaces p in_p)
 
--- what is put void
+-- making capabilities void
 
 stays_void : (inside : ℕ → Bool) (goes : Capability → Bool) (c : Capability) → StaysInside inside c → StaysInside inside (void_where goes c)
 stays_void inside goes c stays = one_of (StaysInside inside) (goes c) Void c (inl tt) stays

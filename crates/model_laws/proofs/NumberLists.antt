@@ -19,12 +19,12 @@ no_member m ms n other none = or_from (nat_eq n m) (is_member ms n) (ne_eqb n m 
 pub only_member : (o n : ℕ) → is_member (o ∷ []) n ≡ true → n ≡ o
 only_member o n e = elim (member_cases o [] n e) [ inl same ↦ same | inr later ↦ absurd (false≢true later) ]
 
--- what holds of each member holds at each place
+-- a property of each member of a list holds at each place
 pub all_members : (P : ℕ → Type 0) (xs : List ℕ) → ((n : ℕ) → is_member xs n ≡ true → P n) → All P xs
 all_members P xs each k d within = each (get_or xs k d) (list_any_at (nat_eq (get_or xs k d)) xs k d within
     (eq-eqb (get_or xs k d) (get_or xs k d) refl))
 
--- what passes a test among the numbers from a on
+-- the numbers from a on that pass a test
 
 pub found_in : (f : ℕ → Bool) (a count n : ℕ) → is_member (filter f (range_with_len a count)) n ≡ true →
     (a ≤ n) × (n < a + count) × (f n ≡ true)

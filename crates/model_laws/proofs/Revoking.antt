@@ -12,14 +12,14 @@ module _ (goes : Capability → Bool) (void_stays : goes Void ≡ false) where
   gone : (c : Capability) → goes (void_where goes c) ≡ false
   gone c = chosen (λ k. goes k ≡ false) (goes c) Void c (λ _. void_stays) (λ e. e)
 
-  -- no slot and no address space of an object without them holds one that goes
+  -- after the change no slot and no address space of the object holds such a capability
   pub gone_from_slot : (o : Object) (i : ℕ) → goes (slice_index_or (slots_in (without goes o).content) i Void) ≡ false
   gone_from_slot o i = ap goes ((without_mapped goes o).slot (void_void goes) i) ∙ gone (slice_index_or (slots_in o.content) i Void)
 
   pub gone_from_space : (o : Object) → goes (root_in (without goes o).content).space ≡ false
   gone_from_space o = ap goes ((without_mapped goes o).space (void_void goes)) ∙ gone (root_in o.content).space
 
--- what stands at a number after a consume
+-- the object at a number after a consume
 pub consumes_all : ConsumesAll
 consumes_all p os = grind (arith, nat_tests, object_consume, gone_from_slot, gone_from_space)
 
@@ -27,7 +27,7 @@ consumes_all p os = grind (arith, nat_tests, object_consume, gone_from_slot, gon
 abbrev after_rescind : List ℕ → ℕ × Object → Object
 after_rescind set p = if is_member set p.0 then free else without (names_member set) p.1
 
--- what is free stays so
+-- a free object stays free
 free_stays : (set : List ℕ) (n : ℕ) → free ≡ after_rescind set (n, free)
 free_stays set n = one_of (λ o. free ≡ o) (is_member set n) free _ refl refl
 
@@ -39,7 +39,7 @@ at_rescind_from set (o ∷ os) k (suc n) =
     let same : k + 1 + n ≡ k + suc n = omega arith in
     at_rescind_from set os (k + 1) n ∙ ap (λ j. after_rescind set (j, object_at os n)) same
 
--- what stands at a number after a rescind
+-- the object at a number after a rescind
 pub at_rescind : (set : List ℕ) (os : List Object) (n : ℕ) →
     object_at (rescind set os) n ≡ (if is_member set n then free else without (names_member set) (object_at os n))
 unfolding rescind

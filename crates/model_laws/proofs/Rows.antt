@@ -70,7 +70,7 @@ fits_holds (command.Migrate n) e = one_below (2 ^ 64) n e
 fits_holds (command.Journal n) e = one_below (2 ^ 64) n e
 fits_holds c e = tt
 
--- the command in the words of a line, and whether it is spelled and answered so
+-- the command in the words of a line; whether the line is its spelling, and its answer right
 abbrev pub said : String × String → Command
 said line = command_of (split (codes line.0))
 
@@ -79,7 +79,7 @@ is_right s line =
     fits (said line)
     && (bytes_eq (codes line.0) (spelling (said line)) && bytes_eq (line_of (codes line.1)) (printed (answered s (said line)).answer))
 
--- the lines of a script that are wrong: an error shows them
+-- the lines of a script with wrong answers, which an error message shows
 abbrev pub added_unless : Bool → String × String → List (String × String) → List (String × String)
 added_unless true line lines = lines
 added_unless false line lines = line ∷ lines

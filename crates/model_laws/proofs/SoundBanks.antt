@@ -22,7 +22,7 @@ use Rattle.model_laws.proofs.BankUsage.{usage_new, usage_new_bank}
 use Rattle.model_laws.proofs.BankRescind.{IsAsBefore, held_as_before, used_where}
 use Rattle.model_laws.proofs.BankReturn.{freed_keeps, destroyed_keeps, returned_keeps}
 
--- objects among which new ones stand where some were free
+-- objects after new ones were made at free numbers
 record IsGrown (g : Geometry) (os us : List Object) : Type 0 where
   size : length us ≡ length os
   kept : (n : ℕ) → is_free (content_at os n) ≡ false → object_at us n ≡ object_at os n
@@ -39,7 +39,7 @@ record IsGrown (g : Geometry) (os us : List Object) : Type 0 where
       (p : ℕ) × IsTrue (is_process us p) × (annex_at us p ≡ a)
 
 module _ (g : Geometry) (os us : List Object) (h : IsNow g os) (k : IsGrown g os us) where
-  -- what holds of new objects where they stand, and of old ones, holds of all
+  -- a property of the new objects at their numbers, and of the old ones, holds of all
   at_each : (P : ℕ → Object → Type 0) → ((n : ℕ) → IsTrue (is_free (content_at os n)) → P n (object_at us n))
       → ((n : ℕ) → is_free (content_at os n) ≡ false → P n (object_at os n)) → (n : ℕ) → P n (object_at us n)
   at_each P new old n = elim (cases_Bool (is_free (content_at os n))) [
@@ -71,7 +71,7 @@ module _ (g : Geometry) (os us : List Object) (h : IsNow g os) (k : IsGrown g os
     ]
   ]
 
-  -- what names an old object may be held still
+  -- a capability that names an old object may still be held
   held_where : (c : Capability) (o : ℕ) → named c ≡ Some o → is_free (content_at os o) ≡ false → IsHeld os (Waits os) c →
       IsHeld us (Waits us) c
   held_where c o names old =
@@ -84,7 +84,7 @@ module _ (g : Geometry) (os us : List Object) (h : IsNow g os) (k : IsGrown g os
       same : (m n : ℕ) → Some m ≡ Some n → m ≡ n
       same m n e = cc
 
-  -- what may be held may be held still
+  -- a capability that may be held before may still be held
   held_grown : (c : Capability) → IsHeld os (Waits os) c → IsHeld us (Waits us) c
   held_grown (Page o a) held = held_where (Page o a) o refl (used_where is_page refl (content_at os o) held.names) held
   held_grown (Node o a) held = held_where (Node o a) o refl (used_where is_node refl (content_at os o) held.names) held
@@ -107,7 +107,7 @@ module _ (g : Geometry) (os us : List Object) (h : IsNow g os) (k : IsGrown g os
         is_space = f.is_space;
       }
 
-  -- sound objects stay sound with new ones in their places
+  -- sound objects stay sound with new ones at free numbers
   grown_now : IsNow g us
   grown_now = record {
     frame = record {
@@ -163,7 +163,7 @@ free_filled us W c e = grind (arith, nat_tests)
 
 -- quotas and free numbers
 
--- what passes for all passes for a member
+-- a test that all members pass is passed by each member
 pub member_passes : (test : ℕ → Bool) (xs : List ℕ) (x : ℕ) → list_all test xs ≡ true → is_member xs x ≡ true → test x ≡ true
 member_passes test [] x all member = cc
 member_passes test (y ∷ ys) x all member =
@@ -173,7 +173,7 @@ member_passes test (y ∷ ys) x all member =
       | inr differ ↦ member_passes test ys x parts.1 (sym (member_tail x y ys differ) ∙ member)
     ]
 
--- where the quota allows it, no bank of the chain passes its limit
+-- if the quota allows a new object, it makes no usage in the chain exceed its limit
 spare_body_at : (os : List Object) (b count x : ℕ) → has_quota os b count ≡ true → is_member (chain os b) x ≡ true →
     usage os x + count ≤ limit_in (content_at os x)
 unfolding has_quota
@@ -212,11 +212,11 @@ module _ (os : List Object) (from count : ℕ) where
       (range_with_len from count) range_rises) in
       ((inside.0, inside.1, gone), rises 0 1 0 (omega arith) (omega arith))
 
--- one new object, which is no process and no annex
+-- one new object, which is neither a root nor an annex
 module _ (g : Geometry) (os : List Object) (n b : ℕ) (c : Content Capability) (h : IsNow g os) (bank : IsTrue (is_bank (content_at os b)))
     (inside : n < length os)
     (unused : IsTrue (is_free (content_at os n))) (used : is_free c ≡ false) (short : IsTrue (is_bank c) → length (chain os b) < 16) where
-  -- what holds of it and of the others where they stand holds of all
+  -- a property of the new object, and of the others at their numbers, holds of all
   one_at : (P : ℕ → Object → Type 0) → P n (record { owner = b; content = c }) → ((x : ℕ) → x ≢ n → P x (object_at os x)) → (x : ℕ) →
       P x (object_at (with_new os n b c) x)
   one_at P new old x = grind (arith, nat_tests, at_new, at_other)
@@ -294,7 +294,7 @@ module _ (g : Geometry) (os : List Object) (p a b : ℕ) (h : IsNow g os) (bank 
   old_there : (x : ℕ) → x ≢ a → x ≢ p → object_at whole x ≡ object_at os x
   old_there x no_annex no_root = at_other rooted a b new_annex x no_annex ∙ at_other os p b (new_root a) x no_root
 
-  -- what holds of both where they stand, and of what was there, holds of all
+  -- a property of both new objects at their numbers, and of the old ones, holds of all
   two_at : (P : ℕ → Object → Type 0) → P p (record { owner = b; content = new_root a }) → P a (record { owner = b; content = new_annex })
       → ((x : ℕ) → P x (object_at os x)) → (x : ℕ) → P x (object_at whole x)
   two_at P root annex old x = grind (arith, nat_tests, annex_there, root_there, old_there)
@@ -319,7 +319,7 @@ module _ (g : Geometry) (os : List Object) (p a b : ℕ) (h : IsNow g os) (bank 
         spare_body_at,
       )
 
-  -- the one new process
+  -- the only new process
   only_process : (q : ℕ) → IsTrue (is_free (content_at os q)) → IsTrue (is_process whole q) → q ≡ p
   only_process = two_at (λ q o. IsTrue (is_free (content_at os q)) → IsTrue (is_root o.content) → q ≡ p) (λ gone is. refl) (λ gone is. cc)
       (λ q gone is. let both : true ≡ false = sym gone ∙ used_where is_root refl (content_at os q) is in cc)
@@ -360,12 +360,12 @@ module _ (g : Geometry) (os : List Object) (p a b : ℕ) (h : IsNow g os) (bank 
       apart : (x n : ℕ) → x ≡ n → IsTrue (is_free (content_at os n)) → is_free (content_at os x) ≡ false → ⊥
       apart x n e gone old = let both : true ≡ false = sym gone ∙ (ap (λ (m : ℕ). is_free (content_at os m)) (sym e) ∙ old) in cc
 
--- each order of a bank
+-- the orders of a bank
 
 module _ (g : Geometry) (os : List Object) (b : ℕ) (args : Arguments) (h : IsNow g os) (is : IsTrue (is_bank (content_at os b)))
     (fits : AreArguments os args)
   where
-    -- one that writes objects and gives a capability
+    -- an order that writes objects and gives a capability
     made_keeps : (us : List Object) (written : List ℕ) (c : Capability) → IsNow g us → IsHeld us (Waits us) c →
         IsOutcome g (made us written c)
     made_keeps us written c now held = let k = given_keeps g us c now held in
@@ -454,7 +454,7 @@ module _ (g : Geometry) (os : List Object) (b : ℕ) (args : Arguments) (h : IsN
     least_below n [] = omega arith
     least_below n (m ∷ ms) = omega (arith, least_below (min n m) ms)
 
-    -- what is left
+    -- the order for what remains
     pub remaining_keeps : IsOutcome g (on_bank g os b bank.Remaining args)
     unfolding on_bank remaining
     remaining_keeps = grind (arith, nat_tests, three_words, least_below, held_void)

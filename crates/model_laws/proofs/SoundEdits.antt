@@ -9,12 +9,12 @@ use Rattle.model_laws.proofs.Usage.{AreAlike, SameFrame, alike_refl, frame_trans
 use Rattle.model_laws.proofs.Mapped.{alike_without, at_map, mapped}
 use Rattle.model_laws.proofs.SoundParts.{IsHeld, IsFilled, IsNearlySound, state_at, nearly_on, held_void}
 
--- what holds of the new item at its place and of an old item at another holds after a set
+-- a property of the new item, and of the old items at other places, holds after a set
 pub at_set : {X : Type 0} (P : ℕ → X → Type 0) (xs : List X) (n m : ℕ) (x d : X) → P n x → P m (get_or xs m d) →
     P m (get_or (set xs n x) m d)
 at_set {X} P xs n m x d new old = grind (arith, nat_tests, get_or-set_other, get_or-set_same, set_past)
 
--- another content that is alike
+-- replacing a content by a similar one
 
 pub frame_content : (os : List Object) (n : ℕ) (c : Content Capability) → AreAlike (object_at os n)
     (record { owner = owner_at os n; content = c }) → SameFrame os (with_content os n c)
@@ -36,7 +36,7 @@ nearly_content g W os n c h a filled =
     nearly_on g W os (with_content os n c) (frame_content os n c a) h.frame
     (λ m. at_content (λ k d. IsFilled os W d) os n m c filled (h.filled m))
 
--- objects after edits that are as sound, and whose processes are in the same states
+-- objects after edits: they are as sound, and their processes have the same states
 pub record IsEdited (g : Geometry) (W : ℕ → Type 0) (os us : List Object) : Type 0 where
   pub frame : SameFrame os us
   pub sound : IsNearlySound g W us
@@ -167,7 +167,7 @@ pub root_other : (os : List Object) (p q : ℕ) (r : Root Capability) → q ≢ 
 unfolding with_root with_content
 root_other os p q r differ = grind (arith, nat_tests, get_or-set_other)
 
--- a root of the same state
+-- replacing a root by one of the same state
 pub edited_root : (g : Geometry) (W : ℕ → Type 0) (os : List Object) (p : ℕ) (r : Root Capability) → IsNearlySound g W os →
     IsRootOf os W p r → r.state ≡ state_at os p → IsEdited g W os (with_root os p r)
 edited_root g W os p r h fits e = record {
@@ -202,7 +202,7 @@ frame_consume p os = record {
   alike = λ n. rw (object_consume p os n) (alike_without (resumes p) (object_at os n));
 }
 
--- all but one
+-- all of these processes except one
 abbrev pub But : (ℕ → Type 0) → ℕ → ℕ → Type 0
 But W p q = W q × (q ≢ p)
 

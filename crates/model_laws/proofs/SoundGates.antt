@@ -20,7 +20,7 @@ use Rattle.model_laws.proofs.SoundOrders.{IsNow, IsOutcome, root_now, nearly_sta
 running_is_not_waiting : (s : State) → is_running s ≡ true → is_waiting s ≡ true → ⊥
 running_is_not_waiting s p q = grind (arith, nat_tests)
 
--- one that waits is not one that runs
+-- a process that waits is another than one that runs
 other_than_running : (os : List Object) (p x : ℕ) → IsTrue (is_running (state_at os p)) → Waits os x → x ≢ p
 other_than_running os p x runs waits e = running_is_not_waiting (state_at os p) runs (subst (λ k. Waits os k) e waits)
 
@@ -102,20 +102,20 @@ deliver_keeps g W os p m h is fits =
       others = λ q differ. e.states q ∙ ap (λ (r : Root Capability). r.state) (root_other os p q new differ);
     }
 
--- with none that waits started, all is sound
+-- if no waiting process was started, all is sound
 started_now : (g : Geometry) (os : List Object) (p : ℕ) (us : List Object) → IsStarted g (Waits os) os p us → (Waits os p → ⊥) → IsNow g us
 started_now g os p us s idle =
     nearly_weaken g (Waits os) (Waits us) us (λ x w. ap is_waiting (s.others x (λ e. idle (subst (λ k. Waits os k) e w))) ∙ w) s.sound
 
--- with a resumed process's resume capabilities consumed, all is sound
+-- if the resume capabilities of a resumed process were consumed, all is sound
 resumed_now : (g : Geometry) (os : List Object) (p : ℕ) (us : List Object) → IsStarted g (Waits os) os p us → IsNow g (consume p us)
 resumed_now g os p us s =
     nearly_weaken g (But (Waits os) p) (Waits (consume p us)) (consume p us)
     (λ x w. ap is_waiting (state_consume p us x ∙ s.others x w.1) ∙ w.0) (nearly_consume g (Waits os) p us s.sound)
 
--- what an invocation sends
+-- the words and capabilities that an invocation sends
 
--- each of words that fit is below 2^64
+-- if all words fit, each of them is below 2^64
 pub all_words : (xs : List ℕ) → All (λ w. w < 2 ^ 64) xs → (i : ℕ) → slice_index xs i < 2 ^ 64
 all_words xs all i = grind (arith, nat_tests, get_or_past)
 
@@ -125,7 +125,7 @@ held_map os W f [] j h = held_void os W
 held_map os W f (r ∷ rs) zero h = h r
 held_map os W f (r ∷ rs) (suc j) h = held_map os W f rs j h
 
--- what is sent may be held
+-- each capability that is sent may be held
 pub held_sent : (g : Geometry) (os : List Object) (i : Invocation) (j : ℕ) → IsNow g os →
     IsHeld os (Waits os) (get_or (sent_by os i) j Void)
 held_sent g os i j h = held_map os (Waits os) (register_at os i.process) i.sent j (λ r. (h.filled (annex_at os i.process)).slots r)
@@ -152,7 +152,7 @@ held_by g os p j cs Call is a h =
 held_by g os p j cs Return is a h = held_after g os (with_state os p Available) (get_or cs j Void) a h
 held_by g os p j cs Send is a h = h
 
--- what an invocation through a gate sends is a message
+-- the words and capabilities that are sent through a gate form a message
 gate_message : (g : Geometry) (os : List Object) (i : Invocation) (key : ℕ) → IsNow g os → Fits (command.Invoke i) →
     IsTrue (is_running_process os i.process) → key < 2 ^ 16 → IsMessage (after_gate os i) (Waits (after_gate os i))
     (record { words = i.words; key = key; capabilities = sent_to_gate os i })

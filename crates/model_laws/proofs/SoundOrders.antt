@@ -23,7 +23,7 @@ pub record IsOutcome (g : Geometry) (o : OrderOutcome) : Type 0 where
   pub words : (i : ℕ) → slice_index o.words i < 2 ^ 64
   pub held : IsHeld o.objects (Waits o.objects) o.capability
 
--- arguments as a process sends them
+-- arguments that a process may send
 pub record AreArguments (os : List Object) (args : Arguments) : Type 0 where
   pub first : args.first < 2 ^ 64
   pub second : args.second < 2 ^ 64
@@ -133,7 +133,7 @@ root_now g W os p h is =
       is_space = (h.filled p).is_space;
     }
 
--- with another state, where none but waiting processes may be resumed
+-- a process in another state, if only waiting processes may be resumed
 pub nearly_state : (g : Geometry) (W : ℕ → Type 0) (os : List Object) (p : ℕ) (s : State) → IsNearlySound g W os →
     IsTrue (is_process os p) → IsNearlySound g W (with_state os p s)
 unfolding with_state

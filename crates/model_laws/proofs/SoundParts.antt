@@ -5,20 +5,20 @@ use Rattle.model_laws.proofs.Names.{NamesItsKind, MayBeHeld, IsSound, object_cou
 use Rattle.std.proofs.Common.{◌≡◌, ◌≢◌, ◌^◌, ◌<◌, ◌≤◌, ◌∙◌}
 use Rattle.model_laws.proofs.Usage.{SameFrame, tests_at, frame_refl, chain_same, usage_same}
 
--- what a process does
+-- the state of a process
 abbrev pub state_at : List Object → ℕ → State
 state_at os p = (root_at os p).state
 
--- whether it waits
+-- whether a process waits
 abbrev pub Waits : List Object → ℕ → Type 0
 Waits os p = IsTrue (is_waiting (state_at os p))
 
--- what a capability names is of its kind, and a process that it resumes is one of some processes
+-- a capability names an object of its kind, and if it resumes a process, one of some processes
 abbrev pub NamesAmong : List Object → (ℕ → Type 0) → Capability → Type 0
 NamesAmong os W (Resume p) = IsTrue (is_process os p) × W p
 NamesAmong os W c = NamesItsKind os c
 
--- a capability that may be held, where those processes may be resumed
+-- a capability that may be held, where these processes may be resumed
 pub record IsHeld (os : List Object) (W : ℕ → Type 0) (c : Capability) : Type 0 where
   pub well_formed : IsWellFormed c
   pub names : NamesAmong os W c
@@ -57,7 +57,8 @@ held_from os c h = grind (arith, nat_tests)
 pub held_to : (os : List Object) (c : Capability) → IsHeld os (Waits os) c → MayBeHeld os c
 held_to os c h = grind (arith, nat_tests)
 
--- a capability may be held where what it names is of the same role, and may be resumed if it could
+-- a capability may be held among other objects if the object that it names has the same role, and may be resumed if
+-- it could
 pub held_alike : (os us : List Object) (W V : ℕ → Type 0) (c : Capability) →
     ((n : ℕ) → named c ≡ Some n → role_of (content_at us n) ≡ role_of (content_at os n))
     → ((p : ℕ) → named c ≡ Some p → W p → V p) → IsHeld os W c → IsHeld us V c
@@ -93,7 +94,7 @@ framed_on g os us s h =
       limits = λ b is. rw (usage_same os us s b, (s.alike b).limit) (h.limits b (sym (t b).bank ∙ is));
     }
 
--- objects of the same frame are as sound as what they hold
+-- objects with the same frame are as sound as the contents that they hold
 pub nearly_on : (g : Geometry) (W : ℕ → Type 0) (os us : List Object) → SameFrame os us → IsFramed g os
     → ((n : ℕ) → IsFilled os W (content_at us n)) → IsNearlySound g W us
 nearly_on g W os us s h filled = record {
@@ -108,7 +109,7 @@ nearly_weaken g W V os f h = record {
   filled = λ n. filled_on os os W V (content_at os n) (frame_refl os) f (h.filled n);
 }
 
--- sound is nearly sound where those that wait may be resumed
+-- a sound world is nearly sound, where waiting processes may be resumed
 pub nearly_from : (g : Geometry) (w : World) → IsSound g w → IsNearlySound g (Waits w.objects) w.objects
 nearly_from g w h = record {
   frame = grind (arith, nat_tests);

@@ -8,7 +8,7 @@ use Rattle.std.proofs.Common.{◌≡◌, ◌≢◌, ◌⊎◌, ◌+◌, ◌^◌,
 use Rattle.model.specs.declared.object.Content.TheVariants as content
 use Rattle.model_laws.proofs.SoundEdits.{at_set}
 
--- what is true of the elements of a list, and of what isn't there, stays so where a new one is put
+-- a property of all elements of a list, and of its default, holds after a set of an element that has it
 pub holds_set : {C : Type 0} (P : C → Type 0) (xs : List C) (i : ℕ) (c d : C) → P c → ((j : ℕ) → P (slice_index_or xs j d))
     → (j : ℕ) → P (slice_index_or (slice_set xs i c) j d)
 holds_set P xs i c d new old j = at_set (λ k x. P x) xs i j c d new (old j)
@@ -35,12 +35,12 @@ pub all_slots_length : length (all_slots Void) ≡ 32
 unfolding all_slots
 all_slots_length = refl
 
--- a fact of each object of a list and its number
+-- a property of each object of a list together with its number
 abbrev pub Each : (ℕ → Object → Type 0) → ℕ → List Object → Type 0
 Each P k [] = Unit {0}
 Each P k (o ∷ os) = P k o × Each P (k + 1) os
 
--- it is one of each number, where it is one of what is free
+-- such a property holds at each number, if it holds of free objects at all numbers
 pub each_at : (P : ℕ → Object → Type 0) (k : ℕ) (os : List Object) → Each P k os → ((m : ℕ) → P m free)
     → (n m : ℕ) → m ≡ k + n → P m (slice_index_or os n free)
 each_at P k [] each blank n m e = blank m
@@ -57,7 +57,7 @@ each_after P (suc m) k j os blank e each = (blank k, each_after P m (k + 1) j os
 abbrev AreRegisters : List Capability → Type 0
 AreRegisters registers = (length registers ≡ 32) × (slice_index_or registers 0 Void ≡ Void)
 
--- an object in its place among others, with such capabilities in its slots; a root is just before its annex
+-- an object in its place among others, whose slots hold such capabilities; an annex comes directly after its root
 record IsInPlace (g : Geometry) (os : List Object) (H : Capability → Type 0) (n : ℕ) (o : Object) : Type 0 where
   kind : IsOfKind g n o.content
   shape : HasShape o.content
@@ -74,7 +74,7 @@ record IsInPlace (g : Geometry) (os : List Object) (H : Capability → Type 0) (
   chains : IsTrue (is_bank o.content) → Contains (chain os n) 0
   limits : IsTrue (is_bank o.content) → usage os n ≤ limit_in o.content
 
--- a world is sound where each object is in its place, and what it holds may be held
+-- a world is sound if each object is in its place, and may hold its capabilities
 sound_from : (g : Geometry) (w : World) (H : Capability → Type 0) → length w.objects ≡ object_count g
     → IsTrue (is_bank (content_at w.objects 0)) → owner_at w.objects 0 ≡ 0 → w.age ≤ 2 ^ 62
     → ((c : Capability) → H c → MayBeHeld w.objects c) → ((n : ℕ) → IsInPlace g w.objects H n (object_at w.objects n)) → IsSound g w
@@ -132,7 +132,7 @@ are_void : AreRegisters (all_slots Void)
 unfolding all_slots
 are_void = (refl, refl)
 
--- what the slots of F0 hold
+-- the capabilities in the slots of world F0
 abbrev IsInF0 : Capability → Type 0
 IsInF0 c = (c ≡ Void) ⊎ (c ≡ Node 5 full) ⊎ (c ≡ Page 16 full)
 

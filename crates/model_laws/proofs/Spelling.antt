@@ -26,7 +26,7 @@ split_spaced (w ∷ v ∷ words) h all =
     slice_split_at (λ b. b == 32) w 32 (spaced (v ∷ words)) (All-head IsSpaceless w (v ∷ words) all) refl
     ∙ ap (λ rest. w ∷ rest) (split_spaced (v ∷ words) (omega arith) (All-tail IsSpaceless w (v ∷ words) all))
 
--- what every word of a command is: at most 20 bytes, and none of them a space
+-- each word of a command has at most 20 bytes, and no space
 abbrev pub IsWord : List ℕ → Type 0
 IsWord text = IsSpaceless text × (length text ≤ 20)
 
@@ -111,7 +111,7 @@ pub split_spelling : (c : Command) → Fits c → split (spelling c) ≡ command
 unfolding spelling
 split_spelling c fits = grind (arith, nat_tests, split_spaced, words_count, words_are_words)
 
--- a text is the spelling of a command where its parts are the words of the command
+-- a text is the spelling of a command if its parts are the command's words
 pub spelling_from_words : (text : List ℕ) (c : Command) → split text ≡ command_words c → text ≡ spelling c
 unfolding spelling
 spelling_from_words text c e = sym (join_with_byte-slice_split 32 text) ∙ ap (λ words. spaced words) e
@@ -139,7 +139,7 @@ invocation_of o words = command.Invoke (record {
   sent = numbers (drop 4 (drop 3 words));
 })
 
--- the command that has these words, if one has
+-- the command with these words, if there is one
 unfoldable pub command_of : List (List ℕ) → Command
 command_of words =
     let name = slice_index_or words 0 [] in
@@ -166,7 +166,7 @@ values_of [] all = refl
 values_of (n ∷ ns) all =
     ap₂ (λ first rest. first ∷ rest) (value_of n (All-head (λ n. n < 2 ^ 64) n ns all)) (values_of ns (All-tail (λ n. n < 2 ^ 64) n ns all))
 
--- four numbers, and those after them
+-- four numbers at the front of a list
 module _ (words sent : List ℕ) (four : length words ≡ 4) (fit : All (λ n. n < 2 ^ 64) words) (fit_too : All (λ n. n < 2 ^ 64) sent) where
   four_decimals : length (map decimal words) ≡ 4
   four_decimals = length-map words decimal ∙ four
@@ -199,7 +199,7 @@ pub reads_words : (c : Command) → Fits c → command_of (command_words c) ≡ 
 unfolding command_of command_words
 reads_words c fits = grind (arith, nat_tests, reads_parts, same_invocation, value_of, first_four, others)
 
--- a spelling gives its command
+-- from its spelling the command is read back
 pub reads_spelling : (c : Command) → Fits c → command_of (split (spelling c)) ≡ c
 reads_spelling c fits = ap command_of (split_spelling c fits) ∙ reads_words c fits
 
@@ -213,7 +213,7 @@ spelling_is_no_skip : (c : Command) → IsSkipped (spelling c) → ⊥
 unfolding spelling command_words
 spelling_is_no_skip c skipped = grind (arith, nat_tests)
 
--- what is skipped or spells a command is not bad, and no spelling is skipped
+-- a line that is skipped or spells a command is not bad, and no spelling is skipped
 pub skip_is_not_bad : (text : List ℕ) → Says text line.Skip → Says text line.Bad → ⊥
 skip_is_not_bad text skip bad = elim bad [ inl long ↦ omega arith | inr none ↦ none.0 skip.1 ]
 

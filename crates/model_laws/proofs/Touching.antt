@@ -8,7 +8,7 @@ use Rattle.model.specs.Machine.{Running}
 use Rattle.model.specs.declared.answer.Refusal.TheVariants as refusal
 use Rattle.model.specs.declared.command.Command.TheVariants as command
 
--- a mark is read where it was made, and what was marked stays so
+-- a mark is read at the place where it was set, and earlier marks stay
 marked : (xs : List Bool) (m n : ℕ) → slice_get (slice_set xs m true) n ≡ Some true → (slice_get xs n ≡ Some true) ⊎ (m ≡ n)
 marked [] m n e = inl e
 marked (x ∷ xs) zero zero e = inr refl
@@ -59,7 +59,7 @@ refusal_is g s i e p young effect = grind (arith, nat_tests)
 pub log_full_is_exact : LogFullIsExact
 log_full_is_exact g s i e p young effect = grind (arith, nat_tests, refusal_is)
 
--- the same of a store: what is left to check once its page is known
+-- the conditions of a store that are left once its page is known
 acts : (process running : Bool) (next : Option Refusal) → (process && running) ≡ true
     → unless process refusal.NoProcess (unless (process && running) refusal.NotRunning next) ≡ next
 acts process running next p = grind (arith, nat_tests)

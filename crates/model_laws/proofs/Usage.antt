@@ -25,7 +25,7 @@ frame_trans os us vs p q = grind (arith, nat_tests)
 pub frame_refl : (os : List Object) → SameFrame os os
 frame_refl os = record { size = refl; alike = λ n. alike_refl (object_at os n) }
 
--- contents of the same role answer alike
+-- contents of the same role pass the same tests
 pub record SameTests (c d : Content Capability) : Type 0 where
   pub free : is_free d ≡ is_free c
   pub page : is_page d ≡ is_page c
@@ -41,7 +41,7 @@ same_tests c d e = grind (arith, nat_tests)
 pub tests_at : (os us : List Object) → SameFrame os us → (n : ℕ) → SameTests (content_at os n) (content_at us n)
 tests_at os us s n = same_tests (content_at os n) (content_at us n) (s.alike n).role
 
--- chains and usages are those of the frame
+-- chains and usages depend only on the frame
 chain_within_same : (k : ℕ) (os us : List Object) → SameFrame os us → (b : ℕ) → chain_within k us b ≡ chain_within k os b
 chain_within_same zero os us s b = refl
 chain_within_same (suc k) os us s b =

@@ -80,11 +80,11 @@ says_commands = (
 pub says_nothing : SaysNothing
 says_nothing = ((omega arith, tt), (omega arith, refl), (omega arith, refl))
 
--- where a text spells a command, its words decide which
+-- if a text spells a command, this is the one that its words name
 replying_by_words : (text : List ℕ) (c : Command) → Fits c → text ≡ spelling c → command_of (split text) ≡ c
 replying_by_words text c fits e = ap (λ t. command_of (split t)) e ∙ reads_spelling c fits
 
--- a text that isn't the spelling of the command of its words spells none
+-- a text that isn't the spelling of the command that its words name spells no command
 spells_another : (text : List ℕ) → bytes_eq text (spelling (command_of (split text))) ≡ false → (c : Command) → Fits c → text ≢ spelling c
 spells_another text differs c fits e =
     let spelled : text ≡ spelling (command_of (split text)) = e ∙ ap spelling (sym (replying_by_words text c fits e)) in
@@ -92,7 +92,7 @@ spells_another text differs c fits e =
     spelled in
     cc
 
--- nor does one where that command has no spelling
+-- if the command that its words name has no spelling, a text spells no command
 does_not_fit : (text : List ℕ) → (Fits (command_of (split text)) → ⊥) → (c : Command) → Fits c → text ≢ spelling c
 does_not_fit text unfit c fits e = unfit (subst Fits (sym (replying_by_words text c fits e)) fits)
 
@@ -114,7 +114,7 @@ says_bad = (
 pub cuts_lines : CutsLines
 cuts_lines = (refl, refl, refl, refl)
 
--- what is said of a bad line and of the line that shows an object, in a run
+-- the answers to a bad line, and to a line that shows an object, in a run
 pub runs_script : RunsScript
 unfolding machine command_of
 runs_script = (
@@ -151,7 +151,7 @@ pub revokes_only : RevokesOnly
 unfolding machine
 revokes_only = (refl, refl)
 
--- what each function of `worked` is proved by
+-- the rules that prove each function of `worked`
 pub ruleset steps = (answers_by_steps, fails_between, opens_again, wants_memory)
 
 pub ruleset revoking = (rescinds_process, revokes_only, chains_banks)

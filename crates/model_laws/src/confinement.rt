@@ -1,3 +1,3 @@
-// Confinement: what processes can change that have authority over a set of numbers alone.
+// Confinement: what processes can change if they have authority only over a set of numbers.
 pub mod laws;
 pub mod worked;

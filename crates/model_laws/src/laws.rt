@@ -14,56 +14,56 @@ pub fn fetches_weak()
     ensures { FetchesWeak }
 {}
 
-/// After a rescind the members are free, all else is as it was but for capabilities that are void,
-/// and nothing names a member.
+/// After a rescind of some numbers these are free, nothing names them, and all else is unchanged, except that
+/// capabilities that named them are void.
 pub fn rescinds_all()
     ensures { RescindsAll }
 {}
 
-/// A consume only makes capabilities void, and after it nothing resumes the process.
+/// A consume makes capabilities void and changes nothing else; after it no capability resumes the process.
 pub fn consumes_all()
     ensures { ConsumesAll }
 {}
 
-/// An order of a bank gives up what it rescinds and nothing else, and nothing where it isn't done.
+/// An order of a bank gives up exactly the objects that it rescinds, and none if it isn't done.
 #[tactic(auto, using(crate::proofs::GivenUp::gives_up_rescinded))]
 pub fn gives_up_rescinded()
     ensures { GivesUpRescinded }
 {}
 
-/// An invocation with no bank's order, through a gate or not, gives nothing up.
+/// An invocation that is not an order of a bank, through a gate or not, gives up no object.
 #[tactic(auto, using(crate::proofs::GivenUp::gives_up_nothing))]
 pub fn gives_up_nothing()
     ensures { GivesUpNothing }
 {}
 
-/// The numbers touched are those touched before and those written.
+/// The numbers touched after a step are those touched before and those that it wrote.
 #[tactic(auto, using(crate::proofs::Touching::touches_written))]
 pub fn touches_written()
     ensures { TouchesWritten }
 {}
 
-/// An invocation that nothing else refuses is refused as log full exactly if the numbers that it
-/// writes would be too many.
+/// An invocation that nothing else refuses is refused as log full exactly if, with the numbers that it writes, too
+/// many would be touched.
 #[tactic(auto, using(crate::proofs::Touching::log_full_is_exact))]
 pub fn log_full_is_exact()
     ensures { LogFullIsExact }
 {}
 
-/// A store that reaches a page which it may write is refused as log full exactly if that page
-/// would be one too many, and a memory fault comes before a full log.
+/// A store that reaches a page which it may write is refused as log full exactly if that page would be one touched
+/// object too many. A memory fault is answered before a full log.
 pub fn store_log_full_is_exact()
     ensures { StoreLogFullIsExact }
 {}
 
-/// The machine takes only steps that the specification allows. It lets each invocation, load, store
-/// and `show` want memory, except in place of `no process` and `bad number`.
+/// The machine takes only steps that the specification allows. Any invocation, load, store and `show` may be answered
+/// `no memory`, except in place of `no process` and `bad number`.
 #[tactic(auto, using(crate::proofs::Stepping::steps_allowed))]
 pub fn steps_are_allowed()
     ensures { StepsAllowed }
 {}
 
-/// Only a `show`, a `restart` and a `cut` may be answered `no memory`.
+/// Of the other commands, only a `show`, a `restart` and a `cut` may be answered `no memory`.
 #[tactic(auto, using(crate::proofs::Stepping::wants_memory_to_show))]
 pub fn wants_memory_to_show()
     ensures { WantsMemoryToShow }
@@ -75,13 +75,13 @@ pub fn spells_one()
     ensures { SpellsOne }
 {}
 
-/// A line says one thing.
+/// A line has at most one meaning.
 #[tactic(auto, using(crate::proofs::Spelling::says_one))]
 pub fn says_one()
     ensures { SaysOne }
 {}
 
-/// The worlds that scripts begin with are sound.
+/// The worlds in which scripts begin are sound.
 #[tactic(auto, using(crate::proofs::SoundWorlds::f0_sound, crate::proofs::SoundWorlds::i0_sound))]
 pub fn worlds_are_sound()
     ensures { BeginsSound }

@@ -6,7 +6,7 @@ pub fn invocation_keeps_sound()
     ensures { InvocationKeepsSound }
 {}
 
-/// A saved world stays sound where a page of it is journaled.
+/// If a page of a sound saved world is journaled, the world stays sound.
 pub fn journal_keeps_sound()
     ensures { JournalKeepsSound }
 {}

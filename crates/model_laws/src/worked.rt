@@ -1,4 +1,4 @@
-//! What the definitions compute, by subject: each the contract of a function that does nothing.
+//! Worked examples of the definitions, by subject: each is the contract of a function that does nothing.
 ghost use Rattle.std.specs.Prelude.{All};
 ghost use Rattle.model_laws.specs.Worked.{IsRow};
 ghost use Rattle.model_laws.specs.WorkedMemory.{references};
@@ -11,19 +11,19 @@ ghost use Rattle.model_laws.specs.WorkedSteps.{RevokesOnly, WantsMemory};
 ghost use Rattle.model_laws.specs.WorkedTexts.{CutsLines, PrintsRefusals, RunsScript, SaysBad, SaysCommands};
 ghost use Rattle.model_laws.specs.WorkedTexts.{SaysNothing};
 
-/// Pages and nodes, what is fetched through weak ones, and banks.
+/// The answers of pages, nodes and banks, also through weak capabilities.
 #[tactic(auto, using(crate::proofs::WorkedRows::objects_hold))]
 pub fn objects_are_answered()
     ensures { All IsRow objects }
 {}
 
-/// Processes that start, answer and wait, and the orders on them.
+/// Processes that start, answer and wait, and the orders about processes.
 #[tactic(auto, using(crate::proofs::WorkedRows::processes_hold))]
 pub fn processes_are_answered()
     ensures { All IsRow processes }
 {}
 
-/// Words that are read and written through address spaces.
+/// Loads and stores through address spaces.
 #[tactic(auto, using(crate::proofs::WorkedRows::references_hold))]
 pub fn references_are_answered()
     ensures { All IsRow references }
@@ -35,7 +35,7 @@ pub fn saving_is_answered()
     ensures { All IsRow saving }
 {}
 
-/// Refusals, the end of the age, and a full log.
+/// Refusals, the greatest age, and a full log.
 #[tactic(auto, using(crate::proofs::WorkedRows::refusals_hold))]
 pub fn refusals_are_answered()
     ensures { All IsRow refusals }
@@ -51,7 +51,7 @@ pub fn steps_are_taken()
     ensures wants_memory { WantsMemory }
 {}
 
-/// What stays after a consume or a rescind, and the chain of a bank.
+/// What is left of capabilities after a consume or a rescind, and the chain of a bank.
 #[tactic(auto, using(crate::proofs::WorkedRows::revoking))]
 pub fn objects_are_revoked()
     ensures rescinds { RescindsProcess }
@@ -59,7 +59,7 @@ pub fn objects_are_revoked()
     ensures chains { ChainsBanks }
 {}
 
-/// What lines say, how a text is cut into lines, and what a run and each refusal write.
+/// What lines mean, how a text is cut into lines, and what a run and each refusal print.
 #[tactic(auto, using(crate::proofs::WorkedRows::lines))]
 pub fn lines_are_read()
     ensures commands { SaysCommands }

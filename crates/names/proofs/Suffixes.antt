@@ -8,7 +8,7 @@ use Rattle.std.specs.List.{suffix_len}
 use Rattle.names.specs.Output.{is_in_line}
 
 module _ (p : ℕ → Bool) (text : List ℕ) where
-  -- those follow the first n bytes, and some may end these
+  -- the digits after the first n bytes, which may continue digits that end these
   abbrev pub FollowFrom : ℕ → Type 0
   FollowFrom n = (n ≤ length text) × (suffix_len p text ≡ (length text - n) + suffix_len p (take n text))
 

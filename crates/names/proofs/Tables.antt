@@ -45,7 +45,7 @@ rest_same a b ks ls same = cc
 abbrev pub numbers : List Name → List ℕ
 numbers ns = map (λ n. n.number) ns
 
--- a number that has no name among some isn't one of theirs
+-- a number without a name among some names isn't that of any
 apart : (ns : List Name) (xs ks : List ℕ) (k n : ℕ) → has n ns ≡ false → numbers ns ≡ xs ++ k ∷ ks → (k == n) ≡ false
 apart [] [] ks k n none same = let bad : [] ≡ k ∷ ks = same in cc
 apart [] (x ∷ xs) ks k n none same = let bad : [] ≡ x ∷ (xs ++ k ∷ ks) = same in cc
@@ -55,7 +55,7 @@ apart (a ∷ ns) (x ∷ xs) ks k n none same =
     let e : numbers ns ≡ xs ++ k ∷ ks = rest_same a.number x (numbers ns) (xs ++ k ∷ ks) same in
     let f : has n ns ≡ false = grind (arith, nat_tests) in apart ns xs ks k n f e
 
--- of names that come once no number stands twice
+-- if all numbers occur once, the next number isn't among the earlier ones
 once_apart : (all : List Name) (old : List Name) (ks : List ℕ) (k : ℕ) → AreOnce all →
     numbers all ≡ numbers old ++ k ∷ ks → has k old ≡ false
 once_apart all [] ks k once same = refl
@@ -75,7 +75,7 @@ once_more (m ∷ ns) n once none =
     let other : has m.number (ns ++ n ∷ []) ≡ false = grind (arith, nat_tests, list_any-append) in
     (other, once_more ns n once.1 rest)
 
--- the members before the rest are these names
+-- the members before the rest have these names
 pub record IsReadTo (rest whole : Members) (ns : List Name) : Type 0 where
   pub forward : (more : List Name) → AreNamed rest more → AreNamed whole (ns ++ more)
   pub backward : (all : List Name) → AreNamed whole all →
@@ -91,7 +91,7 @@ same_integer m n same = cc
 same_number : (key : List ℕ) (d : Data) (m n : Name) → IsNamed key d m → IsNamed key d n → m.number ≡ n.number
 same_number key d m n one other = same_integer m.number n.number (sym one.number ∙ other.number)
 
--- what the first member of the rest is named, and those after it
+-- the name of the first member of the rest, and the names after it
 record HasFirst (key : List ℕ) (d : Data) (rest : Members) (ns all : List Name) : Type 0 where
   first : Name
   more : List Name

@@ -1,4 +1,4 @@
-//! Names that a person gives to the objects of an image: a table from numbers to names, and texts with the names.
+//! Names that a person gives to the objects of an image: a table of names by number, and adding names to texts.
 #![tactic(auto)]
 
 mod lines;

@@ -1,4 +1,4 @@
-// Lines with names.
+// Adding names to text that comes in pieces.
 ghost use Rattle.std.specs.Prelude.{◌≡◌, ◌++◌, ◌≤◌, [], IfOk, OnOk, length};
 ghost use Rattle.names.specs.Entries.{entries};
 ghost use Rattle.names.specs.Output.{lines_end, named_lines, rest_of_lines};
@@ -8,18 +8,18 @@ use crate::naming::name_objects;
 use crate::table::Names;
 use std::alloc::{AllocError, Global};
 
-/// Puts the name of each object after its number, in lines that come in parts.
+/// Adds the name of each object after its number, in text that comes in pieces.
 #[derive(Drop)]
 pub struct NamedLines {
     names: Names,
-    // The words before the number of an object.
+    // The words that come before the number of an object.
     kinds: &'static [&'static [u8]],
-    // What came of a line that isn't whole.
+    // The beginning of a line whose end hasn't come yet.
     line: Vec<u8>,
     alloc: Global,
 }
 
-// Where the whole lines of a text end.
+// Returns where the last newline of a text ends, or 0.
 #[tactic(auto, using(crate::proofs::Suffixes::one_in_line, crate::proofs::Suffixes::no_more_in_line, crate::proofs::Suffixes::none_left))]
 fn lines_end(text: &[u8]) -> usize
     ensures end { result ≡ lines_end text.now }
@@ -33,7 +33,7 @@ fn lines_end(text: &[u8]) -> usize
 }
 
 impl NamedLines {
-    /// No line has begun. A number is that of an object after one of the words `kinds`.
+    /// Returns a value in which no line has begun. A number is an object's if it follows one of the words `kinds`.
     pub fn new(alloc: Global, names: Names, kinds: &'static [&'static [u8]]) -> NamedLines
         ensures names { result.names ≡ names }
         ensures kinds { result.kinds.now ≡ kinds.now }
@@ -56,7 +56,8 @@ impl NamedLines {
         self.kinds = kinds;
     }
 
-    /// Takes a text, and returns the lines that are whole, with names. Fails only if memory runs out.
+    /// Takes the next piece of a text, and returns all lines that are whole now, with names. Fails only if memory
+    /// runs out.
     pub(crate) fn take(&mut self, text: &[u8]) -> Result<Vec<u8>, AllocError>
         ensures lines { IfOk result (λ named. named.items ≡ named_lines self.old (self.old.line.items ++ text.now)) }
         ensures rest { OnOk result (self.new.line.items ≡ rest_of_lines (self.old.line.items ++ text.now)) }
@@ -71,7 +72,7 @@ impl NamedLines {
         Ok(named)
     }
 
-    /// Returns the line that isn't whole, with names. Fails only if memory runs out.
+    /// Returns the last line, which has no newline, with names. Fails only if memory runs out.
     pub(crate) fn end(&mut self) -> Result<Vec<u8>, AllocError>
         ensures named { IfOk result (λ named. named.items
             ≡ named_text self.old.kinds.now (entries self.old.names) self.old.line.items) }

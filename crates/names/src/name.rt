@@ -3,7 +3,7 @@ ghost use Rattle.std.specs.Prelude.{◌≡◌};
 ghost use Rattle.std.specs.List.{list_all};
 ghost use Rattle.names.specs.Table as table;
 
-/// An object's number, and its name.
+/// The number of an object, and the object's name.
 #[derive(Drop)]
 pub struct Name {
     pub number: u64,
@@ -11,14 +11,14 @@ pub struct Name {
     pub text: String,
 }
 
-// Whether a byte may stand in a name.
+// Whether a byte may occur in a name.
 fn is_name_byte(byte: u8) -> bool
     ensures { result ≡ table.is_name_byte byte }
 {
     byte.is_ascii_alphanumeric() || byte == b'_' || byte == b'-'
 }
 
-// Whether all bytes may stand in a name.
+// Whether all bytes may occur in a name.
 fn are_name_bytes(bytes: &[u8]) -> bool
     ensures { result ≡ list_all table.is_name_byte bytes.now }
 {

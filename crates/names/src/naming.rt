@@ -1,4 +1,4 @@
-// Texts with names.
+// Adding names to a text.
 ghost use Rattle.std.specs.Prelude.{◌≡◌, ◌++◌, ◌≤◌, ◌==◌, IfOk, OnOk, Some, length, option_map};
 ghost use Rattle.std.specs.List.{ends_with, list_any};
 ghost use Rattle.names.specs.Entries.{entries};
@@ -8,7 +8,7 @@ ghost use Rattle.names.specs.Texts as texts;
 use crate::table::Names;
 use std::alloc::{AllocError, Global};
 
-/// The words before the number of an object in answers and explanations.
+/// The words that come before the number of an object in answers and explanations.
 pub const TOLD: &[&[u8]] = &[
     b"page ",
     b"node ",
@@ -21,7 +21,7 @@ pub const TOLD: &[&[u8]] = &[
     b"resume ",
 ];
 
-/// The words before the number of an object in a graph.
+/// The words that come before the number of an object in a graph.
 pub const DRAWN: &[&[u8]] = &[b"page ", b"node ", b"process ", b"annex ", b"bank "];
 
 // Where the digits at the end of a text begin.
@@ -54,7 +54,7 @@ fn begins_with_digit(text: &[u8]) -> bool
     }
 }
 
-// Adds what stands after a number: a space, and the name in parentheses.
+// Appends a space, and the name in parentheses.
 fn push_suffix(named: &mut Vec<u8>, name: &str) -> Result<(), AllocError>
     ensures { OnOk result (named.new.items ≡ named.old.items ++ suffix_of (Some name.now)) }
 {
@@ -63,7 +63,7 @@ fn push_suffix(named: &mut Vec<u8>, name: &str) -> Result<(), AllocError>
     named.extend_from_slice(b")")
 }
 
-// The name that stands after a text which another follows.
+// Returns the name of the object whose number ends `before`, or `None`. `after` is the rest of the text.
 fn name_behind<'n>(
     names: &'n Names,
     kinds: &[&[u8]],
@@ -83,7 +83,7 @@ fn name_behind<'n>(
     names.name_of(digits)
 }
 
-// Adds what stands after a text which another follows.
+// Appends the name of the object whose number ends `before`, if it has one. `after` is the rest of the text.
 fn push_behind(
     names: &Names,
     kinds: &[&[u8]],
@@ -100,8 +100,8 @@ fn push_behind(
     }
 }
 
-/// A text with the name of each object after its number. A number is that of an object after one of the words
-/// `kinds`. Fails only if memory runs out.
+/// Returns a text with the name of each object after its number. A number is an object's if it follows one of the
+/// words `kinds`. Fails only if memory runs out.
 pub fn name_objects(
     alloc: Global,
     names: &Names,

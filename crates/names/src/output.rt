@@ -1,4 +1,4 @@
-// A writer that puts names after numbers.
+// A writer that adds names.
 ghost use Rattle.std.specs.Prelude.{◌≡◌, ◌++◌, [], None, OnOk, Option, Some};
 ghost use Rattle.names.specs.Output.{HasSameNames, inner_output, lines_in, named_lines, waiting_by, written_by};
 ghost use Rattle.names.specs.declared.lines.NamedLines.{NamedLines};
@@ -8,17 +8,18 @@ use crate::lines::NamedLines;
 use collections::Tally;
 use script::{Output, RunFault};
 
-/// A writer that puts the name of each object after its number, line by line. Without names it passes all on unchanged.
+/// A writer that adds the name of each object after its number, line by line. Without names it passes on all bytes
+/// unchanged.
 #[derive(Drop)]
 pub struct NamedOutput<W> {
     inner: W,
     lines: Option<NamedLines>,
-    // How many calls failed for want of memory, and not beneath.
+    // How many calls failed because memory ran out; failures of `inner` aren't counted here.
     failures: Tally,
 }
 
 impl<W: Output> NamedOutput<W> {
-    /// Writes to `inner`. No call has failed yet.
+    /// Returns a writer to `inner`, none of whose calls has failed yet.
     pub fn new(inner: W, lines: Option<NamedLines>) -> NamedOutput<W>
         ensures inner { inner_output result ≡ inner }
         ensures lines { lines_in result ≡ lines }

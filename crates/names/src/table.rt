@@ -1,4 +1,4 @@
-// A table from numbers to names.
+// A table of names by number.
 ghost use Rattle.std.specs.Prelude.{◌≡◌, ◌≢◌, ◌==◌, ◌++◌, ◌∷◌, [], ◌<◌, ◌^◌, ℕ, IfErr, IfOk, MatchOption, OnOk, option_map, pos};
 ghost use Rattle.std.specs.List.{list_any};
 ghost use Rattle.names.specs.Entries.{entries};
@@ -13,13 +13,13 @@ use itoa::Buffer;
 use std::alloc::{AllocError, Global};
 use toml::{Table, Value};
 
-/// A table from numbers to names.
+/// A table of names by number.
 #[derive(Drop)]
 pub struct Names {
     entries: Vec<Name>,
 }
 
-/// Why a table has no names.
+/// Why no names are read from a table.
 #[derive(Clone, Copy)]
 pub enum NamesFault<'t> {
     NoMemory,
@@ -27,11 +27,11 @@ pub enum NamesFault<'t> {
     NotName(&'t str),
     /// The value at the key isn't a number.
     NotNumber(&'t str),
-    /// A number stands at the key that has another name.
+    /// The value at this key is a number that has another name already.
     Twice(&'t str),
 }
 
-// The number that a value is, if it is one and not negative.
+// Returns the number in a value, or `None` if it isn't an integer or is negative.
 #[tactic(auto, using(crate::proofs::Tables::natural, crate::proofs::Tables::negative, crate::proofs::Tables::no_integer))]
 fn number_in(value: &Value) -> Option<u64>
     ensures { MatchOption result ((n : ℕ) → n < 2 ^ 63 → view value.now ≢ integer (pos n))
@@ -55,7 +55,7 @@ fn has_number(entries: &[Name], number: u64) -> bool
     entries.iter().any(|name| name.number == number)
 }
 
-// Whether a text is a number in decimal digits.
+// Whether these digits are the decimal text of a number.
 fn writes(number: u64, digits: &[u8]) -> bool
     ensures { result ≡ names.writes number digits.now }
 {
@@ -81,7 +81,7 @@ impl Names {
         Ok(())
     }
 
-    // Adds the name that a key and its value say. If that fails, nothing is added.
+    // Adds the name that a key and its value give. If that fails, nothing is added.
     #[tactic(auto, using(crate::proofs::Tables::added))]
     fn add<'t>(&mut self, alloc: Global, key: &'t str, value: &Value) -> Result<(), NamesFault<'t>>
         ensures added { OnOk result (Adds key.entry.now (view value.now) (entries self.old) (entries self.new)) }
@@ -105,8 +105,8 @@ impl Names {
         Ok(())
     }
 
-    /// Reads the names of a table: each key is a name, and its value the number. Fails if memory runs out, or if a key is no
-    /// name, a value no number, or a number there twice.
+    /// Reads the names in a table: each key is a name, and its value the number. Fails if memory runs out, or if a
+    /// key isn't a name, a value isn't a number, or a number occurs twice.
     #[tactic(auto, using(crate::proofs::Tables::none_read, crate::proofs::Tables::all_read))]
     pub fn read<'t>(alloc: Global, table: &'t Table) -> Result<Names, NamesFault<'t>>
         ensures names { IfOk result (λ names. AreNamesOf (table_view table.entry.now) (entries names)) }
@@ -121,7 +121,7 @@ impl Names {
         Ok(names)
     }
 
-    /// The name of the number that these digits write.
+    /// Returns the name of the number with these decimal digits, or `None`.
     pub fn name_of(&self, digits: &[u8]) -> Option<&str>
         ensures { option_map (λ t. t.now) result ≡ name_at (entries self.now) digits.now }
     {

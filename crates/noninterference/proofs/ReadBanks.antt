@@ -11,7 +11,7 @@ use Rattle.model.specs.declared.order.BankOrder.TheVariants as bank
 use Rattle.model.specs.declared.order.ResultCode.TheVariants as code
 use Rattle.noninterference.proofs.ReadEdits.{Link, link_rescind, void_names}
 
--- outcomes with the same reply, the same numbers written, and linked objects
+-- outcomes with the same reply and the same written numbers, whose objects are linked
 pub record OutcomesLink (trusted inside : ℕ → Bool) (o p : OrderOutcome) : Type 0 where
   pub code : p.code ≡ o.code
   pub words : p.words ≡ o.words
@@ -20,7 +20,7 @@ pub record OutcomesLink (trusted inside : ℕ → Bool) (o p : OrderOutcome) : T
   pub stays : NamesBut trusted inside o.capability
   pub objects : Link trusted inside o.objects p.objects
 
--- what holds of two choices by tests that agree
+-- a property of two choices whose tests agree
 pub both_chosen : {X : Type 0} (P : X → X → Type 0) (a b : Bool) (w x y z : X) → b ≡ a → (a ≡ true → P w y) → (a ≡ false → P x z)
     → P (if a then w else x) (if b then y else z)
 both_chosen {X} P a b w x y z same p q = subst (λ c. P (if a then w else x) (if c then y else z)) (sym same) (go a p q)
@@ -72,7 +72,7 @@ module _ (trusted inside : ℕ → Bool) (os us : List Object) (h : Link trusted
   gone_link ns ms same =
       record { code = refl; words = refl; capability = refl; written = same; stays = void_names trusted inside; objects = h }
 
--- what a bank of the set owns, and what is under it
+-- the objects that a member bank owns, and those under it
 
 module _ (trusted inside : ℕ → Bool) (os : List Object) (t : IsTree os) (k : IsReadClosedBut trusted os inside) where
   owner_inside : (n : ℕ) → is_free (content_at os n) ≡ false → IsTrue (inside (owner_at os n)) → IsTrue (inside n)
@@ -81,7 +81,7 @@ module _ (trusted inside : ℕ → Bool) (os : List Object) (t : IsTree os) (k :
   bank_used : (c : ℕ) → IsTrue (is_bank (content_at os c)) → is_free (content_at os c) ≡ false
   bank_used c bank = grind (arith, nat_tests)
 
-  -- a bank whose chain passes through one inside is inside
+  -- a bank whose chain contains a member is a member
   above_inside : (b : ℕ) → IsTrue (inside b) → (c : ℕ) → IsTrue (is_bank (content_at os c)) → is_member (chain os c) b ≡ true →
       IsTrue (inside c)
   above_inside b is =
@@ -156,7 +156,7 @@ module _ (trusted inside : ℕ → Bool) (os us : List Object) (t : IsTree os) (
           let parts = and_parts (not (is_free (content_at os n))) (owner_at os n == b) e in
           h.left.owned b n is kind (not-true (is_free (content_at os n)) parts.0) (eqb-true (owner_at os n) b parts.1)
 
--- the same is under a bank of the set, and owned by it
+-- a member bank owns the same objects in both lists, and has the same under it
 module _ (trusted inside : ℕ → Bool) (os us : List Object) (t : IsTree os) (v : IsTree us) (h : Link trusted inside os us) (b : ℕ)
     (is : IsTrue (inside b)) (kind : IsTrue (is_bank (content_at os b))) where
   back : Link trusted inside us os
@@ -182,7 +182,7 @@ module _ (trusted inside : ℕ → Bool) (os us : List Object) (t : IsTree os) (
       same_tests (not (is_free (content_at os n)) && (owner_at os n == b)) (not (is_free (content_at us n)) && (owner_at us n == b))
       (owned_carried trusted inside os us t v h b is kind n) (owned_carried trusted inside us os v t back b is kind_back n))
 
--- what a bank owned is transferred to its owner
+-- transferring the objects of a bank to its owner
 module _ (trusted inside : ℕ → Bool) (os : List Object) (t : IsTree os) (k : IsReadClosedBut trusted os inside) (b : ℕ)
     (is : IsTrue (inside b))
     (kind : IsTrue (is_bank (content_at os b))) (on : b ≢ 0) where
@@ -254,7 +254,7 @@ module _ (trusted inside : ℕ → Bool) (os us : List Object) (t : IsTree os) (
       (n ∷ ns) refl)
       (λ e. refused_link trusted inside os us h code.NotFromThisBank)
 
-  -- a capability of the set frees the same, the first a member
+  -- a capability of a member frees the same objects in both lists; the first is a member
   freed_same : (c : Capability) → NamesBut trusted inside c → freed_by us c ≡ freed_by os c
   freed_same (Process p) stays = ap (λ (o : Object). p ∷ (root_in o.content).annex ∷ []) (h.same p (grind (arith, nat_tests)))
   freed_same (Page o a) stays = refl

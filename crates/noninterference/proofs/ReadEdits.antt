@@ -9,14 +9,14 @@ use Rattle.noninterference.proofs.Names.{enumerate_from, length-enumerate_from}
 use Rattle.std.proofs.Common.{◌≡◌, ◌+◌, ◌∷◌, ◌∙◌, if◌then◌else◌}
 use Rattle.model.specs.declared.object.Content.TheVariants as content
 
--- two lists of objects that have the same in a set, which is closed in both
+-- two lists of objects that are the same in a set, which is closed in both
 pub record Link (trusted inside : ℕ → Bool) (os us : List Object) : Type 0 where
   pub size : length us ≡ length os
   pub same : HaveSame inside os us
   pub left : IsReadClosedBut trusted os inside
   pub right : IsReadClosedBut trusted us inside
 
--- a content that may stand in place of another at a member: it makes no bank of what was none
+-- a content that may replace another at a member: it is not a bank unless that was one
 pub record MayStand (trusted inside : ℕ → Bool) (old c : Content Capability) : Type 0 where
   pub annex : is_root c ≡ true → IsTrue (inside (root_in c).annex)
   pub bank : is_bank c ≡ true → is_bank old ≡ true
@@ -85,7 +85,7 @@ module _ (trusted inside : ℕ → Bool) where
         (subst (λ (o : Object). MayStand trusted inside o.content c) (sym (h.same n in_n)) may);
   }
 
-  -- a content made of the one that is there
+  -- replacing a content by one made from it
   module _ (os us : List Object) (n : ℕ) (h : Link trusted inside os us) (in_n : IsTrue (inside n)) where
     link_made : (f : Content Capability → Content Capability) → MayStand trusted inside (content_at os n) (f (content_at os n))
         → Link trusted inside (with_content os n (f (content_at os n))) (with_content us n (f (content_at us n)))
@@ -133,7 +133,7 @@ module _ (trusted inside : ℕ → Bool) where
     link_root r in_annex space = link_content os us n (content.Root r) h in_n
         (record { annex = λ e. in_annex; bank = λ e. cc; slots = λ i. void_names; space = space })
 
-    -- another root made of the one that is there
+    -- replacing a root by one made from it
     pub link_of_root : (f : Root Capability → Root Capability) → IsTrue (inside (f (root_at os n)).annex)
         → NamesBut trusted inside (f (root_at os n)).space → Link trusted inside (with_root os n (f (root_at os n)))
         (with_root us n (f (root_at us n)))
@@ -153,7 +153,7 @@ module _ (trusted inside : ℕ → Bool) where
   link_slots os us n i (c ∷ cs) h in_n stays =
       link_slots (with_slot os n i c) (with_slot us n i c) n (i + 1) cs (link_slot os us n h in_n i c (stays 0)) in_n (λ j. stays (suc j))
 
-  -- what is put void, and freed
+  -- making capabilities void, and freeing objects
 
   void_stays : (goes : Capability → Bool) (c : Capability) → NamesBut trusted inside c → NamesBut trusted inside (void_where goes c)
   void_stays goes c stays = one_of (NamesBut trusted inside) (goes c) Void c void_names stays

@@ -13,7 +13,7 @@ use Rattle.noninterference.proofs.ReadEdits.{Link, link_consume, link_of_root, l
 use Rattle.noninterference.proofs.ReadBanks.{OutcomesLink, both_chosen}
 use Rattle.noninterference.proofs.ReadOrders.{member, order_link, register_same, register_stays}
 
--- effects that write the same numbers and leave linked objects, or none
+-- two effects that write the same numbers and leave linked objects, or no effect in both
 abbrev pub EffectsLink : (ℕ → Bool) → (ℕ → Bool) → Option Effect → Option Effect → Type 0
 EffectsLink trusted inside None None = Unit {0}
 EffectsLink trusted inside (Some e) (Some f) = (f.written ≡ e.written) × Link trusted inside e.objects f.objects
@@ -102,7 +102,7 @@ module _ (g : Geometry) (trusted inside : ℕ → Bool) (os us : List Object) (h
   stays : (r : ℕ) → NamesBut trusted inside (register_at os i.process r)
   stays r = register_stays trusted inside os us h i.process in_p root r
 
-  -- what is sent
+  -- the words and capabilities that are sent
 
   sent_same : sent_by us i ≡ sent_by os i
   sent_same = λ k. map (λ r. registers r k) i.sent
@@ -212,7 +212,7 @@ module _ (g : Geometry) (trusted inside : ℕ → Bool) (os us : List Object) (h
 
   -- invocations
 
-  -- by a capability
+  -- the effect of an invocation, by the invoked capability
   abbrev invoked_by : List Object → Capability → Option Effect
   invoked_by ws c = elim c [
     | Start q key ↦ if can_start ws i q then Some (through_gate ws i q key) else None

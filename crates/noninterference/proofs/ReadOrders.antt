@@ -15,7 +15,7 @@ use Rattle.model.specs.declared.order.ResultCode.TheVariants as code
 use Rattle.noninterference.proofs.ReadEdits.{Link, link_consume, link_of_root, link_slot, link_state, link_word}
 use Rattle.noninterference.proofs.ReadBanks.{OutcomesLink, bank_link, both_chosen, given_link, refused_link, replying_link, wrote_link}
 
--- what holds of two lists of choices by one option
+-- a property of two lists of choices on the same option
 found_both : {A X : Type 0} (P : X → X → Type 0) (found : Option A) (x y : X) (f k : A → X) → P x y →
     ((a : A) → found ≡ Some a → P (f a) (k a)) → P (elim found [ None ↦ x | Some a ↦ f a ]) (elim found [ None ↦ y | Some a ↦ k a ])
 found_both {A} {X} P None x y f k p q = p
@@ -135,7 +135,7 @@ module _ (trusted inside : ℕ → Bool) (os us : List Object) (h : Link trusted
         (link_of_root trusted inside os us p h in_p (λ r. with_space r args.capability) annex_inside sent) p p refl)
         (λ e. refuse code.BadCapability)
 
-  -- what isn't a start capability and stays names a member
+  -- a capability that isn't a start capability and stays inside names a member
   pub member : (n : ℕ) → IsTrue (inside n) ⊎ ⊥ → IsTrue (inside n)
   member n is = grind (arith, nat_tests)
 

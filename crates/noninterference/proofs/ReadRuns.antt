@@ -19,7 +19,7 @@ use Rattle.noninterference.proofs.ReadEdits.{Link, link_word}
 use Rattle.noninterference.proofs.ReadGates.{EffectsLink, invoked_link}
 use Rattle.noninterference.proofs.ReadOrders.{member}
 
--- what an address reaches
+-- the page that an address reaches
 
 module _ (trusted inside : ℕ → Bool) (os us : List Object) (h : Link trusted inside os us) where
   slot_same : (o i : ℕ) → IsTrue (inside o) → slot_at us o i ≡ slot_at os o i
@@ -44,7 +44,7 @@ module _ (trusted inside : ℕ → Bool) (os us : List Object) (h : Link trusted
       beyond = Beyond
   walk_same c index stays = refl
 
-  -- what is reached below a space is reached from what it holds
+  -- a page reached below a space is reached from its slot
   below_ok : (height : ℕ) (a : Access) (c : Capability) (rest : Result (ℕ × Access) MemoryFault) (found : ℕ × Access)
       → below height a c rest ≡ Ok found → (next : ℕ × Access) × (rest ≡ Ok next) × (found.0 ≡ next.0)
   below_ok height a c rest found is = grind (arith, nat_tests)
@@ -103,7 +103,7 @@ record IsLinked (g : Geometry) (trusted inside : ℕ → Bool) (s q : Running) :
 abbrev AreLinked : Geometry → (ℕ → Bool) → (ℕ → Bool) → Machine → Machine → Type 0
 AreLinked g trusted inside m n = (s q : Running) × (m ≡ Up s) × (n ≡ Up q) × IsLinked g trusted inside s q
 
--- what is answered by a refusal, or by what is carried out
+-- the answer of a refusal, or of a command that is carried out
 abbrev AnswerBy : Running → Answer → Machine → Option Refusal → Outcome → Type 0
 AnswerBy s a after refused o = elim refused [
   | Some why ↦ (a ≡ answer.Refused why) × (after ≡ Up s)
@@ -150,17 +150,17 @@ module _ (g : Geometry) (trusted inside : ℕ → Bool) (s q : Running) (h : IsL
   abbrev Same : Type 0
   Same = AreSame g trusted inside a b m n
 
-  -- both are refused alike
+  -- both commands are refused in the same way
   refused_alike : (why : Refusal) → (a ≡ answer.Refused why) × (m ≡ Up s) → (b ≡ answer.Refused why) × (n ≡ Up q) → Same
   refused_alike why first second = (second.0 ∙ sym first.0, (s, q, first.1, second.1, h))
 
-  -- both are carried out alike
+  -- both commands are carried out in the same way
   carried_alike : (o p : Outcome) → (a ≡ o.answer) × (m ≡ Up o.after) → (b ≡ p.answer) × (n ≡ Up p.after) → p.answer ≡ o.answer
       → IsLinked g trusted inside o.after p.after → Same
   carried_alike o p first second same linked =
       (second.0 ∙ same ∙ sym first.0, (o.after, p.after, first.1, second.1, linked))
 
-  -- both are refused because no process runs, or go on
+  -- both commands are refused because no process runs, or both go on
   running_alike : (root runs : Bool) (next after : Option Refusal) (o p : Outcome)
       → (runs ≡ true → AnswerBy s a m next o → AnswerBy q b n after p → Same)
       → AnswerBy s a m (unless root refusal.NoProcess (unless runs refusal.NotRunning next)) o
@@ -229,7 +229,7 @@ is_running_object o = is_root o.content && is_running (root_in o.content).state
 
 module _ (g : Geometry) (trusted inside : ℕ → Bool) (s q : Running) (h : IsLinked g trusted inside s q) (a b : Answer) (m n : Machine)
     (room : HasRoomIn a) (rooms : HasRoomIn b) where
-  -- the tests of the process are the same
+  -- the tests of the process have the same results
   tests_alike : (p : ℕ) → IsTrue (inside p) → (next : Option Refusal) (o : Outcome)
       → AnswerBy q b n (unless (is_process q.now.objects p) refusal.NoProcess
       (unless (is_running_process q.now.objects p) refusal.NotRunning next)) o
@@ -275,7 +275,7 @@ module _ (g : Geometry) (trusted inside : ℕ → Bool) (s q : Running) (h : IsL
       (unless (is_running_process q.now.objects p) refusal.NotRunning None))
       (loaded q address r)) (reached_same trusted inside s.now.objects q.now.objects h.link p address in_p) second))
 
-  -- why a store is refused, once its process runs
+  -- why a store is refused, if its process runs
   abbrev store_refusal : Running → Result ℕ MemoryFault → Option Refusal
   store_refusal x found = elim found [ Ok page ↦ unless (not (overfills g x.touched (page ∷ []))) refusal.LogFull None | Err why ↦ None ]
 
@@ -321,7 +321,7 @@ IsDown (Down saved) = Unit {0}
 is_down : (m : Machine) (saved : List Saved) → m ≡ Down saved → IsDown m
 is_down m saved e = subst IsDown (sym e) tt
 
--- the answer of a machine that is up, or it goes down
+-- the answer of a machine that is up, or that the machine goes down
 step_cases : (g : Geometry) (inside : ℕ → Bool) (s : Running) (c : Command) (a : Answer) (m : Machine) → IsBy inside c → Step g (Up s) c a m
     → Answers g s c a m ⊎ IsDown m
 step_cases g inside s c a m by (inl answers) = inl answers
@@ -365,7 +365,7 @@ down_run g inside m (t ∷ ts) last down by run =
     down_run g inside t.after ts last
     (down_reply g inside turn.0 t.before t.reply t.after (subst IsDown (sym run.0) down) (by.0 turn.0 turn.1) turn.2) by.1 run.2
 
--- the lines of turns, and what they are answered
+-- the lines of turns, and their answers
 
 abbrev lines : List Turn → List (List ℕ)
 lines ts = map (λ t. t.line) ts
@@ -388,7 +388,7 @@ by_too inside (x ∷ xs) (y ∷ ys) e by = (
   by_too inside xs ys (same_rest x y xs ys e) by.1,
 )
 
--- what holds of a line's command
+-- a property of a line's command
 
 abbrev FitsLine : Line → Type 0
 FitsLine (line.Command c) = Fits c

@@ -1,4 +1,4 @@
-//! Nothing outside a set of numbers determines the answers to its processes, or its objects.
+//! Objects outside a set of numbers determine neither the answers to processes in the set nor the objects in it.
 #![tactic(auto)]
 
 pub mod laws;

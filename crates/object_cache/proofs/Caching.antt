@@ -85,7 +85,7 @@ module _ {s : Stored} {m : Memory} {all : Bool} {left count : ℕ} (is : IsCache
   frozen_state_here : frozen_state_of (Some e) (mark_at m.pending n) (mark_at m.touched n) ≡ Nothing
   frozen_state_here = ap (λ o. frozen_state_of o (mark_at m.pending n) (mark_at m.touched n)) (sym at) ∙ frozen_state
 
-  -- the newest body without the entry is the one in it
+  -- the newest body without the entry is the body in the entry
   newest_is : (t : Bool) → mark_at m.touched n ≡ t → newest_body s m n ≡ content_at s m n
   newest_is t touched = search (arith, nothing_frozen_state, frozen_state_here, no_staging)
 
@@ -121,7 +121,7 @@ pub frozen_state_entry : (m : Memory) (n : ℕ) → n < length m.headers → fro
 unfolding frozen_states_in
 frozen_state_entry m n within = get_or-map-range_with_len (frozen_state_in_memory m) 0 (length m.headers) n n Nothing within (omega arith)
 
--- the same by what is seen
+-- the same for stores that are given as views
 module _ {D : Type 0} (disk : D → Disk) {d : DurableState D} {m : Memory} {all : Bool} {left count : ℕ} {order : List ℕ} {most_entries : ℕ}
     {s : StoreState D}
     (view : cache_of disk d m left order most_entries ≡ s) (is : IsCache all (stored_of disk d) m left count) {n : ℕ}
@@ -200,7 +200,7 @@ module _ {s : Stored} {m : Memory} {all : Bool} {left count : ℕ} (is : IsCache
 no_entry_by : (o : Option Entry) → is_some o ≡ false → o ≡ None
 no_entry_by o is = search arith
 
--- the same by what is seen
+-- the same for stores that are given as views
 module _ {D : Type 0} (disk : D → Disk) {d : DurableState D} {m : Memory} {all : Bool} {left count : ℕ} {order : List ℕ} {most_entries : ℕ}
     {s : StoreState D}
     (view : cache_of disk d m left order most_entries ≡ s) (is : IsCache all (stored_of disk d) m left count) where
@@ -233,7 +233,7 @@ module _ {D : Type 0} (disk : D → Disk) {d : DurableState D} {m : Memory} {all
 
 -- ---- what an object was frozen as is kept apart from what it holds
 
--- a body that is both is of an object that is pending and wasn't written since it was frozen
+-- a shared body belongs to an object that is pending and wasn't written since the freeze
 shared_frozen_state : (e : Entry) (pending touched : Bool) → frozen_state_of (Some e) pending touched ≡ Shared →
     (pending ≡ true) × (touched ≡ false) × (e.kept ≡ None)
 shared_frozen_state e pending touched is = search arith
@@ -262,7 +262,7 @@ module _ (s : Stored) (m : Memory) (n : ℕ) (within : n < length m.entries) (e 
   pub frozen_state_apart : frozen_state_in_memory (with_objects m m.headers apart_entries) n ≡ Apart
   frozen_state_apart = rw (now, facts.0)
 
--- the same by what is seen
+-- the same for stores that are given as views
 module _ {D : Type 0} (disk : D → Disk) {d : DurableState D} {m : Memory} {all : Bool} {left count : ℕ} {order : List ℕ} {most_entries : ℕ}
     {s : StoreState D}
     (view : cache_of disk d m left order most_entries ≡ s) (is : IsCache all (stored_of disk d) m left count) {n : ℕ}

@@ -23,7 +23,7 @@ counts_as r Q failed counts = err_counts (ap is_err (err_from_is_err_and r faile
 -- ---- calls that write frames and read bodies, one after the other
 
 module _ {D : Type 0} where
-  -- a new state, and what it is like
+  -- a new state that is given in two ways
   pub as_like : (like : StoreState D → StoreState D → StoreState D) (s : StoreState D) {t u : StoreState D} → u ≡ t → t ≡ like s t →
       u ≡ like s u
   as_like like s is same = is ∙ same ∙ ap (like s) (sym is)
@@ -50,7 +50,7 @@ module _ {D : Type 0} {disk : D → Disk} where
       (Q : E → Type 0) → IsErrAnd r Q → Moves {T = T} disk like s t (Err e) → Moves disk like s t r
   moves_err r Q failed moves = record { rest = moves.rest; continues = moves.continues; cause = counts_as r Q failed moves.cause }
 
-  -- by what is seen of the fields
+  -- the same for a state that is given by its fields
   pub moves_next : {like : StoreState D → StoreState D → StoreState D} {all : Bool} {s t : StoreState D} {d : DurableState D} {m : Memory}
       {left count : ℕ} {order : List ℕ} {most_entries : ℕ} → IsNext all disk s d m left count order most_entries t → t ≡ like s t →
       {T E : Type 0} (r : Result T E) → Counts (disk s.durable.beneath) (disk d.beneath) r →
@@ -61,7 +61,7 @@ module _ {D : Type 0} {disk : D → Disk} where
   pub moves_more : {s t : StoreState D} {T E : Type 0} {r : Result T E} → Moves disk on_device s t r → Moves disk on_device_with s t r
   moves_more {s} moves = record { rest = as_like on_device_with s moves.rest refl; continues = moves.continues; cause = moves.cause }
 
-  -- another order
+  -- a move to another order of use
   pub moves_used : {s t : StoreState D} {os : List ℕ} → t ≡ record s { order = os } → GoesOnIn disk s t →
       Moves {T = Unit {0}} {E = Failed} disk on_device_with s t (Ok tt)
   moves_used {s} {t} is goes = record {
@@ -86,7 +86,7 @@ module _ {D : Type 0} {disk : D → Disk} where
       cause = counts_on (counted_ok first.cause) second.cause;
     }
 
-  -- an entry was dropped, or another order: the device is as it was
+  -- dropping an entry or changing the order leaves the device unchanged
   pub moves_in_memory : {s t u : StoreState D} {cached : List Bool} {order : List ℕ} {T U E : Type 0} {x : T} {y : U} →
       Moves {E = E} disk on_device s t (Ok x) → u ≡ record t { cached = cached; order = order } →
       Moves {E = E} disk on_device_with s u (Ok y)
@@ -132,7 +132,7 @@ module _ {D : Type 0} where
 pub released_own : (h : Held) → released h.number (Some h) ≡ None
 released_own h = search arith
 
--- the parts are the same, unless the device failed
+-- unless the device failed, the parts are the same
 module _ {D : Type 0} (disk : D → Disk) (s : StoreState D) where
   pub same_parts : (t : StoreState D) → t.headers ≡ s.headers → t.contents ≡ s.contents → t.touched ≡ s.touched →
       (stored_of disk t.durable).saved.geometry ≡ (stored_of disk s.durable).saved.geometry →
@@ -209,7 +209,7 @@ module _ {D : Type 0} {disk : D → Disk} {s t : StoreState D} {all : Bool} {T :
     continues = continues;
   }
 
-  -- they weren't fetched
+  -- if a fetch failed
   pub unfetched : {r : Result T Refusal} → (e : Refusal) × (r ≡ Err e) × (e ≡ refusal.Fault) → touched_count s.touched ≤
       (stored_of disk s.durable).saved.geometry.log → OnlyFetches (parts_of disk) (ContinuesIn all disk) s t →
       (disk s.durable.beneath).failures < (disk t.durable.beneath).failures → Prepares (parts_of disk) (ContinuesIn all disk) s t ws r

@@ -33,7 +33,7 @@ front_without n m (suc k) (a ∷ rest) other is = elim (cases_eq n a) [
   ])
 ]
 
--- each use brings a number at most one further back
+-- each use moves another number at most one place back
 uses_stay : (ns order : List ℕ) (n k j : ℕ) → length ns + k ≤ j → is_member (take k order) n ≡ true →
     is_member (take j (used_in_turn ns order)) n ≡ true
 uses_stay [] order n k j few is = front_within k j n order (omega (arith, few)) is
@@ -42,7 +42,7 @@ uses_stay (m ∷ ms) order n k j few is = uses_stay ms (m ∷ without m order) n
   | inr other ↦ in_tail m (take k (without m order)) n (front_without m n k order other is)
 ])
 
--- what was used in turn is in front
+-- the numbers used in turn are in front
 used_stay : (ns order : List ℕ) (n j : ℕ) → length ns ≤ j → is_member ns n ≡ true → is_member (take j (used_in_turn ns order)) n ≡ true
 used_stay [] order n j few has = absurd (true≢false (sym has))
 used_stay (m ∷ ms) order n j few has = elim (either_of m ms n has) [
@@ -51,7 +51,7 @@ used_stay (m ∷ ms) order n j few has = elim (either_of m ms n has) [
 ]
 
 module _ {D : Type 0} where
-  -- so it is in memory
+  -- so all of them are in memory
   pub all_fetched : (s t u : StoreState D) (ns : List ℕ) → t ≡ record s { order = t.order } → u ≡ on_device_with t u →
       length s.contents ≡ length s.headers → All (λ n. n < length s.headers) ns → length ns ≤ 8 → 8 ≤ t.capacity → IsBounded u →
       u.order ≡ take t.capacity (used_in_turn ns t.order) → (n : ℕ) → Contains ns n → IsFetchedIn u n
@@ -79,7 +79,7 @@ front_less (suc k) n (m ∷ ms) = elim (cases_eq n m) [
   | inr other ↦ rw (without_tail n m (take (suc k) ms) other, front_less k n ms, without_tail n m ms other)
 ]
 
--- a use keeps the front, whether or not what lies after it went before
+-- using a number gives the same front, whether or not the rest was cut off before
 use_keeps_front : (most n : ℕ) (xs : List ℕ) → take most (n ∷ without n (take most xs)) ≡ take most (n ∷ without n xs)
 use_keeps_front most n xs = search (arith, front_less)
 
@@ -91,12 +91,12 @@ same_front j xs ys same few = same ∙ sym (take_all j xs few)
 
 -- ---- a number is used
 
--- one that has an entry
+-- using a number that has an entry
 pub used_order : {D : Type 0} (s : StoreState D) (n : ℕ) → IsBounded s → IsFetchedIn s n →
     n ∷ without n s.order ≡ take s.capacity (n ∷ without n s.order)
 used_order {D} s n bounded there = search (arith, same_front, length_without)
 
--- one that has none
+-- using a number that has none
 pub brought_order : {D : Type 0} (s : StoreState D) (n : ℕ) (os : List ℕ) → IsBounded s → cached_at s.cached n ≡ false →
     os ≡ take s.capacity (n ∷ s.order) → os ≡ take s.capacity (n ∷ without n s.order)
 brought_order s n os bounded none is = is ∙ ap (λ ns. take s.capacity (n ∷ ns)) (sym (without_absent n s.order (bounded.listed n ∙ none)))
@@ -107,7 +107,7 @@ pub used_more : (most i : ℕ) (ns s t u : List ℕ) → i < length ns → t ≡
     u ≡ take most (slice_index_or ns i 0 ∷ without (slice_index_or ns i 0) t) → u ≡ take most (used_in_turn (take (i + 1) ns) s)
 used_more most i ns s t u below before is = search (arith, use_keeps_front, one_more)
 
--- the first of them were used before
+-- the first of the numbers were used already
 pub used_then : (most k : ℕ) (ns s t u : List ℕ) → t ≡ used_in_turn (take k ns) s → u ≡ take most (used_in_turn ns t) →
     u ≡ take most (used_in_turn ns s)
 used_then most k ns s t u first is = is ∙ ap (λ ks. take most (used_in_turn ns ks)) first
@@ -125,7 +125,7 @@ module _ {D : Type 0} (disk : D → Disk) {d : DurableState D} {m : Memory} {all
     newest_is : newest_body (stored_of disk d) m n ≡ (newest (stored_of disk d) n).content
     newest_is = search (arith, put_or_body)
 
-    -- what is read is what it holds, or it is free
+    -- the body that was read is the object's content, or the object is free
     pub read_holds : masked (header_at m.headers n).role (newest (stored_of disk d) n).content ≡ held_at s.contents n
     read_holds =
         ap (masked (header_at m.headers n).role) (sym newest_is)
@@ -136,7 +136,7 @@ module _ {D : Type 0} (disk : D → Disk) {d : DurableState D} {m : Memory} {all
       IsNext all disk s new m left count order most_entries (record s { durable = new })
   read_next {new} reads later = search (arith, stored_next)
 
-  -- and it is made an entry
+  -- the body becomes an entry
   pub kept_next : (n : ℕ) → n < length s.headers → cached_at s.cached n ≡ false → s.staging ≡ None → {new : DurableState D} →
       ReadsStore disk d new → (disk d.beneath).failures ≤ (disk new.beneath).failures → {f : Frame} → f ≡ newest (stored_of disk d) n →
       {h : ObjectHeader} → h ≡ header_at m.headers n → {es : EntriesState} →
@@ -189,7 +189,7 @@ module _ {s : Stored} {m : Memory} {all : Bool} {left count : ℕ} (is : IsCache
       λ h h_is. subst (λ g. mark_at m.pending g.number ≡ true) (same_Some (record { number = n; content = c }) h h_is) pending in
       search (clean_alike taken_alike is, unwritten_alike taken_alike is, keepable_alike taken_alike is)
 
--- the same by what is seen
+-- the same for stores that are given as views
 module _ {D : Type 0} (disk : D → Disk) {d : DurableState D} {m : Memory} {all : Bool} {left count : ℕ} {order : List ℕ} {most_entries : ℕ}
     {s : StoreState D}
     (view : cache_of disk d m left order most_entries ≡ s) (is : IsCache all (stored_of disk d) m left count) (n : ℕ)

@@ -14,14 +14,14 @@ use Rattle.object_cache.proofs.Puts.{held_touched}
 use Rattle.object_cache.proofs.Caching.{no_staging}
 use Rattle.object_cache.proofs.Outcomes.{none_of}
 
--- what has the role of its header is what the mask leaves of it
+-- the mask of a role leaves a content of this role unchanged
 pub masked_same : (r : Role) (c : Content Cap) → r ≡ role_of c → masked r c ≡ c
 masked_same r c is = search arith
 
 pub none_counted : (n : ℕ) → touched_count (replicate n false) ≡ 0
 none_counted n = omega (arith, sum_by-replicate (λ b. cond b 1 0) n false)
 
--- fewer are marked where each that is is marked there too
+-- a list of marks has at most as many as one that contains them
 pub fewer_of : (ds ts : List Bool) → ((k : ℕ) → mark_at ds k ≡ true → mark_at ts k ≡ true) → count_by (λ b. b) ds ≤ count_by (λ b. b) ts
 fewer_of [] ts each = omega arith
 fewer_of (false ∷ ds) [] each =
@@ -58,7 +58,7 @@ module _ {s : Stored} {m : Memory} {all : Bool} {left count : ℕ} (is : IsCache
   abbrev now : Memory
   now = frozen_memory fh m
 
-  -- what lies below now is the newest there was
+  -- after the freeze the body below is the newest one before
   below_now : (n : ℕ) → below_body begun now n ≡ newest_body s m n
   below_now n = search (arith, no_staging, none, saved_below, put_or_body)
 
@@ -75,7 +75,7 @@ module _ {s : Stored} {m : Memory} {all : Bool} {left count : ℕ} (is : IsCache
   masked_here : (n : ℕ) → n < length m.headers → masked (header_at m.headers n).role (content_at s m n) ≡ content_at s m n
   masked_here n within = search (arith, frame_in m.headers (contents_in s m) n within, masked_same, content_in)
 
-  -- the frozen body of an object that wasn't put since it was written
+  -- the frozen body of an object that was not written to the log since it changed
   body_now : (n : ℕ) → n < length m.headers → (o : Option Entry) → entry_at m.entries n ≡ o →
       masked (header_at m.headers n).role (frozen_body o false (below_body begun now n)) ≡ content_at s m n
   body_now n within o at = search (arith, below_now, masked_here, none)
@@ -88,7 +88,7 @@ module _ {s : Stored} {m : Memory} {all : Bool} {left count : ℕ} (is : IsCache
   frozen_now : (n : ℕ) → n < length m.headers → frozen_at begun now n ≡ present_at s m n
   frozen_now n within = rw (alike (length m.touched) n false) (frozen_by n within (mark_at m.dirty n) (mark_at m.touched n) refl refl)
 
-  -- the frozen frames are the present ones
+  -- the frozen frames are the present ones at the freeze
   pub begun_frozen : frozen_in begun now ≡ frames_in m.headers (contents_in s m)
   unfolding frozen_in
   begun_frozen =
@@ -142,11 +142,11 @@ module _ {s : Stored} {m : Memory} {all : Bool} {left count : ℕ} (is : IsCache
     none,
   )
 
--- the same by what is seen
+-- the same for stores that are given as views
 module _ {D : Type 0} (disk : D → Disk) {d : DurableState D} {m : Memory} {all : Bool} {left count : ℕ} {order : List ℕ} {most_entries : ℕ}
     {s : StoreState D}
     (view : cache_of disk d m left order most_entries ≡ s) (is : IsCache all (stored_of disk d) m left count) where
-  -- as many slots are held as were written since
+  -- at most as many slots are in use as objects were written
   pub freeze_enough : sum_of held_slot (stored_of disk d).working ≤ count
   freeze_enough = let few = held_touched (stored_of disk d).working m.touched (is.puts ∙ sym is.marks) is.unput in
       omega (arith, few, is.counted)

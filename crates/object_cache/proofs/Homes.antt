@@ -47,7 +47,7 @@ module _ (s : Stored) (m : Memory) where
   home_stands left count true k is = numbered_stands left count s.saved.generation 0 s.saved.age k is
   home_stands left count false k is = numbered_stands left count s.saved.generation s.saved.entries s.saved.age k is
 
--- the same by what is seen
+-- the same for stores that are given as views
 module _ {D : Type 0} (disk : D → Disk) {d : DurableState D} {m : Memory} {all : Bool} {left count : ℕ} {order : List ℕ} {most_entries : ℕ}
     {s : StoreState D}
     (view : cache_of disk d m left order most_entries ≡ s) (is : IsCache all (stored_of disk d) m left count) (new : DurableState D)
@@ -110,7 +110,7 @@ module _ {s : Stored} {m : Memory} {all : Bool} {count : ℕ} (is : IsCache all 
       let counted = sym (ap (count_by (λ b. b)) same) ∙ are.size in
       omega (arith, counted, kept_marks f.put)
 
-  -- what is frozen is what was put, over what is saved
+  -- the frozen frames are the written ones, and the saved ones where none was written
   pub frozen_overlaid : frozen_in s m ≡ overlaid f.put s.saved.frames
   unfolding frozen_in overlaid
   frozen_overlaid = search (arith, maps_same, none_pending)
@@ -139,7 +139,7 @@ module _ {s : Stored} {m : Memory} {all : Bool} {count : ℕ} (is : IsCache all 
     pub saved_stands : IsCache all after m 0 count
     saved_stands = search (arith, none-some, clean_alike, saved_alike, unwritten_alike, length_over, none_pending)
 
--- the same by what is seen
+-- the same for stores that are given as views
 module _ {D : Type 0} (disk : D → Disk) {d : DurableState D} {m : Memory} {all : Bool} {left count : ℕ} {order : List ℕ} {most_entries : ℕ}
     {s : StoreState D}
     (view : cache_of disk d m left order most_entries ≡ s) (is : IsCache all (stored_of disk d) m left count) (f : FrozenFrames)

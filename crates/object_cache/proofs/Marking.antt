@@ -12,7 +12,7 @@ touching-append : (t : List Bool) (ms ns : List ℕ) → touching t (ms ++ ns) �
 touching-append t [] ns = refl
 touching-append t (m ∷ ms) ns = touching-append (set t m true) ms ns
 
--- an item that is set to its default, or never was another
+-- an item that is set to its default is the default
 pub set_there : {X : Type 0} (xs : List X) (n : ℕ) (d : X) → get_or (set xs n d) n d ≡ d
 set_there {X} xs n d = search (arith, cases_lt, get_or-set_same, get_or_past, length-set)
 
@@ -22,16 +22,16 @@ alike {X} n k d = search (arith, cases_lt, get_or-replicate, get_or_past, length
 pub marked_within : (t : List Bool) (n : ℕ) → get_or t n false ≡ true → n < length t
 marked_within t n marked = search (arith, cases_lt, get_or_past)
 
--- one mark less
+-- removing one mark
 pub one_fewer : (t : List Bool) (n : ℕ) → get_or t n false ≡ true → count_by (λ b. b) (set t n false) < count_by (λ b. b) t
 one_fewer t n marked = search (arith, sum_by-set, marked_within)
 
--- a mark that is set for the first time is one more
+-- setting a mark for the first time
 pub touched_count-set : (t : List Bool) (n : ℕ) → n < length t → get_or t n false ≡ false →
     touched_count (set t n true) ≡ touched_count t + 1
 touched_count-set t n inside unmarked = search (arith, sum_by-set)
 
--- a mark that is there stays
+-- setting a mark again changes nothing
 pub set-marked : (t : List Bool) (n : ℕ) → get_or t n false ≡ true → set t n true ≡ t
 set-marked t n marked = ap (λ b. set t n b) (sym marked) ∙ set-get_or t n false
 
@@ -54,7 +54,7 @@ at_most_the_length t [] = omega arith
 at_most_the_length t (n ∷ ns) = let rest = at_most_the_length (set t n true) ns in let one = one_more_at_most t n in
     omega (arith, rest, one)
 
--- what is marked stays marked
+-- a number that is marked stays marked
 pub still_set : (t : List Bool) (m n : ℕ) → get_or t n false ≡ true → get_or (set t m true) n false ≡ true
 still_set t m n marked = search (arith, cases_eq, get_or-set_same, marked_within, get_or-set_other)
 
@@ -62,7 +62,7 @@ pub still_marked : (t : List Bool) (ns : List ℕ) (n : ℕ) → get_or t n fals
 still_marked t [] n marked = marked
 still_marked t (m ∷ ns) n marked = still_marked (set t m true) ns n (still_set t m n marked)
 
--- what is listed is marked
+-- a number in the list is marked
 first_listed : (t : List Bool) (m : ℕ) (ns : List ℕ) (n : ℕ) (b : Bool) → eqb m n ≡ b → n < length t →
     (list_any (λ y. eqb y n) ns ≡ true → get_or (touching (set t m true) ns) n false ≡ true) →
     (b || list_any (λ y. eqb y n) ns) ≡ true → get_or (touching (set t m true) ns) n false ≡ true
@@ -74,7 +74,7 @@ listed_marked t [] n inside listed = cc
 listed_marked t (m ∷ ns) n inside listed = first_listed t m ns n (eqb m n) refl inside
     (listed_marked (set t m true) ns n (rw length-set inside)) listed
 
--- what is neither marked nor listed isn't marked
+-- a number that is neither marked nor in the list isn't marked
 first_unlisted : (t : List Bool) (m : ℕ) (ns : List ℕ) (n : ℕ) (b : Bool) → eqb m n ≡ b → get_or t n false ≡ false →
     (get_or (set t m true) n false ≡ false → list_any (λ y. eqb y n) ns ≡ false → get_or (touching (set t m true) ns) n false ≡ false) →
     (b || list_any (λ y. eqb y n) ns) ≡ false → get_or (touching (set t m true) ns) n false ≡ false
@@ -109,7 +109,7 @@ touched_count_marked t ns i inside known marked =
     rw (take_more ns i 0 inside, touching-append t (take i ns) (get_or ns i 0 ∷ []))
     (ap touched_count (set-marked (touching t (take i ns)) (get_or ns i 0) (still_marked t (take i ns) (get_or ns i 0) marked)))
 
--- one number more is marked after the others
+-- marking one more number after the others
 pub touching_more : (t : List Bool) (ns : List ℕ) (i : ℕ) → i < length ns →
     touching t (take (i + 1) ns) ≡ set (touching t (take i ns)) (get_or ns i 0) true
 touching_more t ns i inside = rw (take_more ns i 0 inside, touching-append t (take i ns) (get_or ns i 0 ∷ [])) refl

@@ -10,7 +10,7 @@ use Rattle.object_cache.proofs.Marking.{length-touching, set-marked, still_marke
 use Rattle.object_cache.proofs.Caching.{frozen_state_entry}
 use Rattle.object_cache.proofs.Objects.{Alike, frozen_alike, keepable_alike, contents_count}
 
--- a mark is as it was, or is of a number that was listed
+-- a mark is unchanged, or its number is in the list
 marked_or : (ts : List Bool) (ns : List ℕ) (k : ℕ) → (mark_at (touching ts ns) k ≡ mark_at ts k) ⊎ Contains ns k
 marked_or ts [] k = inl refl
 marked_or ts (n ∷ ns) k = elim (cases_eq k n) [
@@ -21,7 +21,7 @@ marked_or ts (n ∷ ns) k = elim (cases_eq k n) [
   ]
 ]
 
--- what is listed is marked
+-- a number in the list is marked
 listed_by : (ts : List Bool) (ns : List ℕ) (i k : ℕ) → i < length ns → slice_index_or ns i k ≡ k → k < length ts →
     mark_at (touching ts ns) k ≡ true
 listed_by ts [] i k lt is within = absurd (omega (arith, lt))
@@ -33,14 +33,14 @@ listed_by ts (n ∷ ns) (suc i) k lt is within = listed_by (set ts n true) ns i 
 pub listed_is_marked : (ts : List Bool) (ns : List ℕ) (k : ℕ) → Contains ns k → k < length ts → mark_at (touching ts ns) k ≡ true
 listed_is_marked ts ns k has within = listed_by ts ns has.0 k has.1 has.2 within
 
--- where what is listed is marked already, nothing changes
+-- if all numbers in the list are marked already, nothing changes
 pub all_marked : (ts : List Bool) (ns : List ℕ) → ((k : ℕ) → Contains ns k → mark_at ts k ≡ true) → touching ts ns ≡ ts
 all_marked ts [] marked = refl
 all_marked ts (n ∷ ns) marked =
     let here = set-marked ts n (marked n (0, omega arith, refl)) in
     ap (λ us. touching us ns) here ∙ all_marked ts ns (λ k has. marked k (suc has.0, omega (arith, has.1), has.2))
 
--- the frozen frame of an object doesn't change with its mark, unless its frozen body is the present one as well
+-- marking an object doesn't change its frozen frame, unless its frozen body is its present one too
 frozen_marked : (o : Option Entry) (pending touched : Bool) (h : ObjectHeader) (below : Content Cap) (under : Frame) →
     frozen_state_of o pending touched ≢ Shared →
     frozen_frame pending h (frozen_body o true below) under ≡ frozen_frame pending h (frozen_body o touched below) under
@@ -72,7 +72,7 @@ module _ {s : Stored} {m : Memory} {all : Bool} {left count : ℕ} (is : IsCache
   unfolding frozen_states_in
   marked_frozen_state = search (arith, maps_same, marked_or, touched_here, frozen_state_marked)
 
-  -- what isn't marked wasn't
+  -- a number that isn't marked afterwards wasn't marked before
   unmarked : (ts : List Bool) (k : ℕ) → mark_at (touching ts ns) k ≡ false → mark_at ts k ≡ false
   unmarked ts k none = search (arith, still_marked)
 
@@ -96,7 +96,7 @@ module _ {s : Stored} {m : Memory} {all : Bool} {left count : ℕ} (is : IsCache
       λ k below untouched. is.unwritten k below (unmarked m.touched k untouched) ∙ sym (frozen_stays k) in
       search (is, keepable_alike marked_alike is, length-touching m.touched ns ∙ is.marks, length-touching m.dirty ns ∙ is.dirty_marks)
 
--- the same by what is seen
+-- the same for stores that are given as views
 module _ {D : Type 0} (disk : D → Disk) {d : DurableState D} {m : Memory} {all : Bool} {left count : ℕ} {order : List ℕ} {most_entries : ℕ}
     {s : StoreState D}
     (view : cache_of disk d m left order most_entries ≡ s) (is : IsCache all (stored_of disk d) m left count) (ns : List ℕ)
@@ -136,12 +136,12 @@ module _ {D : Type 0} (disk : D → Disk) where
 module _ {D : Type 0} (disk : D → Disk) {d : DurableState D} {m : Memory} {all : Bool} {left count : ℕ} {order : List ℕ} {most_entries : ℕ}
     {s : StoreState D}
     (view : cache_of disk d m left order most_entries ≡ s) (is : IsCache all (stored_of disk d) m left count) where
-  -- what is marked may be written
+  -- a number that is marked may be written
   pub marked_announced : (ns : List ℕ) (n : ℕ) → n < length s.headers → Contains ns n →
       IsAnnouncedIn (record s { touched = touching s.touched ns; dirty = touching s.dirty ns }) n
   marked_announced ns n known has = search (arith, contents_count, listed_is_marked)
 
-  -- what is to be put already may be written
+  -- if all numbers in the list are dirty, they may be written already
   module _ (ns : List ℕ) (known : (n : ℕ) → Contains ns n → n < length s.headers) (same : touching m.dirty ns ≡ m.dirty) where
     dirty_already : (n : ℕ) → Contains ns n → mark_at m.dirty n ≡ true
     dirty_already n has =

@@ -13,7 +13,7 @@ use Rattle.object_cache.proofs.Outcomes.{IsSeenAs, none_of}
 use Rattle.model.specs.declared.object.Role.TheVariants as role
 use Rattle.model.specs.declared.object.Content.TheVariants as content
 
--- what holds of one number, and of each other one, holds of all
+-- a property of one number, and of all others, holds of all
 pub of_each : {P : ℕ → Type 0} (n : ℕ) → P n → ((k : ℕ) → k ≢ n → P k) → (k : ℕ) → P k
 of_each {P} n here other k = search (arith, cases_eq)
 
@@ -40,7 +40,7 @@ module _ {s t : Stored} {m u : Memory} (same : Alike s m t u) where
   unfolding frozen_in
   frozen_alike = rw same.headers (maps_same (frozen_at t u) (frozen_at s m) (length m.headers) (λ k below. same.frozen k))
 
-  -- what always holds of clean, of untouched and of frozen numbers still does
+  -- the invariants of clean, of untouched and of frozen numbers still hold
   module _ {all : Bool} {left count : ℕ} (is : IsCache all s m left count) where
     pub clean_alike : (k : ℕ) → mark_at m.dirty k ≡ false → mark_at m.touched k ≡ true → put_at s.working k ≡ Kept (present_at t u k)
     clean_alike k clean touched = is.clean k clean touched ∙ ap Kept (sym (present_alike k))
@@ -55,7 +55,7 @@ module _ {s t : Stored} {m u : Memory} (same : Alike s m t u) where
 abbrev pub with_objects : Memory → List ObjectHeader → List (Option Entry) → Memory
 with_objects m hs es = record m { headers = hs; entries = es }
 
--- one object's header or present body has changed: there is an entry where there was one, with the same body kept apart
+-- the header or the present body of one object changed: entries and frozen copies stay where they were
 pub record Changes (m : Memory) (hs : List ObjectHeader) (es : List (Option Entry)) (n : ℕ) : Type 0 where
   pub header_count : length hs ≡ length m.headers
   pub entry_count : length es ≡ length m.entries
@@ -64,7 +64,7 @@ pub record Changes (m : Memory) (hs : List ObjectHeader) (es : List (Option Entr
   pub kept : option_map kept_of (entry_at es n) ≡ option_map kept_of (entry_at m.entries n)
   pub role : entry_at es n ≡ None → ((header_at hs n).role ≡ (header_at m.headers n).role) ⊎ ((header_at hs n).role ≡ role.Free)
 
--- of an object written since it was frozen the frozen body isn't the present one
+-- the frozen body of an object that was written since the freeze isn't its present one
 by_kept : (o p : Option Entry) (below : Content Cap) → option_map kept_of o ≡ option_map kept_of p →
     frozen_body o true below ≡ frozen_body p true below
 by_kept o p below same = search (arith, none-some, same_Some)
@@ -86,7 +86,7 @@ module _ (s : Stored) {m : Memory} {hs : List ObjectHeader} {es : List (Option E
   present_elsewhere : (k : ℕ) → k ≢ n → present_at s changed k ≡ present_at s m k
   present_elsewhere k other = search (arith, content_elsewhere)
 
-  -- what all objects hold, by what the changed one does
+  -- all contents, if that of the changed object is known
   pub contents_changed : (c : Content Cap) → n < length m.headers → content_at s changed n ≡ c →
       contents_in s changed ≡ set (contents_in s m) n c
   unfolding contents_in
@@ -116,7 +116,7 @@ module _ (s : Stored) {m : Memory} {hs : List ObjectHeader} {es : List (Option E
     touched_here : mark_at m.touched n ≡ true
     touched_here = is.marked n dirty
 
-    -- a number that isn't marked is a different one
+    -- a number without a mark is another than a marked one
     unmarked : (marks : List Bool) → mark_at marks n ≡ true → (k : ℕ) → mark_at marks k ≡ false → k ≢ n
     unmarked marks here k not_here same = true≢false (sym here ∙ ap (mark_at marks) (sym same) ∙ not_here)
 
@@ -149,12 +149,12 @@ module _ (s : Stored) {m : Memory} {hs : List ObjectHeader} {es : List (Option E
 
 -- ---- what is seen of a cache after one object was changed
 
--- another header in its place, of the same role
+-- replacing a header by one of the same role
 pub header_changes : (m : Memory) (n : ℕ) (h : ObjectHeader) → n < length m.headers → h.role ≡ (header_at m.headers n).role →
     Changes m (set m.headers n h) m.entries n
 header_changes m n h within same = search (arith, length-set, get_or-set_other, get_or-set_same)
 
--- another present body in its entry
+-- replacing the present body in an entry
 kept_stays : (f : Content Cap → Content Cap) (o : Option Entry) → option_map kept_of (option_map (changing f) o) ≡ option_map kept_of o
 kept_stays f o = search arith
 
@@ -168,7 +168,7 @@ pub cached_stay : (change : Entry → Entry) (n : ℕ) (es : List (Option Entry)
 unfolding cached_in
 cached_stay change n es = map-set_same is_some es n (option_map change (entry_at es n)) None (some_map change (entry_at es n))
 
--- another header, and another present body if there is an entry
+-- replacing a header, and the present body if there is an entry
 edit_changes : (m : Memory) (n : ℕ) (h : ObjectHeader) (f : Content Cap → Content Cap) → n < length m.headers → n < length m.entries →
     (entry_at m.entries n ≡ None → h.role ≡ role.Free) → Changes m (set m.headers n h) (with_entry (changing f) n m.entries) n
 edit_changes m n h f within entry_within free = search (arith, length-set, get_or-set_other, present_kept, get_or-set_same, none_of)
@@ -177,7 +177,7 @@ body_changes : (m : Memory) (n : ℕ) (f : Content Cap → Content Cap) → n < 
     Changes m m.headers (with_entry (changing f) n m.entries) n
 body_changes m n f within = search (arith, length-set, get_or-set_other, present_kept)
 
--- what it holds then: where it is free without an entry, nothing
+-- the object's content then; if it is free and has no entry, none
 edited_body : (c : Content Cap) (o : Option Entry) (r : Role) (newest : Content Cap) → (o ≡ None → (r ≡ role.Free) × (c ≡ content.Free)) →
     present_body (option_map (changing (λ x. c)) o) r newest ≡ c
 edited_body c o r newest free = search arith
@@ -208,7 +208,7 @@ cached_entry es n = get_or-map is_some es n None
 pub some_of : (o : Option Entry) → IsSome o → (e : Entry) × (o ≡ Some e)
 some_of o is = search arith
 
--- the entries of a cache are no more than its capacity
+-- a cache has at most as many entries as its capacity
 pub bounded_seen : {D : Type 0} (disk : D → Disk) {d : DurableState D} {m : Memory} {all : Bool} {left count : ℕ} {order : List ℕ}
     {most_entries : ℕ} {s : StoreState D} → cache_of disk d m left order most_entries ≡ s → IsCache all (stored_of disk d) m left count →
     AreOrdered (record { at = m.entries; order = order; most = most_entries }) → IsBounded s
@@ -235,7 +235,7 @@ module _ {D : Type 0} (disk : D → Disk) {d : DurableState D} {m : Memory} {all
   pub fetched_known : n < length m.headers
   fetched_known = omega (arith, fetched.header, ap (λ t. length t.headers) view)
 
-  -- its entry has what it holds
+  -- the entry has the object's content
   pub entry_holds : (c : Content Cap) → option_map present_of (entry_at m.entries n) ≡ Some c → c ≡ held_at s.contents n
   entry_holds c found = search (arith, present_is, content_in, fetched_known)
 
@@ -278,7 +278,7 @@ module _ {D : Type 0} (disk : D → Disk) {d : DurableState D} {m : Memory} {all
         ≡ record (cache_of disk d m left order most_entries) { headers = hs; contents = cs }
     edit_seen {cs} cached contents = search (arith, frozen_state_same, known, frozen_same)
 
-  -- another header of the same role
+  -- replacing a header by one of the same role
   pub header_becomes : (h : ObjectHeader → ObjectHeader) → ((x : ObjectHeader) → (h x).role ≡ x.role) →
       IsNow (with_objects m (set m.headers n (h (header_at m.headers n))) m.entries)
       (record s { headers = set s.headers n (h (header_at s.headers n)) })
@@ -294,7 +294,7 @@ module _ {D : Type 0} (disk : D → Disk) {d : DurableState D} {m : Memory} {all
             ∙ ap (λ (t : StoreState D). record t { headers = set t.headers n (h (header_at t.headers n)) }) view,
       )
 
-  -- another header and another content, or none where it is free
+  -- replacing header and content; the object has an entry or becomes free
   pub both_become : (h : ObjectHeader → ObjectHeader) (c : Content Cap) →
       (entry_at m.entries n ≡ None → ((h (header_at m.headers n)).role ≡ role.Free) × (c ≡ content.Free)) →
       IsNow (with_objects m (set m.headers n (h (header_at m.headers n))) (with_entry (changing (λ x. c)) n m.entries))
@@ -310,7 +310,7 @@ module _ {D : Type 0} (disk : D → Disk) {d : DurableState D} {m : Memory} {all
             view,
       )
 
-  -- another content, of an object that is fetched
+  -- replacing the content of a fetched object
   pub content_becomes : IsFetchedIn s n → (f : Content Cap → Content Cap) →
       IsNow (with_objects m m.headers (with_entry (changing f) n m.entries)) (with_content_in s n (f (held_at s.contents n)))
   content_becomes fetched f =
@@ -326,7 +326,7 @@ module _ {D : Type 0} (disk : D → Disk) {d : DurableState D} {m : Memory} {all
 
 -- ---- bodies are copied out of their entries, by number
 
--- the body of one more number was copied
+-- copying the body of one more number
 pub one_copied : (es : List (Option Entry)) (bodies : List (Content Cap)) (k : ℕ) (c : Content Cap) → length bodies ≡ k
     → ((n : ℕ) → n < k → option_map present_of (entry_at es n) ≡ Some (held_at bodies n)) → option_map present_of (entry_at es k) ≡ Some c
     → (n : ℕ) → n < k + 1 → option_map present_of (entry_at es n) ≡ Some (held_at (bodies ++ c ∷ []) n)
@@ -336,7 +336,7 @@ one_copied es bodies k c many copied here n below = search (arith, cases_lt, get
 module _ {D : Type 0} (disk : D → Disk) {d : DurableState D} {m : Memory} {all : Bool} {left count : ℕ} {order : List ℕ} {most_entries : ℕ}
     {s : StoreState D}
     (view : cache_of disk d m left order most_entries ≡ s) (is : IsCache all (stored_of disk d) m left count) where
-  -- no more numbers are touched than half of the log holds
+  -- at most as many numbers are touched as a log half has slots
   pub within_log : touched_count s.touched ≤ (stored_of disk s.durable).saved.geometry.log
   within_log = subst (λ t. touched_count t.touched ≤ (stored_of disk t.durable).saved.geometry.log) view
       (omega (arith, is.within, is.counted))

@@ -14,7 +14,7 @@ use Rattle.object_cache.proofs.Objects.{content_in, contents_count, cached_entry
 use Rattle.model.specs.declared.object.Content.TheVariants as content
 use Rattle.object_cache.proofs.PutsOut.{dropping}
 
--- what is held on sectors: each frame has its role, and there is one for each object
+-- frames that sectors hold have their headers' roles, and there is one for each object
 pub held_roles : (size : ℕ) (c : Image) (saved : SavedFrames) → Holds size c saved → HaveTheirRoles saved.frames
 held_roles size c saved holds = search (arith, cases_lt, get_or_past)
 
@@ -23,7 +23,7 @@ unfolding frames_in
 again [] = refl
 again (f ∷ fs) = ap (λ gs. f ∷ gs) (again fs)
 
--- what is in memory then: headers, and entries that hold what is saved
+-- the memory at opening: headers, and entries with saved bodies
 abbrev pub open_memory : List ObjectHeader → List ObjectHeader → EntriesState → Memory
 open_memory hs fh e = memory_of hs fh (replicate (length hs) false) (replicate (length hs) false) (replicate (length hs) false) e.at None
 
@@ -70,7 +70,7 @@ module _ (s : Stored) (hs fh : List ObjectHeader) (fh_count : length fh ≡ leng
   unfolding untouched
   open_over {D} disk d same = search (arith, open_contents, each, contents_count, cached_entry)
 
--- what is in a durable store that was opened
+-- a durable store that was just opened
 module _ {D : Type 0} (disk : D → Disk) (device : D) (d : DurableState D) (hs : List ObjectHeader) (opened : OpensDurable disk device d)
     (took : hs ≡ headers (stored_of disk d).saved.frames) where
   pub just_opened : IsJustOpened (stored_of disk d) hs
@@ -82,7 +82,7 @@ module _ {D : Type 0} (disk : D → Disk) (device : D) (d : DurableState D) (hs 
     idle = opened.frozen;
   }
 
-  -- and in a store that was made over it
+  -- a store over it
   pub opens_store : (most : ℕ) (s : StoreState D) → IsOpenOver disk d most s → OpensStore disk device (parts_of disk s) (view_of disk s)
   opens_store most s over = search (arith, again)
 
@@ -93,7 +93,7 @@ pub none_inserted : (count : ℕ) (e : EntriesState) → e ≡ record { at = rep
     count ≤ all_of count → AreInserted e 0 count
 none_inserted count e is whole = search (arith, each, length-replicate, alike)
 
--- one more
+-- inserting one more entry
 pub one_inserted : (e : EntriesState) (k count : ℕ) → AreInserted e k count → k < count → (c : Content Cap) →
     AreInserted (with_new k c e) (k + 1) count
 one_inserted e k count are below c = record {
@@ -133,7 +133,7 @@ dropped_one e k some within before n less = elim (cases_lt n k) [
 pub blank_hold : (fs : List Frame) (most : ℕ) → HoldBodies (record { at = replicate (length fs) None; order = []; most = most }) fs
 blank_hold fs most = search (arith, each, length-replicate, none-some, alike)
 
--- one more
+-- taking one more frame
 module _ (e : EntriesState) (taken count : ℕ) (room : HaveRoom e taken count) (below : taken < count) (c : Content Cap) where
   abbrev body : Option Entry
   body = option_map (changing (λ (x : Content Cap). c)) (entry_at e.at taken)
@@ -203,7 +203,7 @@ taken_more s fs f below rooms took = record {
       (same_Some (with_body (length s.headers) f.content x) e some)
       (one_body x (length s.headers) s.count (rooms x at) below f.content fs f many refl (took.bodies x at))
 
--- all of them
+-- after all frames were taken
 module _ (s : TakenState) (fs : List Frame) (took : AreTaken s fs) (e : EntriesState) (at : s.entries ≡ Some e)
     (room : HaveRoom e (length s.headers) s.count)
     (all : length s.headers ≡ s.count) where
@@ -216,6 +216,6 @@ module _ (s : TakenState) (fs : List Frame) (took : AreTaken s fs) (e : EntriesS
   pub taken_all : AreAll e
   taken_all n within = ap is_some (took.bodies e at n (omega (arith, within, frames_count)))
 
--- there is memory for one more of the frames
+-- there is memory for one more frame
 pub taken_below : {s t : TakenState} → s ≡ t → (fs : List Frame) → AreTaken t fs → length fs < t.count → length s.headers < s.count
 taken_below {s} {t} view fs took few = search (arith, length-map)

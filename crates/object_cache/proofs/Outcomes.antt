@@ -4,14 +4,14 @@ use Rattle.object_cache.proofs.Names.{IsCache, Memory, cache_of, true, false, Re
 use Rattle.object_cache.proofs.Names.{err_counts, err_from_is_err_and, is_err, IsErrAnd}
 use Rattle.std.proofs.Common.{◌≡◌, ◌∙◌}
 
--- what always holds does of the fields of a cache, and this is seen of them
+-- the fields of a cache satisfy its invariant and have these views
 pub record IsSeenAs {D : Type 0} (all : Bool) (disk : D → Disk) (d : DurableState D) (m : Memory) (left count : ℕ) (order : List ℕ)
     (most_entries : ℕ) (s : StoreState D) :
     Type 0 where
   pub is : IsCache all (stored_of disk d) m left count
   pub view : cache_of disk d m left order most_entries ≡ s
 
--- what always holds does of the fields of a cache after a step, this is seen of them, and the store goes on
+-- after a step the fields of a cache satisfy its invariant and have these views, and the store goes on
 pub record IsNext {D : Type 0} (all : Bool) (disk : D → Disk) (s : StoreState D) (d : DurableState D) (m : Memory) (left count : ℕ)
     (order : List ℕ) (most_entries : ℕ)
     (t : StoreState D) : Type 0 where
@@ -31,7 +31,7 @@ module _ {D : Type 0} {disk : D → Disk} {s t : StoreState D} {d : DurableState
       (λ k. (sym m_is k, sym order_is k, sym most_is k)) next
 
 module _ {D : Type 0} (disk : D → Disk) where
-  -- what is in memory doesn't matter
+  -- what is in memory doesn't matter for going on
   pub continues_with : {s t : StoreState D} (cached : List Bool) (frozen_state : List FrozenState) (order : List ℕ) (staging : Option Held)
       → GoesOnIn disk s t →
       GoesOnIn disk s (record t { cached = cached; frozen_state = frozen_state; order = order; staging = staging })
@@ -47,7 +47,7 @@ module _ {D : Type 0} (disk : D → Disk) where
   counts_err {new = new} r Q same failed counts = subst (λ x. Counts (disk x.durable.beneath) new r) same
       (err_counts (ap is_err (err_from_is_err_and r failed).1) counts)
 
-  -- what was in memory before doesn't matter either
+  -- nor does what was in memory before
   pub continues_past : {s t u : StoreState D} (x : List FrozenState) → t ≡ record s { frozen_state = x } → GoesOnIn disk t u →
       GoesOnIn disk s u
   continues_past {s} {t} {u} x same later =
@@ -66,6 +66,6 @@ module _ {D : Type 0} (disk : D → Disk) where
 pub none_of : {A B : Type 0} (f : A → B) (o : Option A) → option_map f o ≡ None → o ≡ None
 none_of {A} {B} f o is = search (arith, none-some)
 
--- the same by an answer
+-- the same by a case on an answer
 pub whichever : {X : Type 0} (b : Bool) (P : X → Type 0) (x y z : X) → (b ≡ true → x ≡ y) → (b ≡ false → x ≡ z) → P y → P z → P x
 whichever {X} b P x y z if_true if_false on_true on_false = search arith

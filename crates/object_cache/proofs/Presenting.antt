@@ -15,15 +15,15 @@ module _ {D : Type 0} (all : Bool) (disk : D → Disk)
       let same = continues_same disk all only_now s in
       search (arith, is, header_count, content_count)
 
-  -- another content
+  -- an object with another content
   pub becomes_held : (n : ℕ) (c : Content Cap) → t ≡ record s { contents = set s.contents n c } → Edits s.headers (set s.contents n c)
   becomes_held n c is = becomes is refl (length-set s.contents n c)
 
-  -- another header
+  -- an object with another header
   pub becomes_header : (n : ℕ) (h : ObjectHeader) → t ≡ record s { headers = set s.headers n h } → Edits (set s.headers n h) s.contents
   becomes_header n h is = becomes is (length-set s.headers n h) refl
 
-  -- both
+  -- an object with another header and another content
   pub becomes_both : (n : ℕ) (h : ObjectHeader) (c : Content Cap) → t ≡ record s
       { headers = set s.headers n h; contents = set s.contents n c } → Edits (set s.headers n h) (set s.contents n c)
   becomes_both n h c is = becomes is (length-set s.headers n h) (length-set s.contents n c)

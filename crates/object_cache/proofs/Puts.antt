@@ -11,7 +11,7 @@ use Rattle.object_cache.proofs.Objects.{of_each, Alike, content_in, contents_ali
 
 -- ---- slots
 
--- no more have a slot than were written
+-- at most as many objects have slots as were written
 pub held_touched : (ps : List Put) (ts : List Bool) → length ps ≡ length ts → ((k : ℕ) → mark_at ts k ≡ false → put_at ps k ≡ Absent) →
     sum_of held_slot ps ≤ touched_count ts
 unfolding sum_of
@@ -31,7 +31,7 @@ held_touched (p ∷ ps) (false ∷ ts) count each =
     let none : held_slot p ≡ 0 = ap held_slot (each zero refl) in
     omega (arith, total, rest, none)
 
--- and fewer, where one that was written has none
+-- fewer, if an object that was written has none
 held_short : (ps : List Put) (ts : List Bool) (n : ℕ) → length ps ≡ length ts → ((k : ℕ) → mark_at ts k ≡ false → put_at ps k ≡ Absent) →
     mark_at ts n ≡ true → put_at ps n ≡ Absent → sum_of held_slot ps < touched_count ts
 held_short ps ts n count each marked none =
@@ -46,7 +46,7 @@ has_free_slot room ps ts n count each marked within = search (arith, held_short)
 
 -- ---- a working frame
 
--- with other numbers that are to be put
+-- a memory with other dirty numbers
 abbrev pub with_dirty : Memory → List Bool → Memory
 with_dirty m ds = record m { dirty = ds }
 
@@ -98,7 +98,7 @@ module _ {D : Type 0} (disk : D → Disk) {d : DurableState D} {m : Memory} {all
       touched_here
       (omega (arith, is.within, is.counted))
 
-  -- its slot was written
+  -- the slot of an object was written
   module _ {new : DurableState D} {p : Put} {ds : List Bool} (size : length ds ≡ length m.dirty)
       (others : (k : ℕ) → k ≢ n → mark_at ds k ≡ mark_at m.dirty k)
       (here : (mark_at ds n ≡ true) ⊎ (p ≡ Kept (present_at (stored_of disk d) m n)))
@@ -143,7 +143,7 @@ module _ {D : Type 0} (disk : D → Disk) {d : DurableState D} {m : Memory} {all
       });
     }
 
-  -- its slot may hold any bytes
+  -- the slot may hold any bytes
   pub unput_next : {new : DurableState D} → stored_of disk new ≡ with_working n Broken (stored_of disk d) → GoesOn disk d new →
       (disk d.beneath).failures ≤ (disk new.beneath).failures → IsNext all disk s new m left count order most_entries
       (record s { durable = new })
@@ -160,7 +160,7 @@ module _ {D : Type 0} (disk : D → Disk) {d : DurableState D} {m : Memory} {all
         → IsKeepable (stored_of disk d).saved.geometry most n (record { header = header; content = x })
     keepable_here keepable = search (arith, content_in, known_here, frame_is)
 
-    -- it is put
+    -- the slot has the object's frame
     pub kept_next : {ds : List Bool} → ds ≡ set m.dirty n false → {new : DurableState D} →
         stored_of disk new ≡ with_working n (Kept (record { header = header; content = x })) (stored_of disk d) → GoesOn disk d new →
         (disk d.beneath).failures ≤ (disk new.beneath).failures →

@@ -25,7 +25,7 @@ none_frozen_state o touched = search arith
 abbrev pub with_pending : Memory → List Bool → List (Option Entry) → Option Held → Memory
 with_pending m ps es staging = record m { pending = ps; entries = es; staging = staging }
 
--- the slot of a number's frozen frame is written: what it holds and its frozen frame stay
+-- the slot of an object's frozen frame was written: its content and its frozen frame stay
 pub record Releases (s : Stored) (m : Memory) (n : ℕ) (p : Put) (ps : List Bool) (es : List (Option Entry)) (staging : Option Held) :
     Type 0 where
   pub mark_count : length ps ≡ length m.pending
@@ -52,12 +52,12 @@ module _ {s : Stored} {m : Memory} {all : Bool} {left count : ℕ} (is : IsCache
   pub frozen_below : {f : FrozenPuts} → s.frozen ≡ Some f → n < length m.headers → (g : Frame) → below_at (with_frozen n (Kept g) s) n ≡ g
   frozen_below {f} f_is within g = search (arith, get_or-set_same)
 
-  -- its slot is torn: all is in memory
+  -- the slot is torn: all is in memory
   pub torn_releases : content_at (with_frozen n Broken s) m n ≡ content_at s m n →
       frozen_at (with_frozen n Broken s) m n ≡ frozen_at s m n → Releases s m n Broken m.pending m.entries m.staging
   torn_releases content frozen = search (arith, content, frozen, ap (λ b. b || false) pending, pending, is.held, is.apart n, is.freed n)
 
-  -- it has its frozen frame: nothing is kept apart
+  -- the slot has the frozen frame: there is no frozen copy any more
   pub put_releases : {f : FrozenPuts} → s.frozen ≡ Some f → n < length m.headers → (g : Frame) → g ≡ frozen_at s m n →
       (es : List (Option Entry)) → length es ≡ length m.entries → ((k : ℕ) → k ≢ n → entry_at es k ≡ entry_at m.entries k) →
       ((e : Entry) → entry_at es n ≡ Some e → e.kept ≡ None) → (IsSome (entry_at m.entries n) → IsSome (entry_at es n)) →
@@ -102,7 +102,7 @@ module _ {s : Stored} {m : Memory} {all : Bool} {left count : ℕ} (is : IsCache
   pub frozen_seen_same : frozen_seen after memory left ≡ frozen_seen s m left
   frozen_seen_same = search (arith, frozen_now, frozen_alike, released_alike)
 
-  -- each number that the checkpoint writes is pending or was put, as before
+  -- each object that the checkpoint writes is pending or in the log, as before
   written_stays : (k : ℕ) → (mark_at ps k || is_kept (put_at (set f.put n p) k)) ≡ (mark_at m.pending k || is_kept (put_at f.put k))
   written_stays = of_each n
       (ap (λ q. mark_at ps n || is_kept q)
@@ -214,7 +214,7 @@ module _ {D : Type 0} (disk : D → Disk) {d : DurableState D} {m : Memory} {all
   pub fewer_here : {ps : List Bool} → ps ≡ set m.pending n false → count_by (λ b. b) ps < count_by (λ b. b) s.pending
   fewer_here ps_is = omega (arith, one_fewer m.pending n pending, ap (count_by (λ b. b)) ps_is, ap (λ t. count_by (λ b. b) t.pending) view)
 
-  -- its slot was written
+  -- the slot of the object was written
   module _ {new : DurableState D} {p : Put} {ps : List Bool} {es : List (Option Entry)} {staging : Option Held} {os : List FrozenState}
       (put : stored_of disk new ≡ with_frozen n p (stored_of disk d)) (goes : GoesOn disk d new)
       (later : (disk d.beneath).failures ≤ (disk new.beneath).failures) (rest : Releases (stored_of disk d) m n p ps es staging)
@@ -245,13 +245,13 @@ module _ {D : Type 0} (disk : D → Disk) {d : DurableState D} {m : Memory} {all
       continues = subst (GoesOnIn disk s) (sym released_seen) (put_continues new p put goes later ps os staging);
     }
 
-    -- and it is pending no more
+    -- the object is no longer pending
     pub put_next : ps ≡ set m.pending n false → os ≡ set (frozen_states_in m) n Nothing →
         IsNext all disk s new (with_pending m ps es staging) left count order most_entries
         (record s { durable = new; pending = set s.pending n false; frozen_state = set s.frozen_state n Nothing; staging = staging })
     put_next ps_is os_is = search (arith, next_as, released_next)
 
-  -- it was torn
+  -- the slot was torn
   pub torn_next : {new : DurableState D} → stored_of disk new ≡ with_frozen n Broken (stored_of disk d) → GoesOn disk d new →
       (disk d.beneath).failures ≤ (disk new.beneath).failures →
       content_at (with_frozen n Broken (stored_of disk d)) m n ≡ content_at (stored_of disk d) m n →
@@ -263,7 +263,7 @@ module _ {D : Type 0} (disk : D → Disk) {d : DurableState D} {m : Memory} {all
 
 -- ---- the body is in an entry
 
--- what is frozen_state is what the entry has
+-- the frozen state says which body the entry has
 has_frozen_body : (e : Entry) (pending touched : Bool) → frozen_state_of (Some e) pending touched ≢ Nothing →
     (pending ≡ true) × ((below : Content Cap) → apart_body e.kept touched e.present below ≡ own_body e.kept e.present)
 has_frozen_body e pending touched frozen_state = search arith
@@ -282,7 +282,7 @@ module _ {s : Stored} {m : Memory} {all : Bool} {left count : ℕ} (is : IsCache
   own_content : (t : Stored) → content_at t m n ≡ e.present
   own_content t = ap (λ o. present_body o (header_at m.headers n).role (newest_body t m n)) at
 
--- the same by what is seen
+-- the same for stores that are given as views
 module _ {D : Type 0} (disk : D → Disk) {d : DurableState D} {m : Memory} {all : Bool} {left count : ℕ} {order : List ℕ} {most_entries : ℕ}
     {s : StoreState D}
     (view : cache_of disk d m left order most_entries ≡ s) (is : IsCache all (stored_of disk d) m left count) {n : ℕ}
@@ -393,7 +393,7 @@ module _ {s : Stored} {m : Memory} {all : Bool} {left count : ℕ} (is : IsCache
       below_is : (t : Stored) → below_body t m h.number ≡ h.content
       below_is t = rw (staging, eq-eqb h.number h.number refl)
 
-      -- an entry has nothing of it
+      -- if the entry has no body for the frozen frame, the object was written since, and has no frozen copy
       bare : (e : Entry) → entry_at m.entries h.number ≡ Some e → (mark_at m.touched h.number ≡ true) × (e.kept ≡ None)
       bare e at = search (arith, nothing_frozen_state, held_pending)
 
@@ -422,7 +422,7 @@ module _ {s : Stored} {m : Memory} {all : Bool} {left count : ℕ} (is : IsCache
           ∙ ap (λ b. cond b h.content c) (ne_eqb h.number k (λ same. other (sym same))))) (λ g gone. absurd (none-some g gone))
           (content_put f_is g g_is (entry_at m.entries h.number) refl)
 
--- the same by what is seen
+-- the same for stores that are given as views
 module _ {D : Type 0} (disk : D → Disk) {d : DurableState D} {m : Memory} {all : Bool} {left count : ℕ} {order : List ℕ} {most_entries : ℕ}
     {s : StoreState D}
     (view : cache_of disk d m left order most_entries ≡ s) (is : IsCache all (stored_of disk d) m left count) (h : Held)

@@ -9,7 +9,7 @@ use Rattle.model.specs.declared.answer.Refusal.TheVariants as refusal
 use Rattle.model.specs.declared.object.Role.TheVariants as role
 use Rattle.object_cache.proofs.Journaling.{read_first}
 
--- what is left of what is saved is also left of that or what is saved next
+-- if each crash leaves the saved state, it leaves that or the state that is saved next
 leaves_one : {old new : Disk} {saved : SavedFrames} (o : Option SavedFrames) → LeavesSaved old new saved → LeavesOneOf old new saved o
 leaves_one None leaves = leaves
 leaves_one {old} {new} {saved} (Some next) leaves = leaves_weaker {old = old} {new = new} {P = λ c. Holds old.sectors c saved}
@@ -42,7 +42,7 @@ module _ {D : Type 0} (disk : D → Disk) {s t : DurableState D} (reads : ReadsS
     cause = counts_on same saves.cause;
   }
 
-  -- it was read alone
+  -- the device was only read
   pub not_saved : {T E : Type 0} {n age : ℕ} {ws : List ℕ} {e : E} (r : Result ℕ E) (Q : E → Type 0) → IsErrAnd r Q →
       Counts {T = T} (disk s.beneath) (disk t.beneath) (Err e) → SavesPage disk s t n age ws r
   not_saved {n = n} {age = age} {ws = ws} (Ok g) Q failed counts = absurd failed
@@ -57,7 +57,7 @@ module _ {D : Type 0} (disk : D → Disk) {s t : DurableState D} (reads : ReadsS
     cause = err_counts refl counts;
   }
 
-  -- with its words of now
+  -- the page is saved with its present words
   pub held_after : {E : Type 0} {u : DurableState D} {n age : ℕ} (es : List (Option Entry)) {r : Result ℕ E} →
       (disk t.beneath).failures ≡ (disk s.beneath).failures → SavesPage disk t u n age (words_in (held_now es (stored_of disk t) n)) r →
       SavesPage disk s u n age (words_in (held_now es (stored_of disk s) n)) r
@@ -82,7 +82,7 @@ module _ {D : Type 0} (disk : D → Disk) {s t : DurableState D} (reads : ReadsS
 module _ {D : Type 0} (disk : D → Disk) {s : DurableState D} (sound : is_sound disk s) (es : List (Option Entry)) (h : ObjectHeader)
     (is_known : Bool)
     (n age : ℕ) where
-  -- another spelling of the header, and of whether it is known
+  -- the same for a header, and for whether it is known, given in other ways
   pub journals_as : {t : DurableState D} {g : ObjectHeader} {k : Bool} {r : Result ℕ Refusal} → h ≡ g → is_known ≡ k →
       JournalsPage disk s t es h is_known n age r → JournalsPage disk s t es g k n age r
   journals_as {t = t} {g = g} {r = r} h_is k_is is =
@@ -109,7 +109,7 @@ module _ {D : Type 0} (disk : D → Disk) {s : DurableState D} (sound : is_sound
       })
 
   module _ (free : (stored_of disk s).frozen ≡ None) (page : is_page_role h.role ≡ true) where
-    -- after the device was read
+    -- a refusal after the device was read
     pub refuses_late : {t : DurableState D} {why : Refusal} {r : Result ℕ Refusal} → (e : Refusal) × (r ≡ Err e) × (e ≡ why) →
         ReadsStore disk s t → (IsTurnedAway (Err why) → ⊥) →
         IsJournalAnswer (disk s.beneath) (disk t.beneath) None (stored_of disk s).saved is_known true (is_saved_page (stored_of disk s) h n)

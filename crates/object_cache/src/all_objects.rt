@@ -1,4 +1,4 @@
-// All objects of a store.
+// Copying all objects of a store.
 ghost use Rattle.std.specs.Prelude.{◌≡◌, ℕ, ◌<◌, Some, length, option_map, IfOk, IsSome};
 ghost use Rattle.cache_entries.specs.Entries.{entry_at, present_of};
 ghost use Rattle.model.specs.Frame.{held_at};
@@ -9,7 +9,7 @@ use migrator::AllObjects;
 use model::{Cap, Content};
 use std::alloc::{AllocError, Global};
 
-// Copies of all bodies, by number. Each object must have an entry.
+// Returns copies of all bodies, by number. Each object must have an entry.
 fn copy_bodies(
     alloc: Global,
     entries: &Entries,
@@ -28,7 +28,7 @@ fn copy_bodies(
     Ok(bodies)
 }
 
-/// Copies of the objects with these headers. Each must have an entry. Fails only if memory runs out.
+/// Returns copies of the objects with these headers. Each object must have an entry. Fails only if memory runs out.
 pub(crate) fn copy_objects(
     alloc: Global,
     table: &ObjectTable,

@@ -1,4 +1,4 @@
-// Frozen frames: what an entry has of one, and writing one.
+// Frozen frames: which body an entry has for one, and writing one.
 ghost use Rattle.std.specs.Prelude.{◌≡◌, Some, option_map, IsSome, OnOk, OnErr};
 ghost use Rattle.model.specs.Frame.{content_behind};
 ghost use Rattle.device.specs.Calls.{Counts};
@@ -13,7 +13,7 @@ use device::{Device, Failed};
 use migrator::Durable;
 use model::{ContentRef, ObjectHeader, Role};
 
-/// What an entry has of a frozen frame that isn't in the log: nothing, the present body, or a frozen copy.
+/// Which body an entry has for a frozen frame that isn't in the log: none, the present body, or a frozen copy.
 #[derive(Drop)]
 pub(crate) enum FrozenState {
     Nothing,
@@ -21,7 +21,8 @@ pub(crate) enum FrozenState {
     Apart,
 }
 
-// By whether the frozen frame is pending, whether there is a frozen copy, and whether the object was written since.
+// Returns the state by three facts: the frozen frame is pending, there is a frozen copy, the object was written since
+// the freeze.
 pub(crate) fn state_by(is_pending: bool, is_kept: bool, is_touched: bool) -> FrozenState
     ensures { result ≡ frozen_state_by is_pending is_kept is_touched }
 {
@@ -37,7 +38,7 @@ pub(crate) fn state_by(is_pending: bool, is_kept: bool, is_touched: bool) -> Fro
     FrozenState::Shared
 }
 
-// The body of an object by its role: `Free` if the role is free.
+// Returns the body of an object with this role: `Free` if the role is `Free`.
 pub(crate) fn mask(role: Role, content: ContentRef<'_>) -> ContentRef<'_>
     ensures { content_behind result ≡ masked role (content_behind content.entry) }
 {
@@ -47,7 +48,7 @@ pub(crate) fn mask(role: Role, content: ContentRef<'_>) -> ContentRef<'_>
     }
 }
 
-// The frozen body that an entry has: the frozen copy, or else the present body.
+// Returns the frozen body that an entry has: the frozen copy if there is one, else the present body.
 pub(crate) fn own_body(entries: &Entries, number: u64) -> ContentRef<'_>
     requires { IsSome (entry_at entries.now.at number) }
     ensures { option_map own_body_of (entry_at entries.now.at number) ≡ Some (content_behind result) }
@@ -58,7 +59,7 @@ pub(crate) fn own_body(entries: &Entries, number: u64) -> ContentRef<'_>
     }
 }
 
-// Writes a frozen frame to the log. Its body is `Free` if the header's role is free.
+// Writes a frozen frame to the log. Its body is `Free` if the header's role is `Free`.
 pub(crate) fn put_body<D: Device>(
     durable: &mut Durable<D>,
     number: u64,

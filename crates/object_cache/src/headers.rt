@@ -24,7 +24,7 @@ impl Model for FrozenHeaders {
     ghost view = { λ h. h.items.items };
 }
 
-// Copies the headers of marked numbers.
+// Copies the headers of marked numbers from the table.
 fn copy_marked(frozen: &mut [ObjectHeader], table: &ObjectTable, marks: &NumberSet)
     requires each { length marks.now ≡ length frozen.old }
     ensures count { length frozen.new ≡ length frozen.old }
@@ -39,7 +39,7 @@ fn copy_marked(frozen: &mut [ObjectHeader], table: &ObjectTable, marks: &NumberS
 }
 
 impl FrozenHeaders {
-    /// A copy of the headers. Fails only if memory runs out.
+    /// Returns a copy of these headers. Fails only if memory runs out.
     pub(crate) fn new(alloc: Global, headers: &[ObjectHeader]) -> Result<FrozenHeaders, AllocError>
         ensures { IfOk result (λ frozen. frozen ≡ headers.now) }
     {
@@ -48,7 +48,7 @@ impl FrozenHeaders {
         })
     }
 
-    /// The header of an object.
+    /// Returns the header of an object.
     pub(crate) fn header(&self, number: u64) -> ObjectHeader
         requires { number < length self.now }
         ensures { result ≡ header_at self.now number }
@@ -56,7 +56,7 @@ impl FrozenHeaders {
         self.items[number as usize]
     }
 
-    /// Copies the headers of marked numbers.
+    /// Copies the headers of marked numbers from the table.
     pub(crate) fn take_marked(&mut self, table: &ObjectTable, marks: &NumberSet)
         requires each { length marks.now ≡ length self.old }
         ensures count { length self.new ≡ length self.old }

@@ -1,5 +1,5 @@
-//! The store of objects over a device. Its policy says which bodies it keeps in memory: all of them, or those used
-//! last.
+//! The store of objects over a device. Its policy says which bodies it keeps in memory: all, or the most recently
+//! used ones.
 #![tactic(auto)]
 
 mod all_objects;

@@ -1,4 +1,4 @@
-// Which numbers of a list a set lacks, and how they are added.
+// Which numbers of a list a set lacks, and adding them.
 ghost use Rattle.std.specs.Prelude.{◌≡◌, ◌↔◌, ◌+◌, ◌<◌, ◌≤◌, IsTrue, length, not, slice_index_or, slice_set, true};
 ghost use Rattle.std.specs.Prelude.{false};
 ghost use Rattle.std.specs.List.{All};
@@ -19,8 +19,8 @@ pub(crate) fn contains_all(marks: &NumberSet, numbers: &[u64]) -> bool
     true
 }
 
-// How many numbers of a list the set lacks; one listed twice counts once. Compares each pair of the list, and takes no
-// memory.
+// Returns how many numbers of a list the set lacks; a number that is listed twice counts once. Compares each pair of
+// the list, and takes no memory.
 fn count_missing(marks: &NumberSet, numbers: &[u64]) -> u64
     requires { All (λ n. n < length marks.now) numbers.now }
     ensures counted { touched_count marks.now + result ≡ touched_count (touching marks.now numbers.now) }
@@ -35,8 +35,8 @@ fn count_missing(marks: &NumberSet, numbers: &[u64]) -> u64
     missing
 }
 
-/// Whether the set lacks more than `room` numbers of a list; one listed twice counts once. Only a list longer than
-/// `room` is compared with itself.
+/// Whether the set lacks more than `room` numbers of a list; a number that is listed twice counts once. Compares the
+/// numbers with one another only if the list is longer than `room`.
 pub(crate) fn lacks_more(marks: &NumberSet, numbers: &[u64], room: u64) -> bool
     requires { All (λ n. n < length marks.now) numbers.now }
     ensures { IsTrue result ↔ (touched_count marks.now + room < touched_count (touching marks.now numbers.now)) }

@@ -5,20 +5,20 @@ ghost use Rattle.object_cache.specs.StoreState.{all_of};
 use capability::MAX_FETCHED;
 use collections::Capacity;
 
-/// Which bodies a store keeps in memory.
+/// A policy: which bodies a store keeps in memory.
 pub trait Policy: Drop {
-    /// How a store is set up.
+    /// The type of a store's setting, which is given when it is opened.
     type Setting: Copy;
 
-    /// Whether it keeps every body, from opening on.
+    /// Whether the store keeps every body in memory, from opening on.
     const KEEPS_ALL: bool;
 
     ghost KEEPS_ALL: { Bool };
 
-    /// How many objects stay in memory at most, by the setting and the number of objects.
+    /// The most objects in memory, by the setting and the number of all objects.
     ghost most_for: { Self.Setting → ℕ → ℕ };
 
-    /// How many objects a store of `count` objects keeps in memory at most.
+    /// Returns the most objects that a store of `count` objects keeps in memory.
     fn capacity(setting: Self::Setting, count: usize) -> Capacity
         requires few { count ≤ 8192 }
         ensures most { result ≡ most_for setting count };
@@ -26,7 +26,7 @@ pub trait Policy: Drop {
     ghost keeps: { (setting : Self.Setting) (count : ℕ) → KEEPS_ALL ≡ true → most_for setting count ≡ all_of count };
 }
 
-/// The least capacity for `count` objects.
+/// Returns the least capacity that has room for `count` objects.
 pub(crate) fn capacity_for_all(count: usize) -> Capacity
     requires few { count ≤ 8192 }
     ensures all { result ≡ all_of count }
@@ -43,11 +43,11 @@ pub(crate) fn capacity_for_all(count: usize) -> Capacity
     }
 }
 
-/// Every body is in memory, from opening on.
+/// Keeps every body in memory, from opening on.
 #[derive(Drop)]
 pub struct KeepAll;
 
-/// At most as many objects are in memory as the setting says: those used last.
+/// Keeps at most as many objects in memory as the setting says: the most recently used ones.
 #[derive(Drop)]
 pub struct KeepRecent;
 

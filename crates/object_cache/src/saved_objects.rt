@@ -1,4 +1,4 @@
-// The saved objects, read when a device is opened.
+// The saved objects, which are read when a device is opened.
 ghost use Rattle.std.specs.Prelude.{◌≡◌, ◌<◌, ◌≤◌, List, Some, is_some, length, option_map, true, ℕ, IfOk, IsSome};
 ghost use Rattle.cache_entries.specs.Entries.{entry_at};
 ghost use Rattle.cache_entries.specs.Order.{EntriesState};
@@ -38,7 +38,7 @@ impl<P: Policy> Model for SavedObjects<P> {
         × ((e : EntriesState) → s.entries ≡ Some e → HaveRoom e (length s.headers.items) s.count) };
 }
 
-// Adds an entry with a free body for each number.
+// Adds an entry with a free body for each number below `count`.
 fn insert_all(entries: &mut Entries, count: usize)
     requires { AreInserted entries.old 0 count }
     ensures { AreInserted entries.new count count }
@@ -48,7 +48,8 @@ fn insert_all(entries: &mut Entries, count: usize)
     }
 }
 
-// Drops the frozen copies up to the first number that has no entry. Returns whether each number has one.
+// Drops frozen copies, number by number, up to the first number without an entry. Returns whether every number has an
+// entry.
 fn drop_all_kept(entries: &mut Entries, count: usize) -> bool
     requires { length entries.old.at ≡ count }
     ensures each { length entries.new.at ≡ count }
@@ -64,8 +65,8 @@ fn drop_all_kept(entries: &mut Entries, count: usize) -> bool
     true
 }
 
-// An entry for each number, without a frozen copy: those in `memory` if they are as many. Fails only if memory runs
-// out.
+// Returns an entry for each number, without frozen copies: the entries in `memory`, if there are as many. Fails only
+// if memory runs out.
 fn all_entries(
     alloc: Global,
     count: usize,
@@ -86,7 +87,7 @@ fn all_entries(
     Ok(entries)
 }
 
-// An entry for each number, if the policy keeps every body. Fails only if memory runs out.
+// Returns an entry for each number if the policy keeps every body, else `None`. Fails only if memory runs out.
 fn first_entries<P: Policy>(
     alloc: Global,
     count: usize,
@@ -103,7 +104,7 @@ fn first_entries<P: Policy>(
     Ok(Some(entries))
 }
 
-// Puts a body that was read into its entry, if there are entries.
+// Puts a body that was read into the entry of its object, if there are entries.
 fn keep_body(entries: &mut Option<Entries>, number: u64, body: &Body, scratch: &Scratch)
     requires { (e : EntriesState) → entries.old ≡ Some e → IsSome (entry_at e.at number) }
     ensures { entries.new ≡ option_map
@@ -153,8 +154,8 @@ impl<P: Policy> Intake for SavedObjects<P> {
 }
 
 impl<P: Policy> SavedObjects<P> {
-    /// The headers, and the entries: if the policy doesn't keep every body, they are made here, if possible in
-    /// `memory`, and hold none. Fails if memory runs out, or if fewer frames were taken than there are numbers.
+    /// Returns the headers and the entries. If the policy doesn't keep every body, the entries are made here, empty,
+    /// and in `memory` if possible. Fails if memory runs out, or if fewer frames were taken than there are numbers.
     pub(crate) fn into_parts(
         self,
         alloc: Global,

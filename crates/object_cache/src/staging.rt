@@ -1,4 +1,4 @@
-// The staging buffer: a frozen body that is moved from one slot to another, and is in no entry.
+// The staging buffer: a frozen body on its way from one slot to another, which is in no entry.
 ghost use Rattle.std.specs.Prelude.{◌≡◌, None, Some, IfOk, is_some, option_map};
 ghost use Rattle.layout.specs.Frame.{content_of};
 ghost use Rattle.object_cache.specs.Memory.{released, held_behind};
@@ -9,7 +9,7 @@ use std::alloc::{AllocError, Global};
 use std::marker::Model;
 use std::mem;
 
-/// The number and the body of an object, or none. Only `new` takes memory.
+/// The number and the body of an object, or nothing. Only `new` takes memory.
 #[derive(Drop)]
 pub(crate) struct Staging {
     held: Option<(u64, Body)>,
@@ -27,7 +27,7 @@ impl Model for Staging {
 }
 
 impl Staging {
-    /// An empty staging buffer. Fails only if memory runs out.
+    /// Returns an empty staging buffer. Fails only if memory runs out.
     pub(crate) fn new(alloc: Global) -> Result<Staging, AllocError>
         ensures { IfOk result (λ staging. staging ≡ None) }
     {
@@ -37,7 +37,7 @@ impl Staging {
         })
     }
 
-    /// The number and the body in the staging buffer.
+    /// Returns the number and the body in the staging buffer, or `None` if it is empty.
     pub(crate) fn get(&self) -> Option<(u64, ContentRef<'_>)>
         ensures { option_map held_behind result ≡ self.now }
     {
@@ -47,14 +47,14 @@ impl Staging {
         }
     }
 
-    /// Whether it has a body.
+    /// Whether the staging buffer has a body.
     pub(crate) fn is_held(&self) -> bool
         ensures { result ≡ is_some self.now }
     {
         self.held.is_some()
     }
 
-    /// Takes a body that was read into a scratch buffer, by swapping the buffers.
+    /// Takes a body that was read into a scratch buffer, by swapping the two buffers.
     pub(crate) fn take_up(&mut self, number: u64, body: Body, scratch: &mut Scratch)
         ensures { self.new ≡ Some (record {
           number = number;
@@ -72,7 +72,7 @@ impl Staging {
         self.held = None;
     }
 
-    /// Drops the body, if it is that number's.
+    /// Drops the body, if it is that of this number.
     pub(crate) fn release(&mut self, number: u64)
         ensures { self.new ≡ released number self.old }
     {

@@ -25,8 +25,8 @@ mod prepare;
 mod present;
 mod stabilize;
 
-/// The objects over a device. The headers of all objects are always in memory; the policy says which bodies are. Those
-/// with an entry are in memory; the others lie on the device.
+/// The objects over a device. The headers of all objects are always in memory; the policy says which bodies are.
+/// Objects with an entry have their bodies in memory; the other bodies lie on the device.
 #[derive(Drop)]
 pub struct Store<D: Device, P: Policy> {
     durable: Durable<D>,
@@ -42,7 +42,7 @@ pub struct Store<D: Device, P: Policy> {
     pending: NumberSet,
     /// The headers of pending numbers as they were frozen.
     frozen_headers: FrozenHeaders,
-    /// How many objects of the frozen checkpoint `stabilize` has yet to reach.
+    /// How many objects of the frozen checkpoint `stabilize` hasn't reached yet.
     left: u64,
     /// A frozen body that is in no entry, and perhaps no longer in its slot.
     staging: Staging,
@@ -79,7 +79,7 @@ impl<D: Device, P: Policy> Store<D, P> {
     ghost use Rattle.object_cache.specs.StoreState.{pending_count, without_cached};
     ghost use Rattle.cache_entries.specs.Order.{without};
 
-    /// The number of objects in memory: never more than the capacity that the store was opened with.
+    /// Returns the number of objects in memory: never more than the capacity that the store was opened with.
     pub fn len(&self) -> usize
         ensures count { result ≡ length self.now.order }
         ensures bounded { IsBounded self.now }
@@ -87,7 +87,7 @@ impl<D: Device, P: Policy> Store<D, P> {
         self.entries.len()
     }
 
-    // The durable store and the entries. All else in memory is dropped.
+    // Returns the durable store and the entries, and drops all else in memory.
     fn into_durable(self) -> (Durable<D>, Entries)
         ensures { result.0 ≡ self.durable }
     {
@@ -103,7 +103,7 @@ impl<D: Device, P: Policy> Store<D, P> {
             scratch,
             ..
         } = self;
-        // Dropped by calls: the drop of each field here would be a step of this proof.
+        // Two calls drop these fields: the drop of each field here would be a step of this proof.
         drop((table, touched, dirty, pending));
         drop((frozen_headers, staging, scratch));
         (durable, entries)
@@ -122,7 +122,7 @@ impl<D: Device, P: Policy> Store<D, P> {
         self.entries.promote(number)
     }
 
-    // Makes the frozen copy of an object whose present body is also its unwritten frozen body.
+    // Copies the present body of an object, which is also its unwritten frozen body, to a frozen copy.
     pub(crate) fn keep_apart(&mut self, number: u64)
         requires fetched { IsFetchedIn self.old number }
         requires shared { frozen_state_at self.old.frozen_state number ≡ Shared }
@@ -131,7 +131,7 @@ impl<D: Device, P: Policy> Store<D, P> {
         self.entries.keep_apart(number);
     }
 
-    // Removes the entry of a clean object. The device has all that the entry holds.
+    // Removes the entry of a clean object. The device must have all bodies of the entry.
     pub(crate) fn drop_entry(&mut self, number: u64)
         requires fetched { IsFetchedIn self.old number }
         requires clean { mark_at self.old.dirty number ≡ false }
@@ -147,7 +147,8 @@ impl<D: Device, P: Policy> Store<D, P> {
         self.entries.remove(number);
     }
 
-    // Writes the present frame of a dirty object and clears its mark. After `Failed` it is still dirty.
+    // Writes the present frame of a dirty object, and clears its dirty mark. After `Failed` the object is still
+    // dirty.
     pub(crate) fn put_present(&mut self, number: u64) -> Result<(), Failed>
         requires fetched { IsFetchedIn self.old number }
         requires dirty { mark_at self.old.dirty number ≡ true }
@@ -164,7 +165,7 @@ impl<D: Device, P: Policy> Store<D, P> {
         Ok(())
     }
 
-    // Writes an object's frozen frame from its entry. After `Failed` it is still pending.
+    // Writes the frozen frame of an object from its entry. After `Failed` the object is still pending.
     pub(crate) fn put_own_frozen(&mut self, number: u64) -> Result<(), Failed>
         requires fetched { IsFetchedIn self.old number }
         requires frozen_state { frozen_state_at self.old.frozen_state number ≢ Nothing }
@@ -187,7 +188,8 @@ impl<D: Device, P: Policy> Store<D, P> {
         Ok(())
     }
 
-    // What an object's entry has of its frozen frame, if that isn't in the log. Nothing if the object has no entry.
+    // Returns which body an object's entry has for a frozen frame that isn't in the log. `Nothing` if the object has
+    // no entry.
     pub(crate) fn frozen_state(&self, number: u64) -> FrozenState
         requires { number < length self.now.headers }
         ensures fetched { result ≢ Nothing → IsFetchedIn self.now number }
@@ -214,7 +216,7 @@ impl<D: Device, P: Policy> Store<D, P> {
         }
     }
 
-    // Writes the present frame of an object and clears its mark, if it is dirty.
+    // If an object is dirty, writes its present frame and clears its dirty mark.
     fn write_back(&mut self, number: u64) -> Result<(), Failed>
         requires fetched { IsFetchedIn self.old number }
         requires keepable { IsKeepableIn D.disk self.old number }
@@ -229,7 +231,7 @@ impl<D: Device, P: Policy> Store<D, P> {
         Ok(())
     }
 
-    // Writes what the log lacks of an entry, and evicts it. After `Failed` it stays.
+    // Writes those frames of an entry that aren't in the log, and evicts the entry. After `Failed` the entry stays.
     pub(crate) fn write_and_evict(&mut self, number: u64) -> Result<(), Failed>
         requires fetched { IsFetchedIn self.old number }
         requires keepable { IsKeepableIn D.disk self.old number }
@@ -244,7 +246,7 @@ impl<D: Device, P: Policy> Store<D, P> {
         Ok(())
     }
 
-    // If the cache is full, evicts the entry used longest ago. After `Failed` it stays.
+    // If the cache is full, evicts the entry used longest ago. After `Failed` the entry stays.
     pub(crate) fn make_room(&mut self) -> Result<(), Failed>
         requires keepable { AreKeepableIn D.disk self.old }
         requires some { P.KEEPS_ALL ≡ false }

@@ -10,7 +10,7 @@ use Rattle.layout.specs.declared.open_fault.OpenFault.TheVariants as opening
 module _ {D S : Type 0} {disk : D → Disk} (seen_left : (d : D) → (disk d).may_leave (disk d).seen) {view : S → View D} {parts : S → Parts}
     (durable : S → DurableState D) (is_over : (s : S) → IsOver disk (view s) (durable s)) {device : D} {l : Live S}
     (wakes : Recovers disk view parts device l) where
-  -- what is saved, as the device gives it
+  -- the saved state, as a read of the device gives it
   abbrev pub state_of : SavedState
   state_of = saved_by disk (durable l.store)
 
@@ -33,12 +33,12 @@ module _ {D S : Type 0} {disk : D → Disk} (seen_left : (d : D) → (disk d).ma
       let beneath : back ≡ (view l.store).beneath = same ∙ (is_over s).beneath ∙ ap (λ d. d.beneath) kept ∙ sym (is_over l.store).beneath in
       record { encodes = encodes; sound = sound; failures = rw beneath wakes.failures; only_reads = rw beneath wakes.only_reads }
 
--- memory ran out for what is read of it
+-- memory ran out for the part that is read
 pub no_memory : {D : Type 0} (disk : D → Disk) (device back : D) {s : SavedState} → ReadsSaved disk device back s →
     RefusesToOpen disk device back opening.NoMemory
 no_memory disk device back reads = record { is_why = reads.failures; only_reads = reads.only_reads }
 
--- What is built of the text denotes the world that it describes.
+-- An image built from the text denotes the world that the text describes.
 pub described_is_denoted : DescribedIsDenoted
 described_is_denoted p age frames text table e saved size c sound reported read said built holds =
     let d = reported.description in

@@ -107,7 +107,7 @@ module _ {D : Type 0} {disk : D → Disk} {device back : D} {s : SavedState} (re
       reported.2,
     )
 
-  -- what is reported of it
+  -- the outcome of the command
   pub describes_image : (output output_left : Written) (outcome : Result (Unit {0}) Fault) → TellsGrown d sizes output output_left outcome →
       DescribesImage disk sizes device back output output_left outcome
   describes_image output output_left (Ok a) tells = (s, reads, tells_grown tells.0 tells.1 (Wrote output output_left) tells.2)

@@ -27,7 +27,7 @@ pub role_counted : (fs : List Frame) (age : ℕ) (r : Role) → HaveTheirRoles f
 unfolding objects_of
 role_counted fs age r roles = role_sum (headers fs) r fs 0 roles
 
--- the lines about what was read of a store are those about what its device saves
+-- the lines about a store are those about the saved state of its device
 pub lines_saved : (p : Plan) (reported : Checkpoint) (s : SavedState) (hs : List ObjectHeader) → p ≡ s.plan →
     reported.generation ≡ s.header.generation → reported.age ≡ s.header.age → reported.entries ≡ s.header.entries → hs ≡ headers s.frames →
     HaveTheirRoles s.frames → lines_with p reported (λ r. headers_with r hs) ≡ info_lines s.plan (saved_of (kept_of s))

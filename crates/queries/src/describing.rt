@@ -1,4 +1,4 @@
-// The command that describes what an image holds.
+// The command that describes an image.
 ghost use Rattle.std.specs.Prelude.{◌≡◌, Result};
 ghost use Rattle.home_ranges.specs.Laid.{MayBeLaid};
 ghost use Rattle.description.specs.Described.{HasFields};
@@ -32,7 +32,7 @@ fn tell_description<W: Output>(
     }
 }
 
-// Renumbers a description for other sizes.
+// Renumbers a description for an image of other sizes.
 fn grow_description(alloc: Global, description: &mut Description, sizes: Sizes) -> Result<(), Fault>
     requires { MayBeLaid description.old.geometry description.old.ranges.items }
     ensures { GrowsDescription sizes description.old description.new result }
@@ -44,7 +44,7 @@ fn grow_description(alloc: Global, description: &mut Description, sizes: Sizes) 
     }
 }
 
-// Writes the text of a description, renumbered for other sizes, and lets it go.
+// Writes the text of a description, renumbered for an image of other sizes, and drops the description.
 fn tell_grown<W: Output>(
     alloc: Global,
     description: Description,
@@ -63,13 +63,13 @@ fn tell_grown<W: Output>(
     }
 }
 
-/// Opens a device as a run does, and writes the description of all that the checkpoint that it holds
-/// saves, renumbered for an image of other sizes: what is built of this text holds the same world, each
-/// object at its number there. Then the status is 0. With no sizes all numbers stay.
+/// Opens a device as a run does, and writes a description of its saved state, renumbered for an image of other sizes.
+/// An image built from this text holds the same objects, each at its new number. Then the status is 0. If no sizes
+/// are given all numbers stay.
 ///
 /// After a fault one line is written to `errors`, and the status is 1:
 /// - `bad image` with a number from 1 to 10, `device failed` or `no memory`;
-/// - `no image has these sizes`, or `too few nodes` or `too few pages` for what is saved;
+/// - `no image has these sizes`, or `too few nodes` or `too few pages` for the saved objects;
 /// - `cannot write output` if the writer fails.
 ///
 /// The device is returned. Nothing is written to it at any moment.

@@ -11,7 +11,7 @@ use migrator::WholeStore;
 use script::{LineText, Output};
 use std::alloc::Global;
 
-/// The line about an image: `ok`, or the place that breaks a rule and the reason that `check` answers.
+/// Returns the line about an image: `ok`, or the place that breaks a rule and the reason that `check` gives.
 pub fn explanation_line(found: Option<ImageFault>) -> LineText
     ensures text { result ≡ explanation_text found }
     ensures short { length result ≤ 260 }
@@ -22,7 +22,7 @@ pub fn explanation_line(found: Option<ImageFault>) -> LineText
     }
 }
 
-// Opens a device, writes why its image is refused, if it is, and gives the device back.
+// Opens a device, writes why its image is refused if it is, and returns the device.
 fn explain_and_tell<D: Device, S: WholeStore<D>, W: Output>(
     alloc: Global,
     device: D,
@@ -41,11 +41,10 @@ fn explain_and_tell<D: Device, S: WholeStore<D>, W: Output>(
     }
 }
 
-/// Opens a device as a run does, and writes `ok` if a run opens it; then the status is 0. If a run refuses
-/// the image, it writes one line with the object, slot, field or sector that breaks a rule, what is wrong
-/// there, and `(bad image K)` with the reason that `check` answers; then the status is 1. After a fault one
-/// line is written to `errors`, and the status is 1: `device failed`, `no memory`, or `cannot write output`
-/// where the writer fails.
+/// Opens a device as a run does, and writes `ok` if a run opens it; then the status is 0. If a run refuses the image,
+/// it writes one line with the object, slot, field or sector that breaks a rule, what is wrong there, and `(bad image
+/// K)` with the reason that `check` gives; then the status is 1. After a fault one line is written to `errors`, and
+/// the status is 1: `device failed`, `no memory`, or `cannot write output` if the writer fails.
 ///
 /// The device is returned. Nothing is written to it at any moment.
 pub fn explain_image<D: Device, S: WholeStore<D>, W: Output, V: Output>(

@@ -1,4 +1,4 @@
-// The command that draws what an image holds.
+// The command that draws an image.
 ghost use Rattle.std.specs.Prelude.{◌≡◌, ◌<◌, ◌^◌, Result};
 ghost use Rattle.model.specs.Sound.{object_count};
 ghost use Rattle.description.specs.Described.{HasNumbers};
@@ -18,18 +18,19 @@ use reach::{Purpose, missing_process, reach};
 use script::Output;
 use std::alloc::Global;
 
-/// Which part of what an image saves is drawn. All of it, if both are `None`; with both, what both name.
+/// Which part of the saved state is drawn. If both `from` and `to` are `None`, all of it; if both are set, what is in
+/// both parts.
 #[derive(Clone, Copy)]
 pub struct Focus {
-    /// Only what this process reaches: the least closed set.
+    /// Draws only what this process reaches: the least closed set that contains it.
     pub from: Option<u64>,
-    /// Whether that is what it can change, or what it can read.
+    /// Whether the set is what the process can change, or what it can read.
     pub purpose: Purpose,
-    /// Only this object, and the processes and nodes that hold a capability to it.
+    /// Draws only this object, and the processes and nodes that hold a capability to it.
     pub to: Option<u64>,
 }
 
-// Restricts a description to an object and its holders, if one is named.
+// Restricts a description to an object and its holders, if `to` is set.
 fn keep_holders(alloc: Global, to: Option<u64>, description: &mut Description) -> Result<(), Fault>
     requires few { object_count description.old.geometry < 2 ^ 64 }
     requires numbers { HasNumbers description.old }
@@ -50,7 +51,7 @@ fn keep_holders(alloc: Global, to: Option<u64>, description: &mut Description) -
     }
 }
 
-// Restricts a description to what a process reaches, if one is named.
+// Restricts a description to what a process reaches, if `from` is set.
 fn keep_reached(
     alloc: Global,
     objects: &[Object],
@@ -76,7 +77,7 @@ fn keep_reached(
     }
 }
 
-// Restricts a description to what is to be drawn.
+// Restricts a description to the part that is to be drawn.
 fn keep_part(
     alloc: Global,
     objects: &[Object],
@@ -94,7 +95,7 @@ fn keep_part(
     }
 }
 
-// Draws a part of what is saved, and lets it go.
+// Draws a part of the saved state, and drops it.
 fn draw_part<W: Output>(
     alloc: Global,
     whole: (Description, Vec<Object>),
@@ -114,13 +115,13 @@ fn draw_part<W: Output>(
     }
 }
 
-/// Opens a device as a run does, and writes the graph of what the checkpoint that it holds saves, in
-/// DOT: each object, who owns it, and each capability that names one. With a focus it leaves out all
-/// other objects, and the capabilities that name one. Then the status is 0.
+/// Opens a device as a run does, and writes a graph of its saved state, in DOT: each object, its owner, and each
+/// capability that names an object. With a focus all other objects are left out, and all capabilities that name one
+/// of these. Then the status is 0.
 ///
 /// After a fault one line is written to `errors`, and the status is 1:
 /// - `bad image` with a number from 1 to 10, `device failed` or `no memory`;
-/// - `no object` or `no process` with the number in the focus, if that is none;
+/// - `no object` or `no process` with the number in the focus, if there is no such object or process;
 /// - `cannot write output` if the writer fails.
 ///
 /// The device is returned. Nothing is written to it at any moment.

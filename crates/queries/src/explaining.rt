@@ -13,7 +13,7 @@ use script::Output;
 use std::alloc::{AllocError, Global};
 use toml::de::Error;
 
-// The line and the column after a text, both from 1. A column counts characters.
+// Returns the line and the column of the character after a text, both from 1. A column counts characters.
 fn position_after(before: &[u8]) -> (u64, u64)
     ensures { result ≡ position_from 1 1 before.now }
 {
@@ -30,7 +30,7 @@ fn position_after(before: &[u8]) -> (u64, u64)
     (line, column)
 }
 
-// The words of the parser, with a hint for a number that TOML doesn't have. They stand on one line.
+// Returns the parser's message on one line, with a hint about numbers that are too great for TOML.
 fn why_not_toml(words: &str) -> &str
     ensures { IsOneLine result.now }
 {
@@ -42,7 +42,7 @@ fn why_not_toml(words: &str) -> &str
     on_one_line(why)
 }
 
-// The line for a text that isn't TOML.
+// Returns the line for a text that isn't TOML.
 fn syntax_line(alloc: Global, text: &str, error: &Error) -> Result<String, AllocError>
     requires { IsWithin text.now error.now }
     ensures { IfOk result (λ line. IsSyntaxLine text.now (string_bytes line)) }
@@ -56,8 +56,8 @@ fn syntax_line(alloc: Global, text: &str, error: &Error) -> Result<String, Alloc
     format!(in alloc; "line {line}, column {column}: {why} (bad description)")
 }
 
-/// The line about the description in a text, and whether `build` accepts it on a device that is large enough. Fails only
-/// if memory runs out.
+/// Returns the line about the description in a text, and whether `build` accepts it on a device that is large enough.
+/// Fails only if memory runs out.
 pub fn explained(alloc: Global, text: &str) -> Result<(String, bool), AllocError>
     ensures { IfOk result (λ answer. TellsOf text.now (string_bytes answer.0) answer.1) }
 {
@@ -94,7 +94,7 @@ fn tell_line<W: Output>(line: String, writer: &mut W) -> Result<(), Fault>
     of_write(writer.write_fully(line.as_bytes()))
 }
 
-// Writes the line about a description, and answers whether the description is accepted.
+// Writes the line about a description, and returns whether `build` accepts the description.
 fn tell_explained<W: Output>(
     explained: Result<(String, bool), AllocError>,
     writer: &mut W,
@@ -112,11 +112,11 @@ fn tell_explained<W: Output>(
     }
 }
 
-/// Writes `ok` if `build` accepts the description in a text on a device that is large enough; then the status
-/// is 0. Else it writes one line and the status is 1: the place of the first mistake, what is wrong there,
-/// and `(bad description K)` with the number that `build` answers; or, if the text isn't TOML, the line and
-/// the column where it isn't. After a fault one line is written to `errors`, and the status is 1: `no
-/// memory`, or `cannot write output` where the writer fails.
+/// Writes `ok` if `build` accepts the description in a text on a device that is large enough; then the status is 0.
+/// Otherwise writes one line, and the status is 1: the place of the first mistake, what is wrong there, and `(bad
+/// description K)` with the number that `build` gives; or, if the text isn't TOML, the line and the column of the
+/// first error. After a fault one line is written to `errors`, and the status is 1: `no memory`, or `cannot write
+/// output` if the writer fails.
 pub fn explain_description<W: Output, V: Output>(
     alloc: Global,
     text: &str,

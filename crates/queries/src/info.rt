@@ -1,4 +1,4 @@
-// The lines about an image.
+// The lines of `eros info`.
 ghost use Rattle.std.specs.Prelude.{◌≡◌, ◌≤◌, ◌++◌, length, map, IfOk, OnOk};
 ghost use Rattle.model.specs.Text.{line_of};
 ghost use Rattle.script.specs.Writing.{Writes};
@@ -11,8 +11,8 @@ use model::{ObjectHeader, Role};
 use script::{LineText, Output, RunFault};
 use std::alloc::{AllocError, Global};
 
-/// A line about an image: its sizes and ranges, which checkpoint it holds, and how many objects of
-/// each kind.
+/// A line about an image: one of its sizes or home ranges, a number of its checkpoint, or how many objects of a kind
+/// it has.
 #[derive(Clone, Copy)]
 pub(crate) enum InfoLine {
     /// The version of the layout.
@@ -28,7 +28,7 @@ pub(crate) enum InfoLine {
     Entries(u64),
     /// How many numbers are free.
     Free(u64),
-    /// How many objects are pages, and so on.
+    /// How many objects are pages, nodes, processes and banks.
     PageObjects(u64),
     NodeObjects(u64),
     /// How many roots there are.
@@ -37,7 +37,7 @@ pub(crate) enum InfoLine {
 }
 
 impl InfoLine {
-    // The line of a home range.
+    // Returns the line of a home range.
     fn range_text(format: Format, first: u64, count: u64) -> LineText
         ensures text { result ≡ info_line format (InfoLine.Range first count) }
         ensures short { length result ≤ 300 }
@@ -52,7 +52,7 @@ impl InfoLine {
         }
     }
 
-    // The line.
+    // Returns the line in a format.
     fn text(self, format: Format) -> LineText
         ensures text { result ≡ info_line format self }
         ensures short { length result ≤ 300 }
@@ -99,7 +99,7 @@ pub(crate) fn print_lines<W: Output>(
     Ok(())
 }
 
-/// How many headers have a role.
+/// Returns how many headers have a role.
 pub fn count_role(headers: &[ObjectHeader], role: Role) -> u64
     ensures { result ≡ headers_with role headers.now }
 {
@@ -111,7 +111,7 @@ pub fn count_role(headers: &[ObjectHeader], role: Role) -> u64
     found as u64
 }
 
-// Adds the lines of home ranges.
+// Appends the lines of home ranges.
 fn push_ranges(lines: &mut Vec<InfoLine>, ranges: &[HomeRange]) -> Result<(), AllocError>
     ensures { OnOk result (lines.new.items ≡ lines.old.items ++ map range_line ranges.now) }
 {
@@ -124,8 +124,8 @@ fn push_ranges(lines: &mut Vec<InfoLine>, ranges: &[HomeRange]) -> Result<(), Al
     Ok(())
 }
 
-/// The lines about an image with this superblock, this checkpoint and these headers of its
-/// objects. Fails only where memory runs out.
+/// Returns the lines about an image with this superblock, this checkpoint and these object headers. Fails only if
+/// memory runs out.
 pub(crate) fn lines_about(
     alloc: Global,
     superblock: &Superblock,

@@ -1,4 +1,4 @@
-// The command that reports the sizes of an image, and how much it holds.
+// The command that prints the sizes of an image, and counts of its objects.
 ghost use Rattle.std.specs.Prelude.{◌≡◌, Result};
 ghost use Rattle.jobs.specs.Faults.{IsEnd, IsReported};
 ghost use Rattle.queries.specs.Info.{InspectsImage};
@@ -12,12 +12,11 @@ use migrator::WholeStore;
 use script::Output;
 use std::alloc::Global;
 
-/// Opens a device as a run does, and writes a line in a format for each fact about its image: the version of
-/// the layout, how many nodes, pages and slots there may be, its home ranges, its sectors, the
-/// generation, age and entries of the checkpoint that it holds, and how many objects of each kind
-/// that saves. Then the status is 0. After a fault one line is written to `errors`, and the status
-/// is 1: `bad image` with a number from 1 to 10, `device failed` or `no memory`, and `cannot write
-/// output` where the writer fails.
+/// Opens a device as a run does, and writes lines about its image, in a format: the version of the layout; the
+/// numbers of nodes, pages and log slots; its home ranges and sectors; the generation, age and entries of its
+/// checkpoint; and how many saved objects of each kind there are. Then the status is 0. After a fault one line is
+/// written to `errors`, and the status is 1: `bad image` with a number from 1 to 10, `device failed` or `no memory`,
+/// and `cannot write output` if the writer fails.
 ///
 /// The device is returned. Nothing is written to it at any moment.
 pub fn info_image<D: Device, S: WholeStore<D>, W: Output, V: Output>(

@@ -1,4 +1,4 @@
-// The command that says what processes can ever change or read, and which of them can change or read an object.
+// The command that prints what processes can ever change or read, and which processes can change or read an object.
 ghost use Rattle.std.specs.Prelude.{◌≡◌, ℕ, [], false, true, IfSome, IsNone, Result, Some};
 ghost use Rattle.model.specs.Object.{is_free};
 ghost use Rattle.model.specs.World.{content_at};
@@ -20,19 +20,19 @@ use reach::{
 use script::Output;
 use std::alloc::Global;
 
-/// What `reach` says of some processes.
+/// A question to `reach` about some processes.
 #[derive(Clone, Copy)]
 pub enum ReachQuestion {
-    /// All that they can ever change, or read.
+    /// All that these processes can ever change, or read.
     Set(Purpose),
-    /// A shortest chain of steps from them to this object, by which they can change it, or read it.
+    /// A shortest chain of steps from these processes to this object, by which they can change it, or read it.
     Chain(Purpose, u64),
-    /// Those of them that can ever change this object, or read it.
+    /// Which of these processes can ever change this object, or read it.
     Changers(Purpose, u64),
 }
 
 impl ReachQuestion {
-    // The number that it names, if any.
+    // Returns the object in the question, if there is one.
     fn object(self) -> Option<u64>
         ensures { result ≡ object_of self }
     {
@@ -113,7 +113,7 @@ fn tell_changers<W: Output>(
     }
 }
 
-// Whether a number has no object.
+// Whether there is no object at a number.
 fn is_free(objects: &[Object], number: u64) -> bool
     ensures { result ≡ is_free (content_at objects.now number) }
 {
@@ -123,7 +123,7 @@ fn is_free(objects: &[Object], number: u64) -> bool
     }
 }
 
-// The number in a question, if it has no object.
+// Returns the number in a question if there is no object at it, else `None`.
 fn missing_object(objects: &[Object], question: ReachQuestion) -> Option<u64>
     ensures some { IfSome result (λ o. (object_of question ≡ Some o) × (is_free (content_at objects.now o) ≡ true)) }
     ensures none { IsNone result → (o : ℕ) → object_of question ≡ Some o → is_free (content_at objects.now o) ≡ false }
@@ -188,7 +188,7 @@ fn tell_of_all<W: Output>(
     }
 }
 
-// Writes the answer to a question about the named processes, or about all if none is named.
+// Writes the answer to a question about the processes `named`, or about all processes if `named` is empty.
 fn tell_named<W: Output>(
     alloc: Global,
     format: Format,
@@ -210,7 +210,7 @@ fn tell_named<W: Output>(
     tell_of(alloc, format, objects, named, trusted, question, writer)
 }
 
-// The first number that isn't the number of a process, of those named and else of those trusted.
+// Returns the first number in `named`, else the first in `trusted`, that isn't a process's; or `None`.
 fn first_missing(objects: &[Object], named: &[u64], trusted: &[u64]) -> Option<u64>
     ensures some { IfSome result (IsFirstMissing objects.now named.now trusted.now) }
     ensures named { IsNone result → AreProcesses objects.now named.now }
@@ -222,7 +222,8 @@ fn first_missing(objects: &[Object], named: &[u64], trusted: &[u64]) -> Option<u
     missing_process(objects, trusted)
 }
 
-// Writes the answer to a question about the named processes, or about all if none is named.
+// Checks the numbers in a question, and writes its answer: about the processes `named`, or about all if `named` is
+// empty.
 fn tell_reach<W: Output>(
     alloc: Global,
     format: Format,
@@ -242,18 +243,17 @@ fn tell_reach<W: Output>(
     tell_named(alloc, format, objects, named, trusted, question, writer)
 }
 
-/// Opens a device as a run does, and answers a question in a format about the processes named, or about all
-/// processes if none is named. Then the status is 0. The answer is
-/// - what they can ever change, or read, but for messages to the processes `trusted`: the least closed set
-///   of numbers that contains them, where a member may start a trusted process outside the set;
-/// - a shortest chain of steps to an object, or `cannot change` or `cannot read` with its kind and number
-///   if that set doesn't contain it;
-/// - or those of them that can ever change an object, or read it.
+/// Opens a device as a run does, and answers a question in a format, about the processes `named`, or about all
+/// processes if `named` is empty. Then the status is 0. The answer is
+/// - all that these processes can ever change, or read, apart from messages to the processes `trusted`: the least
+///   closed set of numbers that contains them, where a member may start a trusted process outside the set;
+/// - or a shortest chain of steps to an object; if the set doesn't contain the object, `cannot change` or `cannot
+///   read` with its kind and number;
+/// - or which of these processes can ever change an object, or read it.
 ///
 /// After a fault one line is written to `errors`, and the status is 1:
 /// - `bad image` with a number from 1 to 10, `device failed` or `no memory`;
-/// - `no process` with the first of the numbers that isn't the number of a process, of those named and
-///   else of those trusted;
+/// - `no process` with the first number in `named`, else the first in `trusted`, that isn't a process's;
 /// - `no object` with the number of the object if it is free or beyond the image;
 /// - `cannot write output` if the writer fails.
 ///

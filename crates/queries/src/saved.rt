@@ -1,4 +1,4 @@
-// What is saved on a device, as the commands read it.
+// Reading parts of the saved state of a device.
 ghost use Rattle.std.specs.Prelude.{◌≡◌, IfErr, IfOk, OnOk};
 ghost use Rattle.model.specs.Frame.{objects_of};
 ghost use Rattle.model.specs.Keepable.{IsSoundFrames};
@@ -22,12 +22,13 @@ use reach::read_objects;
 use recovery::recover;
 use std::alloc::{AllocError, Global};
 
-/// A part of what a device saves.
+/// A part of the saved state of a device.
 pub trait SavedPart: Drop + Sized {
-    /// It is this part of what is saved.
+    /// Whether this is that part of a saved state.
     ghost is_part: { SavedState → Self → Type 0 };
 
-    /// Reads it from a store that has what its device saves. Fails only if memory runs out: it makes no device call.
+    /// Reads the part from a store whose objects are the saved ones. Fails only if memory runs out: it makes no
+    /// device call.
     fn read<D: Device, S: WholeStore<D>>(alloc: Global, store: &mut S) -> Result<Self, AllocError>
         requires usable { S.IsUsable store.old }
         requires saved { frames_of (S.parts store.old) ≡ (saved_by D.disk (S.durable store.old)).frames }
@@ -39,7 +40,7 @@ pub trait SavedPart: Drop + Sized {
         ensures frames { frames_of (S.parts store.new) ≡ frames_of (S.parts store.old) };
 }
 
-// The description of all objects, with the ranges and the version of the image.
+// A description of all objects, with the home ranges and the version of the image.
 impl SavedPart for Description {
     ghost is_part = { λ s d. IsDescriptionOf s.plan s.header.age s.frames d };
 
@@ -54,7 +55,7 @@ impl SavedPart for Description {
     }
 }
 
-// All objects by number.
+// All objects, by number.
 impl SavedPart for Vec<Object> {
     ghost is_part = { λ s objects. objects.items ≡ objects_of s.frames };
 
@@ -77,7 +78,7 @@ impl<A: SavedPart, B: SavedPart> SavedPart for (A, B) {
     }
 }
 
-// The lines about the image.
+// The lines of `eros info` about the image.
 impl SavedPart for Vec<InfoLine> {
     ghost is_part = { λ s lines. lines.items ≡ info_lines s.plan (saved_of (kept_of s)) };
 
@@ -91,7 +92,7 @@ impl SavedPart for Vec<InfoLine> {
     }
 }
 
-/// Opens a device as a run does, reads a part of what it saves, and gives it back.
+/// Opens a device as a run does, reads a part of its saved state, and returns the part and the device.
 pub fn read_saved<T: SavedPart, D: Device, S: WholeStore<D>>(
     alloc: Global,
     device: D,

@@ -16,7 +16,7 @@ use Rattle.reach.proofs.Finding.{some_of}
 abbrev IsIn : (ℕ → Bool) → Option ℕ → Type 0
 IsIn other o = elim o [ None ↦ Unit {0} | Some m ↦ IsTrue (other m) ]
 
--- what a capability conveys is in each set that it stays inside
+-- the object that a capability conveys is in each set inside which the capability stays
 pub named_inside : (follows : Links) (other : ℕ → Bool) (c : Capability) (n : ℕ) → Conveys follows c n → StaysFor follows other c →
     IsTrue (other n)
 named_inside follows other c n conveys stays = go follows.purpose conveys.0 stays
@@ -36,7 +36,7 @@ void_stays follows inside = go follows.purpose
     go purpose.Change = inl (inl tt)
     go purpose.Read = inl tt
 
--- a capability stays inside a set where all that it conveys is in it
+-- a capability stays inside a set if all that it conveys is in the set
 abbrev ConveysOnly : Purpose → (ℕ → Bool) → (ℕ → Bool) → Capability → Type 0
 ConveysOnly p trusted inside c = (m : ℕ) → IsFollowed p c → (StartsOne trusted c → ⊥) → named c ≡ Some m → IsTrue (inside m)
 
@@ -132,7 +132,7 @@ same_truth true b there back = sym (there refl)
 same_truth false true there back = back refl
 same_truth false false there back = refl
 
--- closed sets are those of confinement, or of noninterference
+-- these closed sets are those of confinement, or of noninterference
 
 change_stays : (follows : Links) (inside : ℕ → Bool) (c : Capability) → StaysFor follows inside c → StaysBut follows.trusted inside c
 change_stays follows inside c stays = go follows.purpose stays
@@ -200,7 +200,7 @@ module _ (os : List Object) (follows : Links) (starts : List ℕ) (level : ℕ) 
   some_found : (n : ℕ) → IsTrue (is_some (found_at l n)) → (f : Found) × (found_at l n ≡ Some f)
   some_found n is = some_of (found_at l n) is
 
-  -- it is in each closed set that contains the first numbers
+  -- a number that was found is in each closed set that contains the starts
   found_inside : (other : ℕ → Bool) → IsClosedFor follows os other → All (λ p. IsTrue (other p)) starts → (k n : ℕ) (f : Found) →
       found_at l n ≡ Some f → f.level < k → IsTrue (other n)
   found_inside other closed begins zero n f is lt = absurd (omega (arith, lt))
@@ -211,7 +211,7 @@ module _ (os : List Object) (follows : Links) (starts : List ℕ) (level : ℕ) 
       (found_inside other closed begins k after.step.from after.before after.from (omega (arith, lt, after.level)))))
       (searched.linked n f is)
 
-  -- so it is the least of them
+  -- so the set of found numbers is the least of them
   pub is_reach : (inside : ℕ → Bool) → ((n : ℕ) → inside n ≡ is_some (found_at l n)) → IsReach os follows starts inside
   is_reach inside same = record {
     closed = closed_by_steps os follows inside (λ s step member.
@@ -224,7 +224,7 @@ module _ (os : List Object) (follows : Links) (starts : List ℕ) (level : ℕ) 
         found_inside other closed begins (found.0.level + 1) n found.0 found.1 (omega arith);
   }
 
-  -- as there is only one
+  -- there is only one least set
   pub only_reach : (inside : ℕ → Bool) → IsReach os follows starts inside → (o : ℕ) → inside o ≡ is_some (found_at l o)
   only_reach inside reach o =
       let found = is_reach (λ n. is_some (found_at l n)) (λ n. refl) in
@@ -237,7 +237,7 @@ module _ (os : List Object) (follows : Links) (starts : List ℕ) (level : ℕ) 
   back_first o some = grind (arith, nat_tests)
 
   module _ (o at : ℕ) (steps : List Step) (back : IsBack os follows l o at steps) where
-    -- how it was found
+    -- the step by which a number was found
     step_is : (p : Option Step) → option_and_then (λ (f : Found). f.step) (found_at l at) ≡ p → back.found.step ≡ p
     step_is p is = ap (λ (q : Option Found). option_and_then (λ (f : Found). f.step) q) (sym back.is) ∙ is
 
@@ -253,7 +253,7 @@ module _ (os : List Object) (follows : Links) (starts : List ℕ) (level : ℕ) 
         → level_of (found_at l step.from) < level_of (found_at l at)
     back_level step is level_of level_is = grind (arith, nat_tests, after_of, same_Some, step_is)
 
-    -- at the beginning of a shortest chain
+    -- the beginning of a shortest chain
     pub back_whole : option_and_then (λ (f : Found). f.step) (found_at l at) ≡ None → (g : Found) → found_at l o ≡ Some g →
         IsShortest os follows starts (reverse steps) o
     back_whole none g is = ⊎_elim (λ first. record {

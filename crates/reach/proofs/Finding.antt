@@ -6,13 +6,13 @@ use Rattle.reach.proofs.Names.{missing, slice_index_or, Links}
 use Rattle.std.proofs.Common.{◌≡◌, ◌≢◌, ◌⊎◌, ◌+◌, ◌<◌, ◌≤◌, ◌∷◌, ◌∙◌}
 use Rattle.reach.specs.declared.step.Way.TheVariants as way
 
--- no number is missing more often than there are numbers
+-- at most all numbers are missing
 pub missing_most : {X : Type 0} (xs : List (Option X)) → missing xs ≤ length xs
 missing_most [] = omega arith
 missing_most (None ∷ xs) = let rest : missing xs ≤ length xs = missing_most xs in omega (arith, rest)
 missing_most (Some x ∷ xs) = let rest : missing xs ≤ length xs = missing_most xs in omega (arith, rest)
 
--- one fewer is missing
+-- finding one more number
 pub missing_fewer : {X : Type 0} (xs : List (Option X)) (n : ℕ) (x : X) → n < length xs → slice_index_or xs n None ≡ None →
     missing (slice_set xs n (Some x)) + 1 ≡ missing xs
 missing_fewer [] n x lt none = absurd (omega (arith, lt))
@@ -89,7 +89,7 @@ found_more P Q level n f more found = record {
   by = more found.step found.by;
 }
 
--- the same steps in other words
+-- the same steps, described in another way
 pub finds_same : (P Q : Step → Type 0) (level : ℕ) (a b : Levels) → ((s : Step) → P s → Q s) → ((s : Step) → Q s → P s) →
     FindsBy P level a b → FindsBy Q level a b
 finds_same P Q level a b there back finds = record {
@@ -124,7 +124,7 @@ finds_by follows from by c to level a b conveys = finds_same (IsTheStep (record 
     (IsBy follows from by c) level a b
     (λ s is. (is.0, is.1, rw is.2 conveys)) (λ s is. (is.0, is.1, same_Some s.to to (sym is.2.2 ∙ conveys.2)))
 
--- one capability more of a list
+-- one more capability of a list
 pub held_next : (follows : Links) (slots : List Capability) (i from level : ℕ) (a b c : Levels) →
     FindsBy (IsHeldIn follows slots i from) level a b → FindsBy (IsBy follows from (way.Slot i (slice_index_or slots i Void))
     (slice_index_or slots i Void)) level b c → FindsBy (IsHeldIn follows slots (i + 1) from) level a c
@@ -134,7 +134,7 @@ held_next follows slots i from level a b c first next = finds_both (IsHeldIn fol
     (λ s held. (held.0, omega (arith, held.1), held.2)) (λ s by. (i, omega arith, by))
     grind (arith, nat_tests) first next
 
--- one number more that a bank may own
+-- one more number that a bank may own
 pub owned_next_step : (os : List Object) (i bank level : ℕ) (step : Step) (a b c : Levels) → step.from ≡ bank → step.way ≡ way.Owner →
     step.to ≡ i → is_free (content_at os i) ≡ false → owner_at os i ≡ bank → FindsBy (IsOwnedBelow os i bank) level a b →
     FindsBy (IsTheStep step) level b c → FindsBy (IsOwnedBelow os (i + 1) bank) level a c

@@ -4,7 +4,7 @@ use Rattle.reach.proofs.Names.{is_root, is_process, Contains-append_left, Contai
 use Rattle.std.proofs.Common.{◌≡◌, ◌↔◌, ◌+◌, ◌<◌, ◌≤◌, ◌∷◌, ◌++◌, ◌∙◌}
 use Rattle.reach.proofs.Members.{known}
 
--- those below a number
+-- the processes below a number
 pub record Lists (os : List Object) (below : ℕ) (all : List ℕ) : Type 0 where
   pub some : (n : ℕ) → Contains all n → IsTrue (is_process os n)
   pub each : (n : ℕ) → n < below → IsTrue (is_process os n) → Contains all n

@@ -6,14 +6,14 @@ use Rattle.std.specs.Prelude.{slice_index_or}
 use Rattle.std.proofs.Common.{◌≡◌, ◌<◌, ◌∷◌, ◌∙◌}
 use Rattle.model.specs.declared.object.Content.TheVariants as content
 
--- what isn't free is there
+-- a number that isn't free has an object
 pub known : (os : List Object) (n : ℕ) (test : Content Capability → Bool) → test content.Free ≡ false → IsTrue (test (content_at os n)) →
     n < length os
 known [] n test none passes = let no : false ≡ test content.Free = sym none in absurd (cc)
 known (o ∷ os) zero test none passes = omega arith
 known (o ∷ os) (suc n) test none passes = let later : n < length os = known os n test none passes in omega (arith, later)
 
--- processes are there
+-- the number of a process has an object
 pub processes_known : (os : List Object) (ns : List ℕ) → All (λ n. IsTrue (is_root (content_at os n))) ns → All (λ n. n < length os) ns
 processes_known os ns all k d lt = known os (slice_index_or ns k d) is_root refl (all k d lt)
 
@@ -22,7 +22,7 @@ pub content_is : (os : List Object) (n : ℕ) (o : Object) (x : Content Capabili
     content_at os n ≡ x
 content_is os n o x lt content = ap (λ (p : Object). p.content) (get_or_default os n free o lt) ∙ content
 
--- what it holds
+-- the capability in a slot of this object
 pub slot_is : (os : List Object) (n : ℕ) (slots : List Capability) → slots_in (content_at os n) ≡ slots → (k : ℕ) (d : Capability) →
     k < length slots → slot_at os n k ≡ slice_index_or slots k d
 slot_is os n slots is k d lt = ap (λ (l : List Capability). slice_index_or l k Void) is ∙ get_or_default slots k Void d lt

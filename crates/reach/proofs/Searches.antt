@@ -10,7 +10,7 @@ use Rattle.reach.proofs.Finding.{finds_both, finds_same, missing_most}
 level_of : (o : Option Found) (f : Found) (k : ℕ) → o ≡ Some f → f.level ≡ k → has_level o k ≡ true
 level_of o f k is at = grind (arith, nat_tests)
 
--- the numbers below one were followed where they are at the level
+-- the numbers below i that are at the level were followed
 module _ (os : List Object) (follows : Links) (start now : Levels) (level i : ℕ)
     (first : FindsBy (IsFromLevel os follows start level i) (level + 1) start now) where
   at_once : (n : ℕ) → IsAt now n level → IsAt start n level
@@ -78,13 +78,13 @@ pub searched_first : (os : List Object) (follows : Links) (starts : List ℕ) (i
     IsSearched os follows starts 0 l
 searched_first os follows starts i l begun whole = grind (arith, nat_tests)
 
--- what is found is one of the numbers
+-- a number that was found is below the length
 found_below : (xs : List (Option Found)) (n : ℕ) (f : Found) → slice_index_or xs n None ≡ Some f → n < length xs
 found_below [] n f is = absurd (cc)
 found_below (x ∷ xs) zero f is = omega arith
 found_below (x ∷ xs) (suc n) f is = let later : n < length xs = found_below xs n f is in omega (arith, later)
 
--- one level more was followed
+-- one more level was followed
 module _ (os : List Object) (follows : Links) (starts : List ℕ) (level : ℕ) (old new : Levels)
     (searched : IsSearched os follows starts level old)
     (finds : FindsBy (IsFromLevel os follows old level (length os)) (level + 1) old new) where
@@ -168,7 +168,7 @@ pub set_whole : (numbers : List ℕ) (at total : ℕ) (set : List Bool) → IsSe
     → is_marked set n ≡ is_member numbers n
 set_whole numbers at total set is whole n = is.each n ∙ ap (λ (l : List ℕ). is_member l n) (take_all at numbers whole)
 
--- what was searched without some marks was searched without their numbers
+-- a search that follows no marked number is one that follows none of these numbers
 pub searched_without : (os : List Object) (p : Purpose) (trusted starts : List ℕ) (marks : List Bool) (level : ℕ) (l : Levels)
     → ((n : ℕ) → is_marked marks n ≡ is_member trusted n) → IsSearched os (links p (is_marked marks)) starts level l
     → IsSearched os (links p (is_member trusted)) starts level l

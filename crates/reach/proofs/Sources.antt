@@ -63,7 +63,7 @@ stays_at follows other [] i all = void_stays follows other
 stays_at follows other (c ∷ cs) zero all = all 0 Void (omega arith)
 stays_at follows other (c ∷ cs) (suc i) all = stays_at follows other cs i (λ k d lt. all (suc k) d (omega (arith, lt)))
 
--- none does, and the object holds nothing else
+-- no slot conveys into the set, and the object has no other authority
 pub slots_settle : (os : List Object) (n : ℕ) (slots : List Capability) (follows : Links) (other : ℕ → Bool) → is_process os n ≡ false →
     slots_in (content_at os n) ≡ slots → All (StaysFor follows other) slots → IsClosedAt os follows other n
 slots_settle os n slots follows other no_root is all = record {
@@ -81,7 +81,7 @@ slots_settle os n slots follows other no_root is all = record {
     no_space (content.Annex held) not_root = void_stays follows other
     no_space (content.Bank limit) not_root = void_stays follows other
 
--- while a number and its owners are added up to one
+-- a number and its owners are being added, up to the member `at`
 pub record Adds (os : List Object) (number at : ℕ) (old new : List Bool) : Type 0 where
   pub count : length new ≡ length old
   pub there : is_free (content_at os at) ≡ false
@@ -273,7 +273,7 @@ pub work_less : (os : List Object) (follows : Links) (count : ℕ) (grew : Bool)
 work_less os follows count true old new widens = omega (arith, widens.fewer refl)
 work_less os follows count false old new widens = omega (arith, ap unmarked (widens.same refl))
 
--- an object that isn't there has nothing
+-- a number past all objects has no authority
 past_closed : (os : List Object) (follows : Links) (inside : ℕ → Bool) (n : ℕ) → length os ≤ n → IsClosedAt os follows inside n
 past_closed [] follows inside n past = record {
   annexes = λ is. absurd (cc);
@@ -294,7 +294,7 @@ module _ (os : List Object) (follows : Links) (o : ℕ) (marks : List Bool) (sou
       is_other true is = absurd (cc)
       is_other false is = refl
 
-  -- no other number has authority over one of them
+  -- no other number has authority over a member
   pub others_closed : IsClosedFor follows os (others (is_marked marks))
   others_closed = record {
     annexes = λ p out is. (settled_at p out).annexes is;
@@ -310,7 +310,7 @@ module _ (os : List Object) (follows : Links) (o : ℕ) (marks : List Bool) (sou
           let both : not true ≡ true = ap not (sym owner) ∙ out in absurd (cc)
       unowned b n out there owned false is = ap not is
 
-  -- so they are all that can change the object
+  -- so the members are all numbers that can change the object
   pub sources_are : (n : ℕ) → IsTrue (is_marked marks n) ↔ CanChange os follows n o
   sources_are n = (sources.each n, λ can. member can (is_marked marks n) refl)
     where
@@ -320,7 +320,7 @@ module _ (os : List Object) (follows : Links) (o : ℕ) (marks : List Bool) (sou
           let out : not (is_marked marks o) ≡ true = can (others (is_marked marks)) others_closed (ap not is) in
           let both : not true ≡ true = ap not (sym sources.object) ∙ out in absurd (cc)
 
--- the first of some numbers, as far as they are members
+-- those of the first numbers that are members
 pub record Picks (inside : List Bool) (numbers : List ℕ) (at : ℕ) (set : List Bool) : Type 0 where
   pub count : length set ≡ length inside
   pub some : (n : ℕ) → IsTrue (is_marked set n) → Contains numbers n × IsTrue (is_marked inside n)
@@ -375,7 +375,7 @@ picks_whole inside numbers i set picks whole n = (
       subst (λ (m : ℕ). IsTrue (is_marked set m)) both.0.2 marked,
 )
 
--- and those of some numbers
+-- those of some numbers that can change the object
 pub changers_are : (os : List Object) (follows : Links) (starts : List ℕ) (o : ℕ) (inside set : List Bool) →
     ((n : ℕ) → IsTrue (is_marked inside n) ↔ CanChange os follows n o) → ((n : ℕ) →
     IsTrue (is_marked set n) ↔ (Contains starts n × IsTrue (is_marked inside n))) → AreChangers os follows starts o (is_marked set)
@@ -384,7 +384,7 @@ changers_are os follows starts o inside set can each n = (
   λ both. (each n).1 (both.0, (can n).1 both.1),
 )
 
--- a capability to a member conveys into the set, and one that conveys to none stays outside it
+-- a capability to a member conveys into the set; one that conveys to no member stays outside
 pub conveys_to : (follows : Links) (inside : ℕ → Bool) (c : Capability) (n : ℕ) → Conveys follows c n → IsTrue (inside n) →
     ConveysInto follows inside c
 conveys_to follows inside c n conveys member = λ other stays. (n, member, named_inside follows other c n conveys stays)

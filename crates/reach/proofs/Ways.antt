@@ -40,7 +40,7 @@ module _ (follows : Links) (slots : List Capability) (i : ℕ) (c : Capability) 
         (same, by ∙ ap (way.Slot i) (sym is), subst (λ (k : ℕ). Conveys follows (slice_index_or slots i Void) k) (sym to) conveys_it),
       )
 
--- of a list of slots
+-- the ways from a list of slots
 slots_held : (os : List Object) (follows : Links) (n : ℕ) (slots : List Capability) (w : Way) (m : ℕ) →
     IsWay os follows n (content.Node slots) w m → (s : Step) → s.from ≡ n → s.way ≡ w → s.to ≡ m → IsHeldIn follows slots (length slots) n s
 slots_held os follows n slots (way.Space c) m by s same is to = absurd (void_conveys follows c m by.0 by.1)
@@ -54,12 +54,12 @@ registers_held os follows n slots (way.Space c) m by s same is to = absurd (void
 registers_held os follows n slots (way.Slot i c) m by s same is to = held_way follows slots i c m by.0 by.1 n s same is to
 registers_held os follows n slots w m by s same is to = let wrong = by.0 in absurd (cc)
 
--- of a bank
+-- the ways from a bank
 bank_owned : (os : List Object) (follows : Links) (n limit : ℕ) (w : Way) (m : ℕ) → IsWay os follows n (content.Bank limit) w m →
     (s : Step) → s.from ≡ n → s.way ≡ w → s.to ≡ m → IsOwnedBelow os (length os) n s
 bank_owned os follows n limit w m by s same is to = grind (arith, common_steps, known)
 
--- of a process: its annex, its space, and its registers
+-- the ways from a process: its annex, its space, and its registers
 abbrev pub annex_step : ℕ → Root Capability → Step
 annex_step n root = record { from = n; way = way.Annex; to = root.annex }
 

@@ -1,4 +1,4 @@
-// What a capability lets change or read.
+// What a capability allows its holder to change or read.
 ghost use Rattle.std.specs.Prelude.{◌≡◌, ◌⊎◌, ◌↔◌, ℕ, length, None, IfSome, IsTrue};
 ghost use Rattle.model.specs.Capability.{IsWeak};
 ghost use Rattle.collections.specs.Marks.{is_marked};
@@ -10,12 +10,12 @@ ghost use Rattle.reach.specs.Links.{links};
 use collections::NumberSet;
 use model::{Access, Capability};
 
-/// What is sought of processes.
+/// What to search for.
 #[derive(Clone, Copy)]
 pub enum Purpose {
-    /// What they can ever change.
+    /// All that the processes can ever change.
     Change,
-    /// What they can ever read: weak capabilities are followed too.
+    /// All that the processes can ever read: weak capabilities are followed too.
     Read,
 }
 
@@ -35,7 +35,7 @@ fn is_weak(capability: Capability) -> bool
     }
 }
 
-// Whether a capability is followed: a weak one only to what may be read.
+// Whether a search follows a capability: a weak one only if the purpose is to read.
 fn is_followed(capability: Capability, purpose: Purpose) -> bool
     ensures { IsTrue result ↔ IsFollowed purpose capability }
 {
@@ -56,8 +56,8 @@ fn starts_one(capability: Capability, trusted: &NumberSet) -> bool
     }
 }
 
-/// The number of the object that a capability lets change, or read, if there is one and the capability
-/// doesn't start a trusted process.
+/// Returns the number of the object that a capability lets its holder change, or read; `None` if there is no such
+/// object or the capability starts a trusted process.
 pub(crate) fn authority_but(
     capability: Capability,
     purpose: Purpose,

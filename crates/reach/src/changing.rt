@@ -1,4 +1,4 @@
-// What can change or read an object.
+// Finding all that can change or read an object.
 ghost use Rattle.std.specs.Prelude.{◌≡◌, ◌↔◌, ◌<◌, ℕ, false, length, slice_index_or, IfOk, IsTrue};
 ghost use Rattle.std.specs.List.{All, Contains};
 ghost use Rattle.model.specs.declared.capability.Capability.TheVariants.{Void};
@@ -18,7 +18,8 @@ use collections::NumberSet;
 use model::{Capability, Content, Object};
 use std::alloc::{AllocError, Global};
 
-// Whether a capability lets change, or read, a member of a set, unless it starts a trusted process.
+// Whether a capability lets its holder change, or read, a member of a set. One that starts a trusted process doesn't
+// count.
 fn conveys_into(
     capability: Capability,
     purpose: Purpose,
@@ -38,7 +39,7 @@ fn conveys_into(
     }
 }
 
-// Whether one of some capabilities has authority over a member of a set.
+// Whether one of these capabilities has authority over a member of a set.
 fn some_convey_into(
     capabilities: &[Capability],
     purpose: Purpose,
@@ -61,7 +62,7 @@ fn some_convey_into(
     false
 }
 
-// Whether an object isn't a member of a set, and has authority over a member by its annex or by what it holds.
+// Whether an object outside a set has authority over a member, by its annex or by a capability that it holds.
 fn leads_into(
     objects: &[Object],
     purpose: Purpose,
@@ -100,7 +101,8 @@ fn leads_into(
     }
 }
 
-// Adds an object to a set, its owner, the owner's owner, and so on up to a member. Those added are to be followed.
+// Adds an object to a set, then its owner, the owner's owner, and so on up to a member. All that it adds are marked
+// to be followed.
 fn add_owners(objects: &[Object], inside: &mut NumberSet, to_follow: &mut NumberSet, number: usize)
     requires sound { AreSoundObjects objects.now }
     requires count { length inside.old ≡ length objects.now }
@@ -117,7 +119,7 @@ fn add_owners(objects: &[Object], inside: &mut NumberSet, to_follow: &mut Number
     }
 }
 
-// Adds an object with its owners if it has authority over a member.
+// Adds an object, with its owners, if it has authority over a member.
 #[tactic(auto, using(crate::proofs::Sources::grows_none))]
 fn add_leading(
     objects: &[Object],
@@ -142,7 +144,7 @@ fn add_leading(
     }
 }
 
-// Adds those of some numbers that have authority over a member, with their owners.
+// Adds the objects among `numbers` that have authority over a member, with their owners.
 #[tactic(auto, using(crate::proofs::Sources::grows_none))]
 fn add_all_leading(
     objects: &[Object],
@@ -165,7 +167,7 @@ fn add_all_leading(
     }
 }
 
-// Follows each member back to the objects that name it, and so on: each is followed once.
+// Follows each marked member back to the objects that name it, adds these, and so on. Each is followed once.
 #[tactic(auto, using(crate::proofs::Sources::grows_none))]
 fn follow_back(
     objects: &[Object],
@@ -218,7 +220,7 @@ fn widen(
     grew
 }
 
-// Those of some numbers that are members of a set. Fails only if memory runs out.
+// Returns which of `numbers` are members of a set. Fails only if memory runs out.
 fn members_of(
     alloc: Global,
     inside: &NumberSet,
@@ -240,8 +242,8 @@ fn members_of(
     Ok(set)
 }
 
-// All numbers that can ever change, or read, an object, none by a capability that starts a trusted process.
-// Fails only if memory runs out.
+// Returns all numbers that can ever change, or read, an object, without starting a trusted process. Fails only if
+// memory runs out.
 fn sources(
     alloc: Global,
     objects: &[Object],
@@ -268,7 +270,7 @@ fn sources(
         &mut inside,
         &mut to_follow,
     );
-    // A pass that adds none shows that none is missing. The first does.
+    // A pass that adds nothing proves that nothing is missing. Usually the first pass adds nothing.
     let mut grew = true;
     while grew {
         grew = widen(objects, purpose, trusted, &mut inside, &mut to_follow);
@@ -276,8 +278,9 @@ fn sources(
     Ok(inside)
 }
 
-/// Those of the numbers `starts` that can ever change an object, or read it, in a sound world: those whose
-/// set, which `reach` finds for `purpose` and `trusted`, contains it. It searches once, backwards from the object.
+/// Returns those of the numbers `starts` that can ever change, or read, an object in a sound world: the object is in
+/// the set that `reach` finds for each of them, with `purpose` and `trusted`. It searches once, backwards from the
+/// object.
 ///
 /// `AllocError` means that memory ran out, which is tested, not proved.
 pub fn changers(

@@ -1,4 +1,4 @@
-// The least closed set.
+// The least closed set that contains some numbers.
 ghost use Rattle.std.specs.Prelude.{◌≡◌, ◌<◌, length, IfOk};
 ghost use Rattle.std.specs.List.{All};
 ghost use Rattle.model.specs.Revoke.{is_member};
@@ -12,18 +12,19 @@ use collections::NumberSet;
 use model::Object;
 use std::alloc::{AllocError, Global};
 
-/// The least closed set that contains the numbers `starts`, in a sound world. A closed set contains
-/// the annexes of its processes, what its banks own, and what a member holds a capability to that
-/// doesn't start a process of `trusted`. To change, the capability mustn't be weak either.
+/// Returns the least closed set that contains the numbers `starts`, in a sound world. A closed set contains the
+/// annexes of its processes, the objects that its banks own, and each object that a member holds a capability to. A
+/// capability that starts a process of `trusted` doesn't count; if the purpose is to change, a weak one doesn't count
+/// either.
 ///
-/// If what may be read is sought, the set is closed for reading: nothing outside determines an answer to
-/// its processes, but to turns that look outside or lack room (crate `noninterference`).
+/// If the purpose is to read, the set is closed for reading: nothing outside determines an answer to its processes,
+/// except in turns that look outside or find the log full or the machine worn (crate `noninterference`).
 ///
-/// Over any run of invocations, loads and stores by processes of the set, and by processes made of
-/// numbers that were free, objects outside the set that weren't free keep their content and their
-/// owner (EROS: confinement). Exceptions: capabilities to members may become void, and the root and
-/// the annex of a process of `trusted` receive messages. It holds again from any later moment at which
-/// the set is closed in the same sense, whatever others did.
+/// Over any run of invocations, loads and stores by processes of the set, and by processes made from free numbers,
+/// objects outside the set that weren't free keep their content and their owner (EROS: confinement). Exceptions:
+/// capabilities to members may become void, and the root and the annex of a process of `trusted` receive messages.
+/// The same holds again from any later moment at which the set is closed in this sense, whatever others did
+/// meanwhile.
 ///
 /// It follows each number once. `AllocError` means that memory ran out, which is tested, not proved.
 pub fn reach(

@@ -17,7 +17,7 @@ use json_lines::{Format, Key, Member, text_object};
 use model::{Content, Object};
 use script::{LineText, Output, RunFault};
 
-// What an object is called.
+// Returns the word for the kind of an object.
 fn kind_at(objects: &[Object], number: u64) -> &'static [u8]
     ensures kind { result.now ≡ kind_of (content_at objects.now number) }
     ensures short { length result.now ≤ 8 }
@@ -35,7 +35,7 @@ fn kind_at(objects: &[Object], number: u64) -> &'static [u8]
     }
 }
 
-// What an object holds capabilities in.
+// Returns the word for a place in an object that holds capabilities: slot or register.
 fn place_at(objects: &[Object], number: u64) -> Key
     ensures { result ≡ place_of (content_at objects.now number) }
 {
@@ -48,7 +48,7 @@ fn place_at(objects: &[Object], number: u64) -> Key
     }
 }
 
-// The line of a step from a bank to what it owns.
+// Returns the line of a step from a bank to an object that it owns.
 fn line_of_owner(objects: &[Object], bank: u64, owned: u64) -> LineText
     ensures text { result ≡ step_text Text objects.now bank Owner owned }
     ensures short { length result < 320 }
@@ -59,7 +59,7 @@ fn line_of_owner(objects: &[Object], bank: u64, owned: u64) -> LineText
     line
 }
 
-// The line of a step, for people.
+// Returns the line of a step, as text for people.
 fn words_of_step(objects: &[Object], step: Step) -> LineText
     ensures text { result ≡ step_text Text objects.now step.from step.way step.to }
     ensures short { length result < 320 }
@@ -84,7 +84,7 @@ fn words_of_step(objects: &[Object], step: Step) -> LineText
     }
 }
 
-// The object in JSON of a step.
+// Returns the JSON object of a step.
 fn json_of_step(objects: &[Object], step: Step) -> LineText
     ensures text { result ≡ step_text Json objects.now step.from step.way step.to }
     ensures short { length result < 320 }
@@ -110,7 +110,7 @@ fn json_of_step(objects: &[Object], step: Step) -> LineText
     }
 }
 
-// The line of a step.
+// Returns the line of a step, in a format.
 fn line_of_step(format: Format, objects: &[Object], step: Step) -> LineText
     ensures text { result ≡ step_text format objects.now step.from step.way step.to }
     ensures short { length result < 320 }
@@ -176,7 +176,7 @@ fn print_to<W: Output>(
     print_object(format, objects, object, writer)
 }
 
-// What is said of an object to which no chain leads.
+// Returns the words for an object to which no chain leads.
 fn denial(purpose: Purpose) -> &'static [u8]
     ensures text { result.now ≡ denial_of purpose }
     ensures short { length result.now ≤ 16 }
@@ -187,7 +187,7 @@ fn denial(purpose: Purpose) -> &'static [u8]
     }
 }
 
-// The same in JSON.
+// Returns the JSON member for an object to which no chain leads.
 fn denied(purpose: Purpose) -> Key
     ensures { result ≡ denied_key purpose }
 {
@@ -197,7 +197,7 @@ fn denied(purpose: Purpose) -> Key
     }
 }
 
-// The line of an object to which no chain leads.
+// Returns the line of an object to which no chain leads.
 fn line_of_unchanged(format: Format, objects: &[Object], purpose: Purpose, number: u64) -> LineText
     ensures text { result ≡ unchanged_text format objects.now purpose number }
     ensures short { length result < 320 }
@@ -218,11 +218,11 @@ fn line_of_unchanged(format: Format, objects: &[Object], purpose: Purpose, numbe
     }
 }
 
-/// Writes a chain to an object in a format: a line for each step, first step first, and the line of the object as
-/// `show` begins it. Without a chain it writes `cannot change`, or `cannot read`, with the object's kind
-/// and number.
+/// Writes a chain to an object in a format: a line for each step, first step first, then the line of the object as
+/// `show` begins it. If there is no chain it writes `cannot change`, or `cannot read`, with the object's kind and
+/// number.
 ///
-/// `RunFault::Write` if the writer fails or takes nothing: then a beginning of that text was written.
+/// Returns `RunFault::Write` if the writer fails or accepts no bytes; then it accepted only a beginning of the text.
 /// It takes no memory.
 pub fn print_chain<W: Output>(
     format: Format,

@@ -1,16 +1,17 @@
-// The objects that name others, listed by what they name.
+// For each object, which others name it.
 
 use model::{Capability, Content, Object};
 use std::alloc::{AllocError, Global};
 
-/// For each number the objects that name it. They only order a search, so no clause says which are listed.
+/// For each number the objects that name it. They only give the order of a search, so no contract says what is
+/// listed.
 #[derive(Drop)]
 pub(crate) struct Holders {
     lists: Vec<Vec<u64>>,
 }
 
 impl Holders {
-    /// What names each of some objects. Fails only if memory runs out.
+    /// Returns the lists for all these objects. Fails only if memory runs out.
     pub(crate) fn of_objects(alloc: Global, objects: &[Object]) -> Result<Holders, AllocError> {
         let mut lists = Vec::new(alloc);
         for _ in 0..objects.len() {
@@ -31,7 +32,8 @@ impl Holders {
         }
     }
 
-    // Adds what an object names: its annex, its address space, and what it holds.
+    // Adds an object as a holder of all that it names: its annex, its address space, and the objects of its
+    // capabilities.
     fn add_object(&mut self, holder: u64, object: &Object) -> Result<(), AllocError> {
         match &object.content {
             Content::Free | Content::Page(_) | Content::Bank { .. } => Ok(()),
@@ -44,7 +46,7 @@ impl Holders {
         }
     }
 
-    // Adds what some capabilities name.
+    // Adds an object as a holder of the objects that these capabilities name.
     fn add_all(&mut self, holder: u64, capabilities: &[Capability]) -> Result<(), AllocError> {
         for capability in capabilities {
             if let Some(named) = capability.named() {

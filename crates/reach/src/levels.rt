@@ -1,18 +1,18 @@
-// The numbers that were found, and in how many steps each.
+// The numbers that a search found, and the number of steps to each.
 
 use crate::step::Step;
 use collections::NumberSet;
 use std::alloc::{AllocError, Global};
 
-/// How a number was found: in `level` steps, and by which one at last.
+/// How a number was found: its level, which is the number of steps to it, and the last step.
 #[derive(Clone, Copy)]
 pub(crate) struct Found {
     level: u64,
-    // `None` for a number that the search began with.
+    // The last step, or `None` for a number with which the search began.
     step: Option<Step>,
 }
 
-/// The numbers that were found, and the greatest level.
+/// The numbers that were found, and the greatest level among them.
 #[derive(Drop)]
 pub(crate) struct Levels {
     found: Vec<Option<Found>>,
@@ -24,7 +24,7 @@ impl Levels {
     ghost use Rattle.collections.specs.Marks.{is_marked};
     ghost use Rattle.reach.specs.Levels.{Begins, FindsBy, IsTheStep, found_at, has_level};
 
-    /// None of `count` numbers. Fails only if memory runs out.
+    /// Returns a value with none of `count` numbers found. Fails only if memory runs out.
     pub(crate) fn new(alloc: Global, count: usize) -> Result<Levels, AllocError>
         ensures found { IfOk result (λ l. l.found.items ≡ replicate count None) }
         ensures greatest { IfOk result (λ l. l.greatest ≡ 0) }
@@ -34,7 +34,7 @@ impl Levels {
         Ok(Levels { found, greatest: 0 })
     }
 
-    /// Finds a number in no step, unless it was found before.
+    /// Records a number as found at level 0, unless it was found before.
     #[tactic(auto, using(crate::proofs::Finding::begun_before, crate::proofs::Finding::some_of))]
     pub(crate) fn begin(&mut self, number: u64)
         requires { number < length self.old.found.items }
@@ -48,7 +48,7 @@ impl Levels {
         }
     }
 
-    /// Finds the end of a step at a level, unless it was found before.
+    /// Records the end of a step as found at a level, unless it was found before.
     #[tactic(auto, using(crate::proofs::Finding::added_before, crate::proofs::Finding::some_of))]
     pub(crate) fn add(&mut self, step: Step, level: u64)
         requires known { step.to < length self.old.found.items }
@@ -65,7 +65,7 @@ impl Levels {
         }
     }
 
-    /// The greatest level.
+    /// Returns the greatest level.
     pub(crate) fn greatest(&self) -> u64
         ensures { result ≡ self.now.greatest }
     {
@@ -82,7 +82,7 @@ impl Levels {
         }
     }
 
-    /// The numbers that were found. Fails only if memory runs out.
+    /// Returns the set of all numbers that were found. Fails only if memory runs out.
     pub(crate) fn numbers(&self, alloc: Global) -> Result<NumberSet, AllocError>
         ensures count { IfOk result (λ inside. length inside ≡ length self.now.found.items) }
         ensures each { IfOk result (λ inside. (n : ℕ) → is_marked inside n ≡ is_some (found_at self.now n)) }
@@ -107,7 +107,7 @@ impl Levels {
         }
     }
 
-    /// The step by which a number was found.
+    /// Returns the last step to a number; `None` if it was not found or the search began with it.
     pub(crate) fn step_to(&self, number: u64) -> Option<Step>
         ensures { result ≡ option_and_then (λ f. f.step) (found_at self.now number) }
     {

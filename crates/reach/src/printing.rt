@@ -25,7 +25,7 @@ fn begin(name: &[u8], number: u64, owner: u64) -> LineText
     line
 }
 
-// The line of an object, as `show` begins it.
+// Returns the line of an object, as `show` begins it.
 fn words_of_object(number: u64, object: &Object) -> LineText
     ensures text { result ≡ spaced (words_of number object.now) }
     ensures short { length result ≤ 120 }
@@ -49,7 +49,7 @@ fn words_of_object(number: u64, object: &Object) -> LineText
     }
 }
 
-// The object in JSON of an object.
+// Returns the JSON object that describes an object.
 fn json_of_object(number: u64, object: &Object) -> LineText
     ensures text { result ≡ object_json number object.now }
     ensures short { length result ≤ 300 }
@@ -72,7 +72,7 @@ fn json_of_object(number: u64, object: &Object) -> LineText
     }
 }
 
-/// The line of an object.
+/// Returns the line of an object, in a format.
 pub(crate) fn line_of_object(format: Format, number: u64, object: &Object) -> LineText
     ensures text { result ≡ object_text format number object.now }
     ensures short { length result ≤ 300 }
@@ -83,7 +83,7 @@ pub(crate) fn line_of_object(format: Format, number: u64, object: &Object) -> Li
     }
 }
 
-// Writes the line of a member.
+// Writes the line of an object if it is a member.
 fn print_member<W: Output>(
     format: Format,
     inside: &NumberSet,
@@ -101,7 +101,8 @@ fn print_member<W: Output>(
     line_of_object(format, number as u64, object).write_to(writer)
 }
 
-// Whether a capability of an object names another process or another bank, with authority.
+// Whether a capability of an object has authority over another process or another bank. It then pulls this into the
+// set.
 fn pulls(number: u64, capability: Capability) -> bool
     ensures { result ≡ pulls number capability }
 {
@@ -114,7 +115,7 @@ fn pulls(number: u64, capability: Capability) -> bool
     }
 }
 
-/// The line of a capability that an object holds.
+/// Returns the line of a capability that an object holds.
 pub(crate) fn line_of_held(
     format: Format,
     name: &[u8],
@@ -145,7 +146,7 @@ pub(crate) fn line_of_held(
     }
 }
 
-// Writes the line of a capability that pulls in another process or another bank.
+// Writes the line of a capability if it pulls in another process or another bank.
 fn print_pull<W: Output>(
     format: Format,
     name: &[u8],
@@ -165,7 +166,7 @@ fn print_pull<W: Output>(
     line_of_held(format, name, number, place, index as u64, capability).write_to(writer)
 }
 
-// Writes the lines of the members.
+// Writes the lines of all members.
 fn print_members<W: Output>(
     format: Format,
     objects: &[Object],
@@ -182,7 +183,7 @@ fn print_members<W: Output>(
     Ok(())
 }
 
-// Writes the lines of the capabilities of an object that pull in processes and banks.
+// Writes the lines of all capabilities of an object that pull in processes and banks.
 #[tactic(auto, using(script::proofs::NumberedLines::lines_all))]
 fn print_pulls<W: Output>(
     format: Format,
@@ -202,7 +203,7 @@ fn print_pulls<W: Output>(
     Ok(())
 }
 
-/// The capabilities that an object holds in slots or registers.
+/// Returns the capabilities that an object holds in slots or registers.
 pub(crate) fn slots_of(objects: &[Object], number: u64) -> &[Capability]
     ensures { result.now ≡ slots_in (content_at objects.now number) }
 {
@@ -215,7 +216,7 @@ pub(crate) fn slots_of(objects: &[Object], number: u64) -> &[Capability]
     }
 }
 
-// Writes what an object pulls in: a process by the registers of its annex.
+// Writes the capabilities by which an object pulls in others. A process holds them in the registers of its annex.
 fn print_object_pulls<W: Output>(
     format: Format,
     objects: &[Object],
@@ -243,7 +244,7 @@ fn print_object_pulls<W: Output>(
     }
 }
 
-// Writes what a member pulls in.
+// Writes the capabilities by which a member pulls in others.
 fn print_member_pulls<W: Output>(
     format: Format,
     objects: &[Object],
@@ -262,7 +263,7 @@ fn print_member_pulls<W: Output>(
     print_object_pulls(format, objects, number as u64, object, writer)
 }
 
-// Writes what the members pull in.
+// Writes the capabilities by which all members pull in others.
 #[tactic(auto, using(script::proofs::NumberedLines::lines_all))]
 fn print_all_pulls<W: Output>(
     format: Format,
@@ -280,7 +281,7 @@ fn print_all_pulls<W: Output>(
     Ok(())
 }
 
-// How many of the first numbers are members.
+// Returns how many numbers below `total` are members.
 fn count_members(inside: &NumberSet, total: usize) -> u64
     requires { total ≡ length inside.now }
     ensures { result ≡ count_by (λ b. b) inside.now }
@@ -294,8 +295,8 @@ fn count_members(inside: &NumberSet, total: usize) -> u64
     count
 }
 
-// Writes a set of numbers: the line of each member as `show` begins it, by rising numbers, and a word with
-// their count.
+// Writes a set of numbers: the line of each member as `show` begins it, in rising order, then `word` with their
+// count.
 fn print_counted<W: Output>(
     format: Format,
     word: &[u8],
@@ -312,10 +313,10 @@ fn print_counted<W: Output>(
     number_line(format, word, count_members(inside, objects.len())).write_to(writer)
 }
 
-/// Writes a set of numbers in a format: the line of each member as `show` begins it, by rising numbers; `closed`
-/// with their count; and each capability of a member that names another process or another bank.
+/// Writes a set of numbers in a format: the line of each member as `show` begins it, in rising order; `closed` with
+/// their count; and each capability of a member that names another process or another bank.
 ///
-/// `RunFault::Write` if the writer fails or takes nothing: then a beginning of that text was written.
+/// Returns `RunFault::Write` if the writer fails or accepts no bytes; then it accepted only a beginning of the text.
 /// It takes no memory.
 pub fn print_reach<W: Output>(
     format: Format,
@@ -331,10 +332,10 @@ pub fn print_reach<W: Output>(
     print_all_pulls(format, objects, inside, writer)
 }
 
-/// Writes a set of processes in a format: the line of each as `show` begins it, by rising numbers, and `processes`
+/// Writes a set of processes in a format: the line of each as `show` begins it, in rising order, then `processes`
 /// with their count.
 ///
-/// `RunFault::Write` if the writer fails or takes nothing: then a beginning of that text was written.
+/// Returns `RunFault::Write` if the writer fails or accepts no bytes; then it accepted only a beginning of the text.
 /// It takes no memory.
 pub fn print_changers<W: Output>(
     format: Format,

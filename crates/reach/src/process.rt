@@ -1,4 +1,4 @@
-// Which numbers are processes.
+// Finding the numbers of processes.
 ghost use Rattle.std.specs.Prelude.{◌≡◌, ◌↔◌, ℕ, IfOk, IsNone, IsTrue, not};
 ghost use Rattle.std.specs.List.{All, Contains, find};
 ghost use Rattle.model.specs.World.{is_process};
@@ -16,7 +16,7 @@ fn is_process(objects: &[Object], number: u64) -> bool
     }
 }
 
-/// The first of some numbers that isn't the number of a process. `None` if all are.
+/// Returns the first of these numbers that isn't a process's, or `None` if all are.
 pub fn missing_process(objects: &[Object], numbers: &[u64]) -> Option<u64>
     ensures first { result ≡ find (λ n. not (is_process objects.now n)) numbers.now }
     ensures none { IsNone result → All (λ n. IsTrue (is_process objects.now n)) numbers.now }

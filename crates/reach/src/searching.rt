@@ -19,7 +19,7 @@ use collections::NumberSet;
 use model::{Capability, Content, Object, Root};
 use std::alloc::{AllocError, Global};
 
-// Finds what a capability has authority over.
+// Records the object that a capability has authority over, if there is one.
 fn find(
     levels: &mut Levels,
     purpose: Purpose,
@@ -39,7 +39,7 @@ fn find(
     }
 }
 
-// Finds what the capabilities in slots have authority over.
+// Records the objects that the capabilities in these slots have authority over.
 #[tactic(auto, using(crate::proofs::Finding::finds_none))]
 fn find_held(
     levels: &mut Levels,
@@ -64,7 +64,7 @@ fn find_held(
     }
 }
 
-// Whether an object is owned by a bank.
+// Whether a bank owns an object.
 fn is_owned(object: &Object, bank: u64) -> bool
     ensures { IsTrue result ↔ ((is_free object.now.content ≡ false) × (object.now.owner ≡ bank)) }
 {
@@ -74,7 +74,7 @@ fn is_owned(object: &Object, bank: u64) -> bool
     }
 }
 
-// Finds what a bank owns.
+// Records the objects that a bank owns.
 #[tactic(auto, using(crate::proofs::Finding::finds_none))]
 fn find_owned(levels: &mut Levels, objects: &[Object], bank: u64, level: u64)
     requires count { length levels.old.found.items ≡ length objects.now }
@@ -96,7 +96,7 @@ fn find_owned(levels: &mut Levels, objects: &[Object], bank: u64, level: u64)
     }
 }
 
-// Finds what a process has authority over: its annex, its address space, and what its registers hold.
+// Records what a process has authority over: its annex, its address space, and the objects of its registers.
 fn find_of_process(
     levels: &mut Levels,
     objects: &[Object],
@@ -141,7 +141,7 @@ fn find_of_process(
     );
 }
 
-// Finds all that an object has authority over in one step.
+// Records all that an object has authority over in one step.
 fn find_of_object(
     levels: &mut Levels,
     objects: &[Object],
@@ -182,7 +182,7 @@ fn find_of_object(
     }
 }
 
-// Follows all that was found at a level.
+// Records all that the numbers found at a level have authority over in one step.
 #[tactic(auto, using(crate::proofs::Finding::finds_none))]
 fn follow_level(
     levels: &mut Levels,
@@ -207,7 +207,7 @@ fn follow_level(
     }
 }
 
-// Finds all to which chains of steps lead that don't start a process of a set.
+// Finds all numbers to which chains of steps lead. No step starts a process of `trusted`.
 #[tactic(auto, using(crate::proofs::Searches::searched_first))]
 fn search_but(
     alloc: Global,
@@ -234,7 +234,7 @@ fn search_but(
     Ok(levels)
 }
 
-/// The set of some numbers. Fails only if memory runs out.
+/// Returns the set with these numbers. Fails only if memory runs out.
 pub(crate) fn set_of(alloc: Global, numbers: &[u64], total: usize) -> Result<NumberSet, AllocError>
     requires { All (λ n. n < total) numbers.now }
     ensures count { IfOk result (λ set. length set ≡ total) }
@@ -247,8 +247,8 @@ pub(crate) fn set_of(alloc: Global, numbers: &[u64], total: usize) -> Result<Num
     Ok(set)
 }
 
-/// Finds all to which chains of steps from some numbers lead, each in as few steps as can be. No step
-/// starts a trusted process. Fails only if memory runs out.
+/// Finds all numbers to which chains of steps from `starts` lead, each by a shortest chain. No step starts a process
+/// of `trusted`. Fails only if memory runs out.
 pub(crate) fn search(
     alloc: Global,
     objects: &[Object],

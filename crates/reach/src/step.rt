@@ -2,20 +2,20 @@
 
 use model::Capability;
 
-/// How one object has authority over another.
+/// By which way one object has authority over another.
 #[derive(Clone, Copy)]
 pub enum Way {
-    /// The one is a process, and the other its annex.
+    /// The first is a process, and the second its annex.
     Annex,
-    /// The one is a bank, and owns the other.
+    /// The first is a bank, and owns the second.
     Owner,
-    /// The one is a process, and this is its address space.
+    /// The first is a process, and this capability, to the second, is its address space.
     Space(Capability),
-    /// The one holds this capability in a slot, or in a register if it is a process.
+    /// The first holds this capability, to the second, in a slot; if it is a process, in a register.
     Slot { index: u64, capability: Capability },
 }
 
-/// One object has authority over another.
+/// A step: the object `from` has authority over the object `to`.
 #[derive(Clone, Copy)]
 pub struct Step {
     pub from: u64,

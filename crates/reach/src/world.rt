@@ -7,7 +7,7 @@ use capability::{Frames, view};
 use model::{Object, Refusal};
 use std::alloc::Global;
 
-// An object, fetched, its stale capabilities void.
+// Fetches an object, and returns it with its stale capabilities void.
 fn object<F: Frames>(alloc: Global, store: &mut F, number: u64) -> Result<Object, Refusal>
     requires usable { F.IsUsable store.old }
     requires sound { AreSound (F.parts store.old) }
@@ -19,9 +19,9 @@ fn object<F: Frames>(alloc: Global, store: &mut F, number: u64) -> Result<Object
     Ok(view::object(alloc, store, number)?)
 }
 
-/// All objects of a store, by number. Each is fetched, and none is changed.
+/// Returns all objects of a store, by number. It fetches each, and changes none.
 ///
-/// `NoMemory` if memory runs out, and `Fault` exactly if the device fails.
+/// Returns `NoMemory` if memory runs out, and `Fault` exactly if the device fails.
 pub fn read_objects<F: Frames>(alloc: Global, store: &mut F) -> Result<Vec<Object>, Refusal>
     requires usable { F.IsUsable store.old }
     requires sound { AreSound (F.parts store.old) }

@@ -3,10 +3,10 @@ use Rattle.recovery.proofs.Names.{nat_tests, Bool, false, true, List, sym, arith
 use Rattle.std.proofs.Common.{◌≡◌, ◌∙◌}
 use Rattle.std.specs.Prelude.{◌↔◌}
 
--- what isn't so where a test fails
+-- a test that fails refutes the property that it tests
 pub refuted : (b : Bool) (P : Type 0) → (IsTrue b ↔ P) → b ≡ false → P → ⊥
 refuted b P tells is p = let so : b ≡ true = tells.1 p in let no_so : true ≡ false = sym so ∙ is in cc
 
--- what is wrong with banks isn't so where they are as they must be
+-- if all banks are as they must be, there is no fault of banks
 pub unbanked_refuted : (fs : List Frame) (why : Unbanked) → IsUnbanked fs why → AreBanked fs → ⊥
 unbanked_refuted fs why broken banked = grind (arith, nat_tests)

@@ -9,13 +9,13 @@ use Rattle.layout.specs.declared.bad_image.BadImage.TheVariants as bad
 use Rattle.recovery.proofs.Denoted.{denoted_by}
 use Rattle.recovery.proofs.Sound.{consistent_is_sound}
 
--- what holds of the first and, one further, of the others
+-- a property of the first frame, and of the others one number further, holds of all
 each_cons : (P : ℕ → Frame → Type 0) (n : ℕ) (f : Frame) (fs : List Frame) → P zero f → ((o : ℕ) → o < n → P (suc o) (frame_at fs o)) →
     (o : ℕ) → o < suc n → P o (frame_at (f ∷ fs) o)
 each_cons P n f fs first each zero lt = first
 each_cons P n f fs first each (suc o) lt = each o (omega (arith, lt))
 
--- frames at n numbers, if it can't be that there is none at one of them
+-- if at none of n numbers a frame can be missing, there are frames at all
 frames_there : (n : ℕ) (P : ℕ → Frame → Type 0) → ((o : ℕ) → o < n → ((f : Frame) → P o f → ⊥) → ⊥) →
     ((fs : List Frame) → length fs ≡ n → ((o : ℕ) → o < n → P o (frame_at fs o)) → ⊥) → ⊥
 frames_there zero P some none = none [] refl (λ o lt. absurd (omega (arith, lt)))
@@ -77,7 +77,7 @@ module _ (size : ℕ) (c : Image) (fair : (reason : BadImage) → IsBad size c r
   encoded none = with_plan (λ p plan. with_header p plan (λ h header. with_directory p plan h header (λ es directory.
       with_state p plan h header es directory none)))
 
-  -- nor can it be that its frames stand for no sound world
+  -- nor can the frames stand for no sound world
   module _ (s : SavedState) (e : Encodes c size s) where
     last : (reason : BadImage) → IsInconsistent s.frames reason → ⊥
     last reason why = fair reason (inr (kept_of s, (s, e, refl), why))

@@ -10,16 +10,16 @@ pub denoted_by : (g : Geometry) (size : ℕ) (c : Image) (fs : SavedFrames) → 
     Denotes g size c (saved_of fs)
 denoted_by g size c fs sound holds = record { frames = fs; holds = holds; sound = sound; stands = refl }
 
--- a store that is sound: a crash leaves what it saves
+-- a sound store: each crash leaves the state that it saves
 pub leaves_saved : (g : Geometry) (disk : Disk) (fs : SavedFrames) → IsSoundSaved g fs →
     ((c : Image) → disk.may_leave c → Holds disk.sectors c fs) → Leaves g disk (saved_of fs ∷ [])
 leaves_saved g disk fs sound holds c left = inl (denoted_by g disk.sectors c fs sound (holds c left))
 
--- sectors hold one saved state of frames
+-- sectors hold at most one saved state of frames
 pub holds_one : (size : ℕ) (c : Image) (a b : SavedFrames) → Holds size c a → Holds size c b → a ≡ b
 holds_one size c a b ha hb = sym ha.2 ∙ ap kept_of (one_state c size ha.0 hb.0 ha.1 hb.1) ∙ hb.2
 
--- and denote one saved state, which is that of the frames that they hold
+-- they denote one saved state, that of the frames that they hold
 pub denotes_held : (g : Geometry) (size : ℕ) (c : Image) (s : Saved) (fs : SavedFrames) → Denotes g size c s → Holds size c fs →
     (saved_of fs ≡ s) × IsSoundSaved g fs
 denotes_held g size c s fs denoted held =
@@ -40,7 +40,7 @@ contains_here s ss = (zero, omega arith, refl)
 contains_more : (s t : Saved) (ss : List Saved) → Contains ss t → Contains (s ∷ ss) t
 contains_more s t ss there = (suc there.0, omega (arith, there.1), there.2)
 
--- of several it denotes one
+-- an image that denotes one of several states
 pub one_denoted : (g : Geometry) (size : ℕ) (c : Image) (ss : List Saved) (fs : SavedFrames) → DenotesOne g size ss c → Holds size c fs →
     Contains ss (saved_of fs) × IsSoundSaved g fs
 one_denoted g size c [] fs denoted held = absurd denoted

@@ -21,13 +21,13 @@ module _ (p : Parts) (hs : List ObjectHeader) (c : Cap) (current : ℕ) (table :
 
 -- the capabilities of one object
 module _ (fs : List Frame) (c : Content Cap) (n : ℕ) (is : c ≡ (frame_at fs n).content) (b : Bool) where
-  -- those of a list of slots
+  -- the capabilities of an object with a list of slots
   pub held_named : (slots : List Cap) → caps_in c ≡ slots → (IsTrue b ↔ All (IsNamed fs) slots) →
       IsTrue b ↔ All (IsNamed fs) (caps_in (frame_at fs n).content)
   held_named slots all tells = subst (λ (cs : List Cap). IsTrue b ↔ All (IsNamed fs) cs) (sym all ∙ ap (λ (d : Content Cap). caps_in d) is)
       tells
 
-  -- the one of a root
+  -- the capability of a root
   pub space_named : (held : Cap) → caps_in c ≡ held ∷ [] → (IsTrue b ↔ IsNamed fs held) →
       IsTrue b ↔ All (IsNamed fs) (caps_in (frame_at fs n).content)
   space_named held all tells = grind (arith, nat_tests)
@@ -49,7 +49,7 @@ pub named_whole : (p : Parts) (hs : List ObjectHeader) (count n : ℕ) → hs �
     ((m : ℕ) → m < n → All (IsNamed (frames_of p)) (caps_in (frame_at (frames_of p) m).content)) → AreNamed (frames_of p)
 named_whole p hs count n table all past each m k d inside = grind (arith, nat_tests, frame_beyond)
 
--- one more of a list
+-- one more capability of a list
 pub named_more : (fs : List Frame) (held : List Cap) (i : ℕ) (e : Cap) → i < length held →
     ((k : ℕ) (d : Cap) → k < i → IsNamed fs (slice_index_or held k d)) → IsNamed fs (slice_index_or held i e) →
     (k : ℕ) (d : Cap) → k < i + 1 → IsNamed fs (slice_index_or held k d)

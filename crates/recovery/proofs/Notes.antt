@@ -4,7 +4,7 @@ use Rattle.recovery.proofs.Names.{note_at, noted_in}
 use Rattle.std.proofs.Common.{◌≡◌, ◌<◌}
 use Rattle.model.specs.declared.object.Content.TheVariants as content
 
--- what is no root is not noted
+-- an object that isn't a root has no note
 pub unnoted : {C : Type 0} (c : Content C) → ((x : Root C) → c ≡ content.Root x → ⊥) → noted_in c ≡ None
 unnoted {C} c other = grind (arith, nat_tests)
 
@@ -22,7 +22,7 @@ module _ (fs : List Frame) (notes : List (Option Noted)) (noted : AreNoted fs no
   unfolding annex_of_note
   none_noted p a is root = grind (arith, nat_tests)
 
--- all of them
+-- the notes of all roots
 pub noted_whole : (fs : List Frame) (notes : List (Option Noted)) (n : ℕ) → length notes ≡ n → length fs ≡ n →
     ((m : ℕ) → m < n → note_at notes m ≡ noted_in (frame_at fs m).content) → AreNoted fs notes
 noted_whole fs notes n count whole each = grind (arith, nat_tests, get_or_past)

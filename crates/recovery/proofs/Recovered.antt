@@ -9,12 +9,12 @@ use Rattle.layout.specs.declared.open_fault.OpenFault.TheVariants as fault
 use Rattle.recovery.proofs.Denoted.{leaves_saved}
 use Rattle.recovery.proofs.Renewed.{base_saved, none_renewed}
 
--- two reads of a device are one, where a crash leaves what a read gives
+-- two runs that only read, one after the other, where a crash leaves what a read returns
 only_reads_on : (old mid new : Disk) → OnlyReads old mid → Only mid.seen mid → new.sectors ≡ mid.sectors → Peeks mid new → CountsNow new →
     new.may_leave new.seen → OnlyReads old new
 only_reads_on old mid new first durable size peeks counts_now seen_left = grind (arith, nat_tests)
 
--- and it still does
+-- a crash still leaves what a read returns
 durable_on : (mid new : Disk) → Only mid.seen mid → Peeks mid new → CountsNow new → new.may_leave new.seen → Only new.seen new
 durable_on mid new durable peeks counts_now seen_left c left i =
     let crash : (x : Image) → new.may_leave x → mid.may_leave x = λ x now. ends {old = mid} {new = new} {P = mid.may_leave} peeks counts_now
@@ -36,7 +36,7 @@ module _ {D S : Type 0} (disk : D → Disk) (view : S → View D) (parts : S →
     looked : OnlyReads (disk device) (disk (view t).beneath)
     looked = search (arith, nat_tests, only_reads_on, still_untouched)
 
-    -- it was refused
+    -- opening was refused
     pub refuses : (why : OpenFault) → (disk (view s).beneath).failures ≤ (disk (view t).beneath).failures →
         ((why ≡ fault.Failed) ↔ ((disk (view s).beneath).failures < (disk (view t).beneath).failures)) →
         ((reason : BadImage) → why ≡ fault.Bad reason → IsInconsistent (frames_of (parts s)) reason) → (back : D) →
@@ -65,7 +65,7 @@ module _ {D S : Type 0} (disk : D → Disk) (view : S → View D) (parts : S →
           ),
         )
 
-    -- it was opened
+    -- the device was opened
     module _ (banks : BanksState) (age : ℕ) (age_is : age ≡ (view s).snapshots.saved.age) (now : parts t ≡ parts s)
         (failures : (disk (view t).beneath).failures ≡ (disk (view s).beneath).failures)
         (sound : IsSoundFrames (parts s).geometry age (frames_of (parts s))) (counted :

@@ -21,7 +21,7 @@ pub renewed_length : (base fs : List Frame) → length (renewed_since base fs) �
 unfolding renewed_since
 renewed_length base fs = length-map-range_with_len (has_risen base fs) 0 (length base)
 
--- as it begins no number is renewed
+-- at the beginning no number is renewed
 pub none_renewed : (g : Geometry) (fs : List Frame) → length fs ≡ g.nodes + g.pages → renewed_since fs fs ≡ untouched g
 unfolding untouched
 none_renewed g fs count =
@@ -33,7 +33,7 @@ none_renewed g fs count =
     renewed_at fs fs n known ∙ (ap (λ (b : Bool). not b) (eq-eqb (allocations_at fs n) (allocations_at fs n) refl)
     ∙ sym (get_or-replicate (g.nodes + g.pages) n false false (omega (arith, known, count)))))
 
--- what it began from
+-- the frames at the beginning
 abbrev pub base_by : List Frame → Option FrozenFrames → List Frame
 base_by saved o = elim o [ None ↦ saved | Some f ↦ f.frames ]
 

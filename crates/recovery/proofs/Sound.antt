@@ -10,11 +10,11 @@ use Rattle.model.specs.declared.object.Content.TheVariants as content
 use Rattle.recovery.proofs.Standing.{annex_role, bank_role, content_is, free_role, length_is, limit_is, names_kind, owner_is, process_of, role_annex}
 use Rattle.recovery.proofs.Standing.{role_bank, role_free, root_of}
 
--- what follows of a capability that is kept
+-- the consequences for a capability that may be kept
 follows_formed : (g : Geometry) (age count : ℕ) (c : Capability) → Follows g age count c → IsWellFormed c
 follows_formed g age count c f = grind (arith, nat_tests)
 
--- a frame that can be kept stands at each number, since what isn't there is free
+-- at each number there is a frame that may be kept, since missing ones count as free
 pub kept_at : (g : Geometry) (age : ℕ) (fs : List Frame) → AreKeepable g age fs → (n : ℕ) → IsKeepable g age n (frame_at fs n)
 kept_at g age fs k n = grind (arith, nat_tests, get_or_past)
 
@@ -41,7 +41,7 @@ module _ (g : Geometry) (age : ℕ) (fs : List Frame) (k : AreKeepable g age fs)
   words_fit : (words : List ℕ) → All (λ w. w < 2 ^ 64) words → (i : ℕ) → slice_index words i < 2 ^ 64
   words_fit words each i = grind (arith, nat_tests, get_or_past)
 
-  -- what a kept content conveys is filled
+  -- the capabilities of a content that may be kept fill it
   filled : (c : Content Cap) → MayBeKept g age c → All (IsNamed fs) (caps_in c) →
       IsFilled (objects_of fs) (Waits (objects_of fs)) (map_content (conveyed (headers fs)) c)
   filled content.Free kept named = grind (arith, nat_tests, held_void)

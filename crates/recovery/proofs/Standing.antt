@@ -50,7 +50,7 @@ record AreTested {C : Type 0} (c : Content C) : Type 0 where
 tested : {C : Type 0} (c : Content C) → AreTested c
 tested {C} c = grind (arith, nat_tests)
 
--- one number in an option
+-- two equal options have the same number
 pub some_same : (a b : ℕ) → (let x : Option ℕ = Some a in x) ≡ Some b → a ≡ b
 some_same a b same = cc
 
@@ -62,7 +62,7 @@ module _ (fs : List Frame) (p : ℕ) where
   annex_is : annex_in (content_at (objects_of fs) p) ≡ annex_in (frame_at fs p).content
   annex_is = grind (arith, nat_tests, content_is)
 
-  -- a process is a root with its annex, and the other way round
+  -- a number is a process exactly if it is a root with its annex
   pub root_of : IsTrue (is_process (objects_of fs) p) → IsRootOf fs p (annex_at (objects_of fs) p)
   root_of process = grind (arith, nat_tests, annex_is)
 
@@ -79,7 +79,7 @@ module _ (fs : List Frame) (p : ℕ) where
   waits_of : IsTrue (is_waiting (root_at (objects_of fs) p).state) → IsTrue (is_waiting_root (frame_at fs p).content)
   waits_of waits = grind (arith, nat_tests, waiting_is)
 
--- what the roles of frames say of objects, and the other way round
+-- the kinds of objects follow from the roles of frames, and conversely
 module _ (fs : List Frame) (roles : HaveTheirRoles fs) (n : ℕ) where
   role_is : role_of (content_at (objects_of fs) n) ≡ role_at fs n
   role_is = ap (λ (c : Content Capability). role_of c) (content_is fs n) ∙ (mapped (conveyed (headers fs)) (frame_at fs n).content).role
@@ -127,7 +127,7 @@ module _ (fs : List Frame) (roles : HaveTheirRoles fs) (n : ℕ) where
   pub role_bank : role_at fs n ≡ role.Bank → is_bank (content_at (objects_of fs) n) ≡ true
   role_bank = of_role role.Bank (is_bank (content_at (objects_of fs) n)) (tested (content_at (objects_of fs) n)).bank
 
--- what a capability names
+-- the object that a capability names
 module _ (fs : List Frame) (roles : HaveTheirRoles fs) where
   pub names_kind : (c : Capability) → NamesItsRole fs c → NamesItsKind (objects_of fs) c
   names_kind c names = grind (arith, nat_tests, role_page, role_node, role_root, waiting_of, role_bank)

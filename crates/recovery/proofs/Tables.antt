@@ -22,7 +22,7 @@ content_read p n c known is = is ∙ sym (ap (λ (f : Frame). f.content) (frame_
 pub table_read : (p : Parts) (hs : List ObjectHeader) → hs ≡ p.headers → hs ≡ headers (frames_of p)
 table_read p hs table = table ∙ sym (headers_in p.headers p.contents)
 
--- past the table there is no frame, and each number of another role than free is in it
+-- past the table there is no frame, so each number with another role than free is in the table
 pub frame_beyond : (p : Parts) (n : ℕ) → length p.headers ≤ n → frame_at (frames_of p) n ≡ blank_frame
 frame_beyond p n past = get_or_past (frames_of p) n blank_frame (omega (arith, length_in p.headers p.contents, past))
 

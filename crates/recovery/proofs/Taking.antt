@@ -10,18 +10,18 @@ use Rattle.recovery.proofs.Tables.{frame_beyond}
 pub root_known : (p : Parts) (r a : ℕ) → IsRootOf (frames_of p) r a → r < length p.headers
 root_known p r a root = grind (arith, nat_tests, frame_beyond)
 
--- the roots so far, and one number more
+-- the annexes taken by the roots below a number, and the next number
 module _ (fs : List Frame) (n : ℕ) (old : List Bool) (before : AreTaken fs n old) where
-  -- it is no root
+  -- the next number isn't a root
   pub taken_same : ((a : ℕ) → IsRootOf fs n a → ⊥) → AreTaken fs (n + 1) old
   taken_same other = grind (arith, nat_tests)
 
-  -- it is one, and takes its annex
+  -- the next number is a root, and takes its annex
   module _ (new : List Bool) (a : ℕ) (root : IsRootOf fs n a) (takes : IsTaking fs n a old new) (room : a < length old) where
     pub taken_more : AreTaken fs (n + 1) new
     taken_more = grind (arith, nat_tests, some_same, get_or-set_same, get_or-set_other)
 
--- all of them
+-- the annexes taken by all roots
 module _ (p : Parts) (taken : List Bool) (all : AreTaken (frames_of p) (length p.headers) taken) where
   pub whole_taken : ((a : ℕ) → role_at (frames_of p) a ≡ role.Annex → is_taken taken a ≡ true) → AreWholeProcesses (frames_of p)
   whole_taken each = grind (arith, nat_tests, root_known)

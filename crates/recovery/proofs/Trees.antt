@@ -12,7 +12,7 @@ use Rattle.recovery.proofs.Sound.{kept_at}
 use Rattle.recovery.proofs.Standing.{bank_role, free_role, limit_is, owner_is, role_bank, role_free}
 use Rattle.recovery.proofs.Tables.{bank_known, role_known}
 
--- a number in a list, and the test for it
+-- a list contains a number exactly if the test finds it
 any_of : (xs : List ℕ) → Contains xs 0 → list_any (nat_eq 0) xs ≡ true
 any_of xs h = go xs h.0 h.1 h.2
   where
@@ -84,7 +84,7 @@ module _ (g : Geometry) (age : ℕ) (p : Parts) (k : AreKeepable g age (frames_o
         let bank = role_bank (frames_of p) (keepable_roles g age (frames_of p) k) b is.0 in
         (is.0, is.1 ∙ used b bank, is.2 ∙ limit_there b (bank_counted b bank), is.3, owned, λ m less role. within m role (is.4 m less role))
 
-    -- what was found by usages and limits
+    -- the first bank whose usage is above its limit, or none
     pub limited : AreOwned (frames_of p) → (found : Option Unbanked)
         → MatchOption found ((b : ℕ) → role_at (frames_of p) b ≡ role.Bank → slice_index usages b ≤ slice_index limits b)
         (λ why. IsAboveLimit (frames_of p) usages limits why)

@@ -1,4 +1,4 @@
-// Why a command fails, for a person: the file, and the cause.
+// Explaining to a person why a command failed: the file, and the cause.
 use crate::query::Query;
 use crate::{Streams, answer};
 use checkpoint::OpenFault;
@@ -13,27 +13,27 @@ use std::fs::{self, OpenOptions};
 use std::io::{self, ErrorKind, Sink};
 use std::os::unix::fs::FileTypeExt;
 
-/// What is said of a file that is neither regular nor, for an image, a block device.
+/// The message about a file that is neither a regular file nor, for an image, a block device.
 pub(crate) const NO_FILE: &str = "not a regular file";
 
-/// The cause of a fault, where the program met it.
+/// The cause of a fault, if the program recorded it.
 #[derive(Drop)]
 pub(crate) enum Cause {
-    /// It isn't kept.
+    /// The cause isn't recorded.
     Unknown,
-    /// What the system answered.
+    /// The error of the system.
     System(io::Error),
-    /// The file is no device.
+    /// The file can't be used as a device.
     File(FileFault),
-    /// The new file was made, and the system refused a later call.
+    /// The new file was made, but the system refused a later call.
     Unfinished,
-    /// It is neither a regular file nor a block device.
+    /// The file is neither a regular file nor a block device.
     NoImageFile,
-    /// The image is made of this very file.
+    /// The file of the new image is the one from which the image is made.
     Source,
 }
 
-/// A fault that isn't written yet, and its cause.
+/// A fault whose message isn't written yet, and its cause.
 #[derive(Drop)]
 pub(crate) struct Refusal {
     pub(crate) fault: Fault,
@@ -52,7 +52,7 @@ impl Refusal {
         Refusal { fault, cause }
     }
 
-    /// The fault where the system refused something: that memory ran out, or something else.
+    /// Returns the refusal for an error of the system: `NoMemory` if memory ran out, else the fault `otherwise`.
     pub(crate) fn of_io(error: io::Error, otherwise: Fault) -> Refusal {
         if error.kind() == ErrorKind::OutOfMemory {
             Refusal::from(Fault::NoMemory)
@@ -61,7 +61,8 @@ impl Refusal {
         }
     }
 
-    /// The fault where a file is no device: that memory ran out, or something else.
+    /// Returns the refusal for a file that can't be used as a device: `NoMemory` if memory ran out, else the fault
+    /// `otherwise`.
     pub(crate) fn of_file(fault: FileFault, otherwise: Fault) -> Refusal {
         match fault {
             FileFault::NoMemory => Refusal::from(Fault::NoMemory),
@@ -70,7 +71,7 @@ impl Refusal {
     }
 }
 
-// The description of a job.
+// Returns the file of a job's description, if it has one.
 fn description_of<'j>(job: &Job<'j>) -> Option<&'j str> {
     match job {
         Job::Build { description, .. } => Some(*description),
@@ -78,7 +79,7 @@ fn description_of<'j>(job: &Job<'j>) -> Option<&'j str> {
     }
 }
 
-// The file of the image that a job makes.
+// Returns the file of the image that a job makes, if it makes one.
 fn made_by<'j>(job: &Job<'j>) -> Option<&'j str> {
     match job {
         Job::Build { image, .. } => Some(*image),
@@ -87,7 +88,7 @@ fn made_by<'j>(job: &Job<'j>) -> Option<&'j str> {
     }
 }
 
-// The file of the image that a job opens.
+// Returns the file of the image that a job opens, if it opens one.
 fn opened_by<'j>(job: &Job<'j>) -> Option<&'j str> {
     match job {
         Job::Run(run) => Some(run.image),
@@ -103,7 +104,7 @@ fn opened_by<'j>(job: &Job<'j>) -> Option<&'j str> {
     }
 }
 
-// The script of a job, if it is a file.
+// Returns the file of a job's script, if it has one.
 fn script_of<'j>(job: &Job<'j>) -> Option<&'j str> {
     match job {
         Job::Run(run) => match run.script {
@@ -114,12 +115,12 @@ fn script_of<'j>(job: &Job<'j>) -> Option<&'j str> {
     }
 }
 
-/// Writes a line about a file: its name, and what is wrong with it.
+/// Writes a line about a file: the name of the file, and what is wrong with it.
 pub(crate) fn tell_line<C: Display + Drop>(rt: &HostRuntime, file: &str, cause: C) {
     let _reported = eprintln!(rt; "eros: {file}: {cause}");
 }
 
-/// A line in memory, and errors that nobody reads.
+/// Returns streams in which the output is kept in memory, and errors are dropped.
 pub(crate) fn line_in(rt: &HostRuntime) -> Streams<CountedWriter<Vec<u8>>, CountedWriter<Sink>> {
     Streams {
         output: CountedWriter::new(Vec::new(rt.alloc())),
@@ -127,7 +128,7 @@ pub(crate) fn line_in(rt: &HostRuntime) -> Streams<CountedWriter<Vec<u8>>, Count
     }
 }
 
-// Writes a line that `explain` gave.
+// Writes a line that `explain` returned.
 fn tell_explained(rt: &HostRuntime, file: &str, line: &[u8]) {
     if let Ok(line) = str::from_utf8(line)
         && !line.is_empty()
@@ -166,7 +167,7 @@ fn tell_image(rt: &HostRuntime, file: &str) {
     }
 }
 
-// Whether a file is one in which an image can be.
+// Whether a file is of a type that may hold an image.
 fn may_have_image(rt: &HostRuntime, file: &str) -> bool {
     match fs::metadata(rt, file) {
         Ok(found) => {
@@ -177,7 +178,7 @@ fn may_have_image(rt: &HostRuntime, file: &str) -> bool {
     }
 }
 
-// Writes why a file is no device. The system's own words come from a second try to open it.
+// Writes why a file can't be used as a device. To get the system's own words it tries to open the file again.
 fn tell_file(rt: &HostRuntime, file: &str, how: &OpenOptions, fault: FileFault) {
     match fault {
         FileFault::Io => match how.open(rt, file) {
@@ -189,7 +190,7 @@ fn tell_file(rt: &HostRuntime, file: &str, how: &OpenOptions, fault: FileFault) 
     }
 }
 
-// Writes why a script can't be read: a folder, for instance. A pipe isn't opened again.
+// Writes why a script can't be read: it may be a folder, for instance. A pipe isn't opened again.
 fn tell_script(rt: &HostRuntime, file: &str) {
     let is_pipe = match fs::metadata(rt, file) {
         Ok(found) => !found.is_file() && !found.is_dir(),
@@ -203,7 +204,7 @@ fn tell_script(rt: &HostRuntime, file: &str) {
     }
 }
 
-// Writes why a file isn't opened, which the program opens in this way.
+// Writes why a file could not be opened with these options.
 fn tell_refused(rt: &HostRuntime, file: &str, how: &OpenOptions, cause: Cause) {
     match cause {
         Cause::Unknown => {}
@@ -215,14 +216,14 @@ fn tell_refused(rt: &HostRuntime, file: &str, how: &OpenOptions, cause: Cause) {
     }
 }
 
-// How an image is opened, also if it is written to or made.
+// Returns the options for opening an image, to write it or to make it if so.
 fn options(is_written: bool, is_made: bool) -> OpenOptions {
     let mut how = OpenOptions::new();
     how.read(true).write(is_written).create(is_made);
     how
 }
 
-// Writes why a job doesn't open its image.
+// Writes why the image of a job could not be opened.
 fn tell_unopened(rt: &HostRuntime, job: &Job<'_>, cause: Cause) {
     let is_written = match job {
         Job::Run(_) | Job::Shell { .. } => true,
@@ -233,7 +234,7 @@ fn tell_unopened(rt: &HostRuntime, job: &Job<'_>, cause: Cause) {
     }
 }
 
-// Writes why a description is bad or isn't read.
+// Writes why the description of a job is bad or could not be read.
 fn tell_undescribed(rt: &HostRuntime, job: &Job<'_>, cause: Cause) {
     let Some(file) = description_of(job) else {
         return;
@@ -244,8 +245,8 @@ fn tell_undescribed(rt: &HostRuntime, job: &Job<'_>, cause: Cause) {
     }
 }
 
-/// Writes a line with the file and the cause of a fault of a job, after the line of the fault. No line follows a fault
-/// that is about no file, or whose cause isn't known.
+/// Writes a line with the file and the cause of a fault of a job, after the line of the fault itself. Writes none for
+/// a fault that is about no file, or whose cause isn't known.
 pub(crate) fn tell_cause(rt: &HostRuntime, job: &Job<'_>, fault: Fault, cause: Cause) {
     match fault {
         Fault::CannotReadDescription

@@ -6,7 +6,7 @@ use jobs::Fault;
 use json_lines::{Format, string_object};
 use script::{CountedWriter, Output};
 
-/// The format of answers.
+/// Returns the format of answers.
 pub(crate) fn format_of(json: bool) -> Format {
     if json { Format::Json } else { Format::Text }
 }
@@ -20,8 +20,8 @@ pub(crate) fn is_json(job: &Job<'_>) -> bool {
     }
 }
 
-/// Writes the fault of a job that answers in JSON to standard output, as an object on a line after what was written
-/// before. It writes nothing if the fault is that standard output takes no more.
+/// If a job answers in JSON, writes its fault to standard output, as an object on a line, after the answers that were
+/// written before. Writes nothing if the fault is that standard output can't be written.
 pub(crate) fn tell_json(rt: &HostRuntime, job: &Job<'_>, fault: Fault) {
     if !is_json(job) || matches!(fault, Fault::CannotWriteOutput) {
         return;
@@ -31,7 +31,7 @@ pub(crate) fn tell_json(rt: &HostRuntime, job: &Job<'_>, fault: Fault) {
     let _passed = output.pass_on();
 }
 
-// Writes an explanation as an object, on a line.
+// Writes an explanation as a JSON object, on a line.
 fn tell_explanation(rt: &HostRuntime, line: &[u8], stdio: &mut Stdio) -> Result<(), Fault> {
     let Ok(object) = string_object(rt.alloc(), b"explanation", line) else {
         return Err(Fault::NoMemory);
@@ -42,7 +42,7 @@ fn tell_explanation(rt: &HostRuntime, line: &[u8], stdio: &mut Stdio) -> Result<
     Ok(())
 }
 
-/// Says why a file is refused, as an object on a line, and returns its end.
+/// Writes why a file is refused, as a JSON object on a line, and returns the end of the command.
 pub(crate) fn explain_in_json(
     rt: &HostRuntime,
     file: &str,

@@ -33,7 +33,7 @@ use std::io::{self, BufWriter, ErrorKind, IsTerminal, Read, Stderr, Stdout};
 use std::os::unix::fs::FileTypeExt;
 use std::process::ExitCode;
 
-/// What a command writes to: its output, and its errors.
+/// The streams that a command writes to: its output, and its errors.
 #[derive(Drop)]
 pub(crate) struct Streams<W, V> {
     output: W,
@@ -43,23 +43,23 @@ pub(crate) struct Streams<W, V> {
 // Standard error.
 type StandardError = NamedOutput<CountedWriter<Stderr>>;
 
-/// Standard output, behind a buffer, and standard error.
+/// Standard output, which is buffered, and standard error.
 pub(crate) type Stdio = Streams<
     NamedOutput<BufferedOutput<BufWriter<Stdout, Global>>>,
     StandardError,
 >;
 
-/// How a command ended. What is wrong was written.
+/// How a command ended. The messages of its faults were written already.
 #[derive(Clone, Copy)]
 pub(crate) struct End {
-    /// The status.
+    /// The exit status.
     pub(crate) status: u8,
     /// The fault, if there was one.
     pub(crate) fault: Option<Fault>,
 }
 
 impl End {
-    /// The end of a command with no fault.
+    /// Returns the end of a command with no fault.
     pub(crate) fn of_status(status: u8) -> End {
         End {
             status,
@@ -67,7 +67,7 @@ impl End {
         }
     }
 
-    /// The end of a command with this outcome.
+    /// Returns the end of a command with this outcome.
     pub(crate) fn of_outcome(outcome: Result<(), Fault>) -> End {
         match outcome {
             Ok(()) => End::of_status(0),
@@ -78,7 +78,7 @@ impl End {
         }
     }
 
-    /// The end of a command that returned its device.
+    /// Returns the end of a command that returned its device.
     pub(crate) fn of_done<D: Device>(done: Done<D>) -> End {
         End {
             status: done.status,
@@ -87,12 +87,12 @@ impl End {
     }
 }
 
-// Standard error.
+// Returns standard error, without names.
 fn errors_of(rt: &HostRuntime) -> StandardError {
     NamedOutput::new(CountedWriter::new(rt.stderr()), None)
 }
 
-// Standard output, whose lines get names if there are some, and standard error.
+// Returns standard output, with names in its lines if there are some, and standard error.
 fn stdio_of(rt: &HostRuntime, lines: Option<NamedLines>) -> Result<Stdio, Fault> {
     match BufWriter::new(rt.alloc(), rt.stdout()) {
         Ok(buffer) => Ok(Stdio {
@@ -103,7 +103,7 @@ fn stdio_of(rt: &HostRuntime, lines: Option<NamedLines>) -> Result<Stdio, Fault>
     }
 }
 
-// The device of an image that is there.
+// Opens a device in the file of an existing image.
 fn open(rt: &HostRuntime, image: &str) -> Result<FileDevice, Refusal> {
     match FileDevice::open(rt, image) {
         Ok(device) => Ok(device),
@@ -111,9 +111,9 @@ fn open(rt: &HostRuntime, image: &str) -> Result<FileDevice, Refusal> {
     }
 }
 
-// Refuses a file that is neither a regular file nor a block device, such as a FIFO: opening one to read
-// waits until somebody writes to it. If the file is replaced before it is opened, the command may still
-// wait, but what it then opens is checked like any other image.
+// Refuses a file that is neither a regular file nor a block device, such as a FIFO: opening one to read waits until
+// somebody writes to it. If the file is replaced before it is opened, the command may still wait, but the file that
+// it then opens is checked like any other image.
 fn refuse_pipe(rt: &HostRuntime, image: &str) -> Result<(), Refusal> {
     let kind = match fs::metadata(rt, image) {
         Ok(found) => found.file_type(),
@@ -126,7 +126,7 @@ fn refuse_pipe(rt: &HostRuntime, image: &str) -> Result<(), Refusal> {
     }
 }
 
-// The same, which nothing is written to.
+// Opens a device in the file of an existing image, only to read it.
 fn open_to_read(rt: &HostRuntime, image: &str) -> Result<FileDevice, Refusal> {
     refuse_pipe(rt, image)?;
     match FileDevice::open_to_read(rt, image) {
@@ -135,18 +135,19 @@ fn open_to_read(rt: &HostRuntime, image: &str) -> Result<FileDevice, Refusal> {
     }
 }
 
-// How a script is run, if at all.
+// How the lines of a script are run over an image.
 #[derive(Clone, Copy)]
 enum Mode {
     Plain,
-    // It is traced, or strict, or all is saved in the end.
+    // With a trace, as a strict run, or with saving at the end.
     Watched { options: TraceOptions, saves: bool },
     Shell,
-    // The image is only checked.
+    // The image is only checked, and no script is run.
     Check(Format),
 }
 
-// Runs a script over the image on a device, by a store of this kind, with a tracer, and returns its end.
+// Runs a script over the image on a device, with a store of type `S` and a tracer, and returns the end of the
+// command.
 fn trace_by<D: Device, S: ObjectStore<D>, R: Read, W: Output, V: Output + Drop>(
     alloc: Global,
     device: D,
@@ -168,8 +169,8 @@ fn trace_by<D: Device, S: ObjectStore<D>, R: Read, W: Output, V: Output + Drop>(
     End::of_done(done)
 }
 
-// Serves the lines that a shell is given over the image on a device, and returns its end. It prompts in `notes`
-// if standard input and standard error are a terminal.
+// Runs a shell over the image on a device, and returns the end of the command. If standard input and standard error
+// are a terminal, it writes prompts to `notes`.
 fn shell_by<D: Device, S: ObjectStore<D>, R: Read + Drop, W: Output, V: Output + Drop>(
     rt: &HostRuntime,
     device: D,
@@ -194,7 +195,7 @@ fn shell_by<D: Device, S: ObjectStore<D>, R: Read + Drop, W: Output, V: Output +
     End::of_done(done)
 }
 
-// Runs a script in a mode over the image on a device, by a store of this kind, and returns its end.
+// Runs a script in a mode over the image on a device, with a store of type `S`, and returns the end of the command.
 fn run_in_mode<D: Device, S: ObjectStore<D>, R: Read + Drop, W: Output, V: Output + Drop>(
     rt: &HostRuntime,
     device: D,
@@ -240,7 +241,8 @@ fn run_in_mode<D: Device, S: ObjectStore<D>, R: Read + Drop, W: Output, V: Outpu
     }
 }
 
-// As `run_in_mode`, by the store of a policy. Only here is a store of objects named for `ObjectStore`: that is dear.
+// Does what `run_in_mode` does, with the store of a policy. Only this function names a store type for `ObjectStore`,
+// since each use of one takes long to compile.
 fn run_by_policy<D: Device, P: Policy, R: Read + Drop, W: Output, V: Output + Drop>(
     rt: &HostRuntime,
     device: D,
@@ -253,7 +255,7 @@ fn run_by_policy<D: Device, P: Policy, R: Read + Drop, W: Output, V: Output + Dr
     run_in_mode::<_, Store<_, P>, _, _, _>(rt, device, setting, script, mode, notes, streams)
 }
 
-// As `run_in_mode`, with a bounded cache if `cache` has a capacity.
+// Does what `run_in_mode` does, with a bounded cache if `cache` is a capacity.
 fn run_with_cache<D: Device, R: Read + Drop, W: Output, V: Output + Drop>(
     rt: &HostRuntime,
     device: D,
@@ -271,7 +273,7 @@ fn run_with_cache<D: Device, R: Read + Drop, W: Output, V: Output + Drop>(
     }
 }
 
-// Opens a script, runs it over the image on a device, and returns its end.
+// Opens a script, runs it over the image on a device, and returns the end of the command.
 fn open_script_and_run<D: Device>(
     rt: &HostRuntime,
     device: D,
@@ -290,7 +292,8 @@ fn open_script_and_run<D: Device>(
     }
 }
 
-// Opens an image, runs a script over it, and returns its end. After `stop_after` calls the image's device fails.
+// Opens an image, runs a script over it, and returns the end of the command. After `stop_after` calls the image's
+// device fails.
 fn open_image_and_run(
     rt: &HostRuntime,
     image: &str,
@@ -309,7 +312,7 @@ fn open_image_and_run(
     open_script_and_run(rt, device, script, cache, mode, notes, stdio)
 }
 
-// Checks whether an image can be opened, and returns its end. A check fetches one object at a time.
+// Checks whether an image can be opened, and returns the end of the command. It keeps at most 8 objects in memory.
 fn check(rt: &HostRuntime, image: &str, format: Format, stdio: &mut Stdio) -> Result<End, Refusal> {
     let device = open_to_read(rt, image)?;
     let Some(least) = Capacity::new(8) else {
@@ -327,8 +330,8 @@ fn check(rt: &HostRuntime, image: &str, format: Format, stdio: &mut Stdio) -> Re
     ))
 }
 
-/// Answers a query about the image on a device, and returns the end of the command. Only here a store is named for
-/// `WholeStore`.
+/// Answers a query about the image on a device, and returns the end of the command. Only this function names a store
+/// type for `WholeStore`.
 pub(crate) fn answer<D: Device, W: Output, V: Output>(
     rt: &HostRuntime,
     device: D,
@@ -338,7 +341,7 @@ pub(crate) fn answer<D: Device, W: Output, V: Output>(
     query.answer::<_, PlainStore<_>, _, _>(rt, device, (), streams)
 }
 
-// Answers a query about an image, and returns its end.
+// Answers a query about an image, and returns the end of the command.
 fn inspect(
     rt: &HostRuntime,
     image: &str,
@@ -349,7 +352,7 @@ fn inspect(
     answer(rt, device, query, stdio)
 }
 
-// How a script is run by these options.
+// Returns how to run a script with these options.
 fn mode_of(trace: bool, strict: bool, saves: bool) -> Mode {
     if trace || strict || saves {
         Mode::Watched {
@@ -367,7 +370,7 @@ fn refuse_file<C: Display + Drop>(rt: &HostRuntime, file: &str, cause: C) -> End
     End::of_status(1)
 }
 
-// The same where the system refused a file. If memory ran out, it is a fault.
+// Does this for an error of the system. If memory ran out, returns a fault instead.
 fn refuse_for(rt: &HostRuntime, file: &str, error: &io::Error) -> Result<End, Refusal> {
     if error.kind() == ErrorKind::OutOfMemory {
         Err(Refusal::from(Fault::NoMemory))
@@ -376,7 +379,7 @@ fn refuse_for(rt: &HostRuntime, file: &str, error: &io::Error) -> Result<End, Re
     }
 }
 
-// Says why the image in a file is refused, and returns its end.
+// Writes why the image in a file is refused, and returns the end of the command.
 fn explain_file<W: Output, V: Output>(
     rt: &HostRuntime,
     image: &str,
@@ -389,8 +392,8 @@ fn explain_file<W: Output, V: Output>(
     }
 }
 
-// Says why the bytes of a file are refused as a description or an image, and returns its end. They are an image if
-// they are no text, or one of them is zero.
+// Writes why the bytes of a file are refused as a description or an image, and returns the end of the command. The
+// bytes are taken for an image if they aren't UTF-8 or one of them is zero.
 fn explain_bytes<W: Output, V: Output>(
     rt: &HostRuntime,
     file: &str,
@@ -407,7 +410,7 @@ fn explain_bytes<W: Output, V: Output>(
     }
 }
 
-// Says why a regular file is refused as a description or an image, and returns its end.
+// Writes why a regular file is refused as a description or an image, and returns the end of the command.
 fn explain_regular<W: Output, V: Output>(
     rt: &HostRuntime,
     file: &str,
@@ -419,8 +422,9 @@ fn explain_regular<W: Output, V: Output>(
     }
 }
 
-/// Says why a file is refused as a description or an image, and returns its end. A block device may have an image. Any
-/// other file that isn't regular, such as a FIFO, isn't opened: reading one waits until somebody writes to it.
+/// Writes why a file is refused as a description or an image, and returns the end of the command. A block device may
+/// hold an image. Any other file that isn't regular, such as a FIFO, isn't opened: reading one waits until somebody
+/// writes to it.
 pub(crate) fn explain<W: Output, V: Output>(
     rt: &HostRuntime,
     file: &str,
@@ -439,7 +443,7 @@ pub(crate) fn explain<W: Output, V: Output>(
     }
 }
 
-// Runs a script over an image, and returns its end. Its trace is written to `notes`.
+// Runs a script over an image, and returns the end of the command. The trace is written to `notes`.
 fn run_script(
     rt: &HostRuntime,
     run: &Run<'_>,
@@ -459,7 +463,7 @@ fn run_script(
     )
 }
 
-// Does a job, and returns its end. Traces are written to `notes`.
+// Does a job, and returns the end of the command. Traces are written to `notes`.
 fn serve(
     rt: &HostRuntime,
     job: &Job<'_>,
@@ -495,7 +499,7 @@ fn serve(
     inspect(rt, image, query, stdio)
 }
 
-// Does a job, passes on what it wrote, and returns its end.
+// Does a job, passes on its output, and returns the end of the command.
 fn serve_whole(rt: &HostRuntime, job: &Job<'_>, naming: Naming) -> Result<End, Refusal> {
     let Naming { output, trace } = naming;
     let mut stdio = stdio_of(rt, output)?;
@@ -510,7 +514,7 @@ fn serve_whole(rt: &HostRuntime, job: &Job<'_>, naming: Naming) -> Result<End, R
     }
 }
 
-// Does a job with the names of a file, if one is given, and returns its end.
+// Does a job with the names in a file, if one is given, and returns the end of the command.
 fn serve_named(rt: &HostRuntime, job: &Job<'_>, names: Option<&str>) -> Result<End, Refusal> {
     match naming_of(rt, job, is_json(job), names) {
         Ok(naming) => serve_whole(rt, job, naming),
@@ -519,8 +523,8 @@ fn serve_named(rt: &HostRuntime, job: &Job<'_>, names: Option<&str>) -> Result<E
     }
 }
 
-// Does a job, writes why it fails, and gives the status. The cause follows if it `is_verbose`, or standard error is a
-// terminal.
+// Does a job, writes why it fails if it does, and returns the exit status. The cause of a failure is written too if
+// `is_verbose`, or if standard error is a terminal.
 fn serve_line(rt: &HostRuntime, job: &Job<'_>, is_verbose: bool, names: Option<&str>) -> u8 {
     let (end, cause) = match serve_named(rt, job, names) {
         Ok(end) => (end, Cause::Unknown),
@@ -540,7 +544,7 @@ fn serve_line(rt: &HostRuntime, job: &Job<'_>, is_verbose: bool, names: Option<&
     end.status
 }
 
-// The words of the command line.
+// Returns the words of the command line.
 fn words(rt: &HostRuntime) -> Result<Vec<String>, JobFault> {
     match std::env::args(rt) {
         Ok(words) => Ok(words.collect(rt.alloc())?),
@@ -549,7 +553,7 @@ fn words(rt: &HostRuntime) -> Result<Vec<String>, JobFault> {
     }
 }
 
-// Writes why words name no job, and gives the status.
+// Writes why the words name no job, and returns the exit status.
 fn refuse(rt: &HostRuntime, fault: &JobFault) -> Result<u8, Fault> {
     match fault {
         JobFault::NoMemory => Err(Fault::NoMemory),
@@ -560,7 +564,7 @@ fn refuse(rt: &HostRuntime, fault: &JobFault) -> Result<u8, Fault> {
     }
 }
 
-// Does what words request, and gives the status.
+// Does the job that the words name, and returns the exit status.
 fn work_by(rt: &HostRuntime, words: &[String]) -> Result<u8, Fault> {
     match command_line(rt.alloc(), words) {
         Ok(
@@ -574,7 +578,7 @@ fn work_by(rt: &HostRuntime, words: &[String]) -> Result<u8, Fault> {
     }
 }
 
-// Does what the command line requests, and gives the status.
+// Does the job that the command line names, and returns the exit status.
 fn work(rt: &HostRuntime) -> Result<u8, Fault> {
     match words(rt) {
         Ok(words) => work_by(rt, words.as_slice()),
@@ -582,8 +586,8 @@ fn work(rt: &HostRuntime) -> Result<u8, Fault> {
     }
 }
 
-// Three files that can't be written. Where standard output or standard error was closed, one of
-// them stands there, and so no image that is opened later.
+// Opens three files that can't be written. If standard output or standard error was closed, one of them takes its
+// descriptor. So no image that is opened later gets that descriptor.
 fn guards(rt: &HostRuntime) -> [Option<File>; 3] {
     [
         File::open(rt, "/dev/null").ok(),

@@ -13,7 +13,7 @@ use std::fs::{self, File};
 use std::os::unix::fs::MetadataExt;
 use toml::Table;
 
-// The table of a text.
+// Returns the TOML table in a text.
 fn table_of(alloc: Global, text: &[u8]) -> Result<Table, Fault> {
     let Ok(text) = str::from_utf8(text) else {
         return Err(Fault::NotToml);
@@ -25,7 +25,7 @@ fn table_of(alloc: Global, text: &[u8]) -> Result<Table, Fault> {
     }
 }
 
-// The description of an image, from the text of a file.
+// Returns the blueprint of an image, from the text of its description.
 fn blueprint_of(alloc: Global, text: &[u8]) -> Result<Blueprint, Fault> {
     match table_of(alloc, text) {
         Ok(table) => match Blueprint::read(alloc, &table) {
@@ -36,7 +36,7 @@ fn blueprint_of(alloc: Global, text: &[u8]) -> Result<Blueprint, Fault> {
     }
 }
 
-// The description of an image, from a file.
+// Returns the blueprint of an image, from the file of its description.
 fn read_blueprint(rt: &HostRuntime, description: &str) -> Result<Blueprint, Refusal> {
     match fs::read(rt, description) {
         Ok(text) => match blueprint_of(rt.alloc(), &text) {
@@ -47,7 +47,7 @@ fn read_blueprint(rt: &HostRuntime, description: &str) -> Result<Blueprint, Refu
     }
 }
 
-// Whether two paths lead to one file.
+// Whether two paths name the same file.
 fn is_one_file(rt: &HostRuntime, one: &str, other: &str) -> bool {
     match (fs::metadata(rt, one), fs::metadata(rt, other)) {
         (Ok(one), Ok(other)) => one.dev() == other.dev() && one.ino() == other.ino(),
@@ -55,8 +55,8 @@ fn is_one_file(rt: &HostRuntime, one: &str, other: &str) -> bool {
     }
 }
 
-/// A device in a new file, with `sectors` sectors, all zeros. A file that is there is
-/// replaced, unless what the image is made of is read from it.
+/// Makes a device of `sectors` zero sectors in a file. An existing file is replaced, unless it is `source`, from
+/// which the new image is made.
 pub(crate) fn create(
     rt: &HostRuntime,
     sectors: u64,
@@ -74,8 +74,8 @@ pub(crate) fn create(
     }
 }
 
-// Removes a file, if it still stands at the path. If another program puts its own file there between the two
-// calls, that is removed.
+// Removes a file that is open, if its path still names it. If another program puts its own file there between the two
+// calls, that one is removed.
 fn remove(rt: &HostRuntime, file: &File, path: &str) {
     let is_there = match (file.metadata(), fs::symlink_metadata(rt, path)) {
         (Ok(own), Ok(there)) => own.dev() == there.dev() && own.ino() == there.ino(),
@@ -86,7 +86,7 @@ fn remove(rt: &HostRuntime, file: &File, path: &str) {
     }
 }
 
-// A device in a file that isn't there, with `sectors` sectors, all zeros. After a fault the file isn't there.
+// Makes a device of `sectors` zero sectors in a new file. After a fault no file is left.
 fn create_new(rt: &HostRuntime, sectors: u64, path: &str) -> Result<FileDevice, Refusal>
     ensures { IfOk result (λ device. (file_disk device).sectors ≡ sectors) }
 {
@@ -108,8 +108,8 @@ fn create_new(rt: &HostRuntime, sectors: u64, path: &str) -> Result<FileDevice, 
     }
 }
 
-// Builds an image in a file that isn't there, and returns the end of the command. After a fault the file isn't there,
-// not even if only the output was lost.
+// Builds an image in a new file, and returns the end of the command. After a fault no file is left, even if only the
+// output could not be written.
 fn build_new(
     rt: &HostRuntime,
     blueprint: &Blueprint,
@@ -129,7 +129,7 @@ fn build_new(
     Ok(End { status, ..end })
 }
 
-// Builds an image over any file, and returns the end of the command.
+// Builds an image in a file that may exist, and returns the end of the command.
 fn build_over(
     rt: &HostRuntime,
     blueprint: &Blueprint,
@@ -143,8 +143,8 @@ fn build_over(
     Ok(End::of_outcome(outcome))
 }
 
-/// Builds an image from its description, and returns the end of the command. If it `is_new`, all of the description is
-/// checked before the file is made, and a file that is there is refused.
+/// Builds an image from its description, and returns the end of the command. If `is_new`, the whole description is
+/// checked before the file is made, and an existing file is refused.
 pub(crate) fn build(
     rt: &HostRuntime,
     description: &str,

@@ -1,41 +1,41 @@
-// The names that a person gives to the objects of an image.
+// Reading the names that a person gives to the objects of an image.
 use crate::cause::tell_line;
 use command_line::Job;
 use names::{DRAWN, NamedLines, Names, NamesFault, TOLD};
 use std::fs;
 use toml::Table;
 
-/// Why a file has no names.
+/// Why no names could be read from a file.
 #[derive(Clone, Copy)]
 pub(crate) enum NoNames {
     NoMemory,
-    /// What is wrong was written.
+    /// Another reason, which was written.
     Told,
 }
 
-/// What names the lines of a command's output, and of its trace.
+/// What adds names to the lines of a command's output, and to those of its trace.
 #[derive(Drop)]
 pub(crate) struct Naming {
     pub(crate) output: Option<NamedLines>,
     pub(crate) trace: Option<NamedLines>,
 }
 
-// What a key isn't.
+// The message for a key that isn't a name.
 const NOT_NAME: &str = "a name has letters, digits, _ and -, and begins with a letter";
 
-// Writes what is wrong with a file of names.
+// Writes why a file of names is bad.
 fn tell(rt: &HostRuntime, file: &str, why: &str) -> NoNames {
     tell_line(rt, file, why);
     NoNames::Told
 }
 
-// Writes what is wrong with a key there.
+// Writes why a key in a file of names is bad.
 fn tell_key(rt: &HostRuntime, file: &str, key: &str, why: &str) -> NoNames {
     let _reported = eprintln!(rt; "eros: {file}: {key}: {why}");
     NoNames::Told
 }
 
-// The table in a file.
+// Reads the table in a file.
 fn table_in(rt: &HostRuntime, file: &str) -> Result<Table, NoNames> {
     let bytes = match fs::read(rt, file) {
         Ok(bytes) => bytes,
@@ -54,7 +54,7 @@ fn table_in(rt: &HostRuntime, file: &str) -> Result<Table, NoNames> {
     }
 }
 
-// The names of the table in a file.
+// Reads the names from the table in a file.
 fn names_of(rt: &HostRuntime, file: &str, table: &Table) -> Result<Names, NoNames> {
     match Names::read(rt.alloc(), table) {
         Ok(names) => Ok(names),
@@ -65,7 +65,7 @@ fn names_of(rt: &HostRuntime, file: &str, table: &Table) -> Result<Names, NoName
     }
 }
 
-// The words before the number of an object in what a job prints.
+// Returns the words that come before the number of an object in the output of a job.
 fn kinds_of(job: &Job<'_>) -> &'static [&'static [u8]] {
     match job {
         Job::Draw { .. } => DRAWN,
@@ -73,7 +73,7 @@ fn kinds_of(job: &Job<'_>) -> &'static [&'static [u8]] {
     }
 }
 
-// What names lines by a table.
+// Returns what adds the names of a table to lines.
 fn lines_by(
     rt: &HostRuntime,
     job: &Job<'_>,
@@ -86,7 +86,8 @@ fn lines_by(
     }
 }
 
-/// What puts the names of a file into a job's lines: nothing without a file, or for JSON, which has no names.
+/// Returns what adds the names of a file to a job's lines. There is none without a file, or for JSON, which has no
+/// names.
 pub(crate) fn naming_of(
     rt: &HostRuntime,
     job: &Job<'_>,

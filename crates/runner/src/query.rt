@@ -1,4 +1,4 @@
-// The commands that only read an image, as queries about it.
+// The queries that only read an image.
 use crate::cause::Refusal;
 use crate::json::format_of;
 use crate::making::create;
@@ -16,25 +16,25 @@ use queries::{
 use reach::Purpose;
 use script::Output;
 
-/// What a command asks about an image that it only reads.
+/// A query about an image, which is only read.
 #[derive(Clone, Copy)]
 pub(crate) enum Query<'w> {
-    /// The description of what it saves, for an image of these sizes.
+    /// Prints a description of the saved state, for an image of these sizes.
     Describe(Sizes),
-    /// The graph of what it saves.
+    /// Prints a graph of the saved state, or of a part.
     Draw(Focus),
-    /// Why a run refuses it.
+    /// Prints why a run refuses the image.
     Explain,
-    /// Its sizes, and what it holds.
+    /// Prints the sizes of the image and counts of its objects.
     Info(Format),
-    /// A question about what the processes named can ever change, or all processes if none is named.
+    /// Answers a question about what these processes can ever change, or all processes if none is given.
     Reach {
         processes: &'w [u64],
         trusted: &'w [u64],
         question: ReachQuestion,
         format: Format,
     },
-    /// What it saves, in a new image.
+    /// Writes the saved state to a new image.
     Upgrade {
         old: &'w str,
         new: &'w str,
@@ -42,7 +42,7 @@ pub(crate) enum Query<'w> {
     },
 }
 
-/// The sizes that the words name, as those of an image.
+/// Returns the sizes of a command line as those of an image.
 pub(crate) fn sizes_of(sizes: &command_line::Sizes) -> Sizes {
     Sizes {
         nodes: sizes.nodes,
@@ -51,12 +51,12 @@ pub(crate) fn sizes_of(sizes: &command_line::Sizes) -> Sizes {
     }
 }
 
-/// The query of `upgrade` and of `copy`.
+/// Returns the query of `upgrade` or `copy`.
 pub(crate) fn writing<'a>(old: &'a str, new: &'a str, layout: NewLayout) -> Query<'a> {
     Query::Upgrade { old, new, layout }
 }
 
-/// What is sought: what may be read, or else what may be changed.
+/// Returns the purpose of a search: to read, or else to change.
 pub(crate) fn purpose_of(reads: bool) -> Purpose {
     if reads {
         Purpose::Read
@@ -65,13 +65,13 @@ pub(crate) fn purpose_of(reads: bool) -> Purpose {
     }
 }
 
-/// The query of `draw`.
+/// Returns the query of `draw`.
 pub(crate) fn drawing(from: Option<u64>, purpose: Purpose, to: Option<u64>) -> Query<'static> {
     Query::Draw(Focus { from, purpose, to })
 }
 
-/// The query of `reach`: which processes can change, or read, the object of `--to`, or else a chain to that of
-/// `--shows`.
+/// Returns the query of `reach`: with `--to`, which processes can change or read an object; else with `--shows`, a
+/// chain to an object; else the closed set.
 pub(crate) fn reaching<'a>(reach: &'a Reach<'_>) -> Query<'a> {
     let purpose = purpose_of(reach.reads);
     let question = match (reach.to, reach.shows) {
@@ -87,8 +87,8 @@ pub(crate) fn reaching<'a>(reach: &'a Reach<'_>) -> Query<'a> {
     }
 }
 
-// Writes what the image on a device saves to a new one, and returns its end. The new file is made only once the old
-// image was opened and read whole.
+// Writes the saved state of the image on a device to a new image, and returns the end of the command. The new file is
+// made only once the old image was opened and read whole.
 fn upgrade<D: Device, S: WholeStore<D>, W: Output, V: Output>(
     rt: &HostRuntime,
     device: D,
@@ -109,7 +109,7 @@ fn upgrade<D: Device, S: WholeStore<D>, W: Output, V: Output>(
 }
 
 impl<'w> Query<'w> {
-    /// Answers it about the image on a device, opened by a store of this kind, and returns its end.
+    /// Answers the query about the image on a device, with a store of type `S`, and returns the end of the command.
     pub(crate) fn answer<D: Device, S: WholeStore<D>, W: Output, V: Output>(
         self,
         rt: &HostRuntime,

@@ -24,7 +24,7 @@ answers_agree : (s : Running) (o : Outcome) (r : Option Refusal) (x y : Answer) 
     AnswersBy s o r y b → Agree x y a b
 answers_agree s o r x y a b p q = search (arith, nat_tests)
 
--- an answer to a line for which neither the device failed nor memory that its command takes ran out
+-- the answer to a line for which the device didn't fail and memory didn't run out
 record IsFine (l : Line) (p : Reply) : Type 0 where
   device : p ≢ Reported (answer.Refused refusal.Fault)
   memory : (c : Command) → l ≡ line.Command c → takes_memory c ≡ true → p ≢ Reported (answer.Refused refusal.NoMemory)
@@ -32,12 +32,12 @@ record IsFine (l : Line) (p : Reply) : Type 0 where
 fine : (t : Turn) (l : Line) → IsSteady t → Says t.line l → IsFine l t.reply
 fine t l steady says = record { device = steady.device; memory = λ c is. steady.memory c (subst (Says t.line) is says) }
 
--- it is the command's own
+-- the answer is that of the command
 own : (g : Geometry) (s : Running) (c : Command) (p : Reply) (a : Answer) (after : Machine) → IsFine (line.Command c) p →
     p ≡ Reported a → Step g (Up s) c a after → Answers g s c a after
 own g s c p a after steady reported step = search (arith, nat_tests, wants_memory_to_show)
 
--- two replies to one line
+-- two replies to the same line
 record AgreeOn (p q : Reply) (a b : Machine) : Type 0 where
   then_up : Running
   replies : p ≡ q

@@ -40,7 +40,7 @@ lines_read turns input left output written (Err fault.Write) does = (
 )
 lines_read turns input left output written (Err fault.Stopped) does = (does.0, does.1, first_of does.0 left (lines_in turns) does.2)
 
--- and so its turns are by whom its lines are by
+-- each turn is by the process of its line
 abbrev IsTurnBy : (ℕ → Bool) → Turn → Type 0
 IsTurnBy inside t = (l : Line) → Says t.line l → IsLineBy inside l
 
@@ -54,12 +54,12 @@ turns_by inside (t ∷ ts) more by =
     (turns_by inside ts more (All-tail (IsTextBy inside) t.line (lines_in ts ++ more) by))
 
 module _ {D S : Type 0} (disk : D → Disk) (view : S → View D) (parts : S → Parts) where
-  -- a kernel that is up stands for one machine
+  -- a kernel that is up stands for only one machine
   pub one_machine : (g : Geometry) (p : Power D S) (m : Machine) (t : Running) → Stands disk view parts g p m →
       Stands disk view parts g p (Up t) → m ≡ Up t
   one_machine g p m t first second = search (arith, nat_tests)
 
-  -- and its world is sound
+  -- the world of this machine is sound
   pub sound_world : (g : Geometry) (p : Power D S) (s : Running) → Stands disk view parts g p (Up s) → IsSound g s.now
   sound_world g p s up = search (arith, nat_tests)
 

@@ -3,7 +3,7 @@ use Rattle.runs.proofs.Names.{ℕ, List, None, Some, Option, length, take, get_o
 use Rattle.runs.proofs.Names.{get_or_default, length-take, take_all, IsFirstByte, Nowhere, Passes, is_byte, IsOneLine}
 use Rattle.std.proofs.Common.{◌≡◌, ◌<◌, ◌∙◌}
 
--- where it is not found there is none before
+-- if no newline is found, the bytes are of one line
 one_line : (bytes : List ℕ) (end : ℕ) → Nowhere (Passes (is_byte 10) bytes) 0 end → IsOneLine (take end bytes)
 one_line bytes end nowhere k d lt = λ is.
     let before : k < end = omega (arith, length-take end bytes, lt) in

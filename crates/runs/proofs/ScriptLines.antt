@@ -4,7 +4,7 @@ use Rattle.runs.proofs.Names.{length-drop, take_all, flat_map-append, All-append
 use Rattle.runs.proofs.Names.{IsOneLine, AreLines, BeginsWith}
 use Rattle.std.proofs.Common.{◌≡◌, ◌≢◌, ◌<◌, ◌+◌, ◌-◌, ◌==◌, ◌∷◌, ◌++◌, ◌∙◌}
 
--- a line that ends at its newline is the first, and what follows it the others
+-- a text that ends at a newline is the first line, and the rest are the others
 first_line : (text rest : List ℕ) → IsOneLine text → lines_of (line_of text ++ rest) ≡ text ∷ lines_of rest
 first_line [] rest one = refl
 first_line (b ∷ bs) rest one =
@@ -32,7 +32,7 @@ lines_before (l ∷ ls) more each =
 pub no_lines : AreLines [] [] []
 no_lines = record { whole = refl; each = All-nil IsOneLine; none = All-nil (λ b. b ≢ 10) }
 
--- more bytes without a newline
+-- reading more bytes, without a newline
 pub bytes_more : (text : List ℕ) (lines : List (List ℕ)) (rest bytes : List ℕ) → AreLines text lines rest → IsOneLine bytes →
     AreLines (text ++ bytes) lines (rest ++ bytes)
 bytes_more text lines rest bytes are more = record {
@@ -41,7 +41,7 @@ bytes_more text lines rest bytes are more = record {
   none = All-append (λ (b : ℕ). b ≢ 10) rest bytes are.none more;
 }
 
--- and a newline
+-- reading a newline
 pub line_more : (text : List ℕ) (lines : List (List ℕ)) (rest : List ℕ) → AreLines text lines rest →
     AreLines (text ++ 10 ∷ []) (lines ++ rest ∷ []) []
 line_more text lines rest are = record {
@@ -50,16 +50,16 @@ line_more text lines rest are = record {
   none = All-nil (λ b. b ≢ 10);
 }
 
--- a text that they begin
+-- a text that begins with these lines
 pub begins_with : (text : List ℕ) (lines : List (List ℕ)) (more : List ℕ) → AreLines text lines [] → BeginsWith (text ++ more) lines
 begins_with text lines more are = search (arith, nat_tests, append-nil)
 
--- they are its first lines, whatever follows
+-- these are the first lines of a text, whatever follows
 lines_first : (text : List ℕ) (lines : List (List ℕ)) (more : List ℕ) → AreLines text lines [] →
     lines_of (text ++ more) ≡ lines ++ lines_of more
 lines_first text lines more are = search (arith, nat_tests, append-nil, lines_before)
 
--- and all of them, where nothing is left, or with what is left
+-- they are all lines if nothing is left; else the rest is one more
 pub lines_whole : (text : List ℕ) (lines : List (List ℕ)) → AreLines text lines [] → lines_of text ≡ lines
 lines_whole text lines are = ap lines_of (sym (append-nil text)) ∙ lines_first text lines [] are ∙ append-nil lines
 
@@ -69,18 +69,18 @@ lines_with_rest text lines rest are some = search (arith, nat_tests, lines_befor
 
 -- ---- a piece of a text
 
--- its first bytes, one more, and all that follow
+-- the first bytes of a list, one more, and all the others
 pub one_and_more : (xs : List ℕ) (i b : ℕ) → i < length xs → slice_index_or xs i 0 ≡ b → xs ≡ (take i xs ++ b ∷ []) ++ drop (suc i) xs
 one_and_more [] i b within is = absurd (omega (arith, within))
 one_and_more (x ∷ xs) zero b within is = ap (λ (y : ℕ). y ∷ xs) is
 one_and_more (x ∷ xs) (suc i) b within is = ap (λ (ys : List ℕ). x ∷ ys) (one_and_more xs i b (omega (arith, within)) is)
 
--- a line is taken off what is left of it
+-- a line is taken off the rest of a piece
 pub line_taken : (piece read rest : List ℕ) (end : ℕ) → piece ≡ read ++ rest → end < length rest → slice_index_or rest end 0 ≡ 10 →
     piece ≡ ((read ++ take end rest) ++ 10 ∷ []) ++ drop (suc end) rest
 line_taken piece read rest end is within newline = search (arith, nat_tests, one_and_more, append_assoc)
 
--- what follows a place, as a slice
+-- the bytes after an index, as a slice
 pub rest_of : (xs : List ℕ) (i : ℕ) → take (length xs - (i + 1)) (drop (i + 1) xs) ≡ drop (suc i) xs
 rest_of xs i =
     let next : i + 1 ≡ suc i = omega arith in

@@ -46,7 +46,7 @@ module _ {D S : Type 0} (disk : D → Disk) (view : S → View D) (parts : S →
       (leaves_weaker {old = of goes.0} {new = of new} {P = LeavesSaved g size t.after ts} (LeavesSaved g size m (t ∷ ts))
       (λ c is. (is.0, inr is.1, is.2)) rest)
 
-  -- an image that denotes a saved state is opened there
+  -- a device with an image that denotes a saved state is opened at this state
   opened_there : (g : Geometry) (size : ℕ) (c : Image) (s : Saved) → Denotes g size c s → IsOpenedAt disk view parts g size c s
   opened_there g size c s denoted d size_is seen_is =
       let held : Denotes g (disk d).sectors (disk d).seen s =
@@ -66,7 +66,7 @@ module _ {D S : Type 0} (disk : D → Disk) (view : S → View D) (parts : S →
       refuses d held back fault.NoMemory is = tt
       refuses d held back (fault.Bad reason) is = denoted_not_bad g (disk d).sectors (disk d).seen s reason held is.is_why.1
 
-  -- and so all that a crash leaves
+  -- so is a device with any image that a crash leaves
   survived : (g : Geometry) (old new : Power D S) (MayBeLeft : Saved → Type 0) →
       LeavesOnly (of old) (of new) (λ c. (s : Saved) × MayBeLeft s × Denotes g (of old).sectors c s) →
       IsSurvived disk view parts g old new MayBeLeft

@@ -16,14 +16,14 @@ use Rattle.runs.proofs.TurnLists.{lines_more, output_more, run_more, wrote_and_f
 
 -- ---- what a crash leaves
 
--- one of two lists is one of the first or of the second
+-- an image that denotes one of two lists of states denotes one of the first or of the second
 split_one : (g : Geometry) (size : ℕ) (c : Image) (ss ts : List Saved) → DenotesOne g size (ss ++ ts) c →
     DenotesOne g size ss c ⊎ DenotesOne g size ts c
 split_one g size c [] ts one = inr one
 split_one g size c (s ∷ ss) ts one = ⊎_elim (λ here. inl (inl here))
     (λ there. ⊎_elim (λ first. inl (inr first)) (λ last. inr last) (split_one g size c ss ts there)) one
 
--- what denotes one of several denotes this one
+-- an image that denotes one of several states denotes this state
 pub denotes_this : (g : Geometry) (size : ℕ) (c : Image) (ss : List Saved) → DenotesOne g size ss c →
     (s : Saved) × Contains ss s × Denotes g size c s
 denotes_this g size c [] one = absurd one
@@ -32,7 +32,7 @@ denotes_this g size c (s ∷ ss) one = ⊎_elim
     (λ there. let is = denotes_this g size c ss there in (is.0, (suc is.1.0, omega (arith, is.1.1), is.1.2), is.2))
     one
 
--- a candidate may be left in a turn, and so may what its command saves
+-- in a turn a crash may leave a candidate, or the state that the command saves
 left_before : (g : Geometry) (size : ℕ) (t : Turn) (c : Image) → DenotesOne g size (candidates t.before) c → IsLeftIn g size t c
 left_before g size t c one = let is = denotes_this g size c (candidates t.before) one in (is.0, inl is.1, is.2)
 
@@ -49,13 +49,13 @@ left_by g size t command says c one = ⊎_elim
 pub answer_reported : (old new : Disk) (a : Answer) → IsCaused old new a → IsReportedBy old new (Reported a)
 answer_reported old new a caused = search (arith, nat_tests)
 
--- where no call is made none fails
+-- if no call is made, no failure is reported
 none_reported : (disk : Disk) (reply : Reply) → tells_fault reply ≡ false → IsReportedBy disk disk reply
 none_reported disk reply fine = search (arith, nat_tests)
 
 -- ---- what an observer saw
 
--- one turn more
+-- an observer has seen one more turn
 pub seen_more : {O : Type 0} (sees : Turn → O → O → Bool → Type 0) (old mid new : O) (ts : List Turn) (t : Turn) (on : Bool) →
     AreSeen sees old mid ts true → sees t mid new on → AreSeen sees old new (ts ++ t ∷ []) on
 seen_more sees old mid new [] t true same seen = inl (new, subst (λ x. sees t x new true) same.0 seen, (refl, refl))
@@ -81,7 +81,7 @@ module _ {D S O : Type 0} (disk : D → Disk) (view : S → View D) (parts : S �
     (only_now : (d : D) (c : Image) → (disk d).left_since (disk d).moment c → (disk d).may_leave c) where
   -- ---- a turn
 
-  -- where no call is made a crash leaves a candidate
+  -- if no call is made, a crash leaves a candidate
   here : (g : Geometry) (m : Machine) (p : Power D S) → Stands disk view parts g p m →
       LeavesOnly (disk_of disk view parts p) (disk_of disk view parts p) (DenotesOne g (disk_of disk view parts p).sectors (candidates m))
   here g m p stands = search (arith, nat_tests, started)
@@ -155,7 +155,7 @@ module _ {D S O : Type 0} (disk : D → Disk) (view : S → View D) (parts : S �
   turns_more g old mid new [] t same turn = (new, subst (λ (p : Power D S). IsTurnOf disk view parts g p new t) same turn, refl)
   turns_more g old mid new (u ∷ us) t goes turn = (goes.0, goes.1, turns_more g goes.0 mid new us t goes.2 turn)
 
-  -- more bytes of a line
+  -- more bytes of a line were read
   pub longer : (g : Geometry) (m : Machine) (old new : Power D S) (first seen : O) (text : List ℕ) (line longer : LineBuffer)
       (output output_left : Written) (bytes : List ℕ) →
       SoFar disk view parts sees g m old new first seen text line output output_left → IsOneLine bytes →
@@ -171,7 +171,7 @@ module _ {D S O : Type 0} (disk : D → Disk) (view : S → View D) (parts : S �
     written = so_far.written;
   }
 
-  -- a line is at its end, and this the text that it ends
+  -- a line has ended, and this is its text
   module _ (g : Geometry) (m : Machine) (old mid new : Power D S) (first before seen : O) (begins : List ℕ) (held next : LineBuffer)
       (output written wrote : Written)
       (so_far : SoFar disk view parts sees g m old mid first before begins held output written) (text rest : List ℕ)
@@ -212,7 +212,7 @@ module _ {D S O : Type 0} (disk : D → Disk) (view : S → View D) (parts : S �
     whole_lines : AreLines (text ++ 10 ∷ []) (lines_in turns_on) []
     whole_lines = search (arith, nat_tests, lines_more, line_more)
 
-    -- by its newline
+    -- it ended at its newline
     pub goes_on : true ≡ turn.on → Wrote written wrote (reply_text turn.reply) →
         SoFar disk view parts sees g m old new first seen (text ++ 10 ∷ []) next output wrote
     goes_on on all = record {
@@ -229,7 +229,7 @@ module _ {D S O : Type 0} (disk : D → Disk) (view : S → View D) (parts : S �
         g m old new first seen output wrote
     stopped more e ending = search (arith, nat_tests, more_run, all_seen, begins_with, whole_lines, stops_by)
 
-    -- by the end of the input
+    -- it ended at the end of the input
     last_lines : (rest ≡ [] → ⊥) → lines_of text ≡ lines_in turns_on
     last_lines some = lines_with_rest text (lines_in so_far.turns) rest lines some ∙ sym (lines_more so_far.turns turn_of)
 
@@ -255,7 +255,7 @@ module _ {D S O : Type 0} (disk : D → Disk) (view : S → View D) (parts : S �
 
   -- ---- a piece
 
-  -- from a kernel, an observer, a line and a writer on, these bytes were read
+  -- these bytes were read, beginning with a kernel, an observer, a line and a writer
   module _ (first : Power D S) (saw : O) (begun_line : LineBuffer) (had : Written) where
     abbrev pub Goes : List ℕ → Power D S → O → LineBuffer → Written → Type 0
     Goes read k seen line written = (g : Geometry) (m : Machine) (start : Power D S) (begins : O) (text : List ℕ) (output : Written) →
@@ -275,11 +275,11 @@ module _ {D S O : Type 0} (disk : D → Disk) (view : S → View D) (parts : S �
         (longer g m start k begins seen (text ++ read) line longer_line output written bytes (goes g m start begins text output so_far) one
         extended)
 
-    -- so were the first bytes of a piece, and these are left
+    -- the first bytes of a piece were read, and `rest` is left
     abbrev pub GoesTo : List ℕ → List ℕ → Power D S → O → LineBuffer → Written → Type 0
     GoesTo piece rest k seen line written = (read : List ℕ) × (piece ≡ read ++ rest) × Goes read k seen line written
 
-    -- a line is at its end, and these are its last bytes
+    -- a line has ended, and these are its last bytes
     module _ (read : List ℕ) (k new : Power D S) (before seen : O) (line next : LineBuffer) (written wrote : Written)
         (goes : Goes read k before line written) (bytes : List ℕ) (one : IsOneLine bytes)
         (empty : (held : List ℕ) → Holds line held → Holds next []) (result : Result Bool RunFault)
@@ -288,7 +288,7 @@ module _ {D S O : Type 0} (disk : D → Disk) (view : S → View D) (parts : S �
       text_is : (text : List ℕ) → ((text ++ read) ++ bytes) ++ 10 ∷ [] ≡ text ++ ((read ++ bytes) ++ 10 ∷ [])
       text_is text = search (arith, nat_tests, append_assoc)
 
-      -- the line with its newline, in a run so far
+      -- the line with its newline, in the run so far
       module _ (g : Geometry) (m : Machine) (start : Power D S) (begins : O) (text : List ℕ) (output : Written)
           (so_far : SoFar disk view parts sees g m start first begins saw text begun_line output had) where
         abbrev now : SoFar disk view parts sees g m start k begins before (text ++ read) line output written
@@ -316,7 +316,7 @@ module _ {D S O : Type 0} (disk : D → Disk) (view : S → View D) (parts : S �
             (bytes_more (text ++ read) (lines_in now.turns) now.rest bytes now.lines one) (empty now.rest now.held) result taken more e
             ending)
 
-    -- what is left of a piece begins with the end of a line, which was taken
+    -- the rest of a piece begins with the end of a line, which was carried out
     module _ (piece rest : List ℕ) (k new : Power D S) (before seen : O) (line next : LineBuffer) (written wrote : Written)
         (goes : GoesTo piece rest k before line written)
         (end : ℕ) (within : end < length rest) (one : IsOneLine (take end rest)) (newline : slice_index_or rest end 0 ≡ 10)
@@ -348,7 +348,7 @@ module _ {D S O : Type 0} (disk : D → Disk) (view : S → View D) (parts : S �
           ending (drop (suc end) rest) piece
           (line_taken piece goes.0 rest end goes.1 within newline)
 
-    -- or it has no newline
+    -- or the rest has no newline
     pub goes_to_end : (piece rest : List ℕ) (k : Power D S) (seen : O) (line longer_line : LineBuffer) (written : Written) →
         GoesTo piece rest k seen line written → IsOneLine rest →
         ((l : List ℕ) → Holds line l → Holds longer_line (l ++ rest)) → Goes piece k seen longer_line written
@@ -358,7 +358,7 @@ module _ {D S O : Type 0} (disk : D → Disk) (view : S → View D) (parts : S �
 
   -- ---- a run
 
-  -- whichever machine the first kernel stands for
+  -- the run so far, for any machine that the first kernel stands for
   abbrev pub RunsSoFar : Power D S → Power D S → O → O → List ℕ → LineBuffer → Written → Written → Type 0
   RunsSoFar old new first seen text line output output_left = (g : Geometry) (m : Machine) → Stands disk view parts g old m →
       SoFar disk view parts sees g m old new first seen text line output output_left
@@ -366,12 +366,12 @@ module _ {D S O : Type 0} (disk : D → Disk) (view : S → View D) (parts : S �
   pub no_text : (old : Option (List ℕ)) → Consumes old old []
   no_text old = search (arith, nat_tests)
 
-  -- a text was read, and the run is that of its lines
+  -- a text was read, and the run so far is that of its lines
   abbrev pub HasRead : Power D S → Power D S → O → O → LineBuffer → Option (List ℕ) → Option (List ℕ) → Written → Written → Type 0
   HasRead old new first seen line input input_left output output_left =
       (text : List ℕ) × Consumes input input_left text × RunsSoFar old new first seen text line output output_left
 
-  -- what was written stays so
+  -- the run so far keeps what was written
   kept_so_far : (g : Geometry) (m : Machine) (old new : Power D S) (first seen : O) (text : List ℕ) (line : LineBuffer)
       (output written kept : Written) → Wrote written kept [] →
       SoFar disk view parts sees g m old new first seen text line output written →
@@ -384,7 +384,7 @@ module _ {D S O : Type 0} (disk : D → Disk) (view : S → View D) (parts : S �
 
   module _ (old mid : Power D S) (first before : O) (line : LineBuffer) (input read left : Option (List ℕ)) (output written : Written)
       (so_far : HasRead old mid first before line input read output written) where
-    -- what was written was passed on, or wasn't
+    -- passing on what was written succeeded or failed
     module _ (passed : Written) (kept : Wrote written passed []) where
       pub passed_on : HasRead old mid first before line input read output passed
       passed_on = (
@@ -420,7 +420,7 @@ module _ {D S O : Type 0} (disk : D → Disk) (view : S → View D) (parts : S �
         λ g m stands. goes g m old first so_far.0 output (so_far.2 g m stands),
       )
 
-      -- a run that stops early reads and writes as it should
+      -- a run that stops early has read and written as it should
       does_stop : (AreTaken : List (List ℕ) → Type 0) (text : List ℕ) → Consumes input left text →
           ((lines : List (List ℕ)) → AreTaken lines → AreFirst text left lines) →
           (e : RunFault) (g : Geometry) (m : Machine) (s : Stopped disk view parts sees AreTaken e g m old new first seen output wrote) →
@@ -441,7 +441,7 @@ module _ {D S O : Type 0} (disk : D → Disk) (view : S → View D) (parts : S �
           (λ lines begin. inl begin) e g m s in
           (s.turns, s.run, does.0, s.on, s.are_seen, does.1)
 
-    -- the input is at its end
+    -- the input has ended
     module _ (new : Power D S) (seen : O) (wrote : Written) (none : Consumes read left []) (end : IsAtEnd left) where
       all_read : Consumes input left so_far.0
       all_read = subst (Consumes input left) (append-nil so_far.0) (Consumes-trans input read left so_far.0 [] so_far.1 none)
@@ -457,7 +457,7 @@ module _ {D S O : Type 0} (disk : D → Disk) (view : S → View D) (parts : S �
           (λ lines whole. inr (end, whole)) e g m s in
           (s.turns, s.run, does.0, s.on, s.are_seen, does.1)
 
-      -- and the answers were passed on, or weren't
+      -- passing on the answers succeeded or failed
       pub end_passed_on : (passed : Written) →
           ((g : Geometry) (m : Machine) (start : Power D S) (begins : O) (text : List ℕ) (out : Written) →
           SoFar disk view parts sees g m start mid begins before text line out written →

@@ -1,4 +1,4 @@
-// Why a strict run ends at a line.
+// Why a strict run ended at a line.
 ghost use Rattle.std.specs.Prelude.{◌≡◌, ◌+◌, ◌≤◌, ◌∷◌, ◌++◌, IfSome, List, ℕ, length, option_map};
 ghost use Rattle.model.specs.Text.{Says};
 ghost use Rattle.script.specs.LineFaults.{IsFaultOf};
@@ -8,14 +8,14 @@ ghost use Rattle.runs.specs.Tracing.{cause_text, code_text, code_word};
 use model::{Line, Refusal, ResultCode};
 use script::{LineFault, LineText, refusal_line, why_bad};
 
-/// Why a strict run ends at a line.
+/// Why a strict run ended at a line.
 #[derive(Clone, Copy)]
 pub enum Cause {
     /// The line is bad.
     BadLine(LineFault),
-    /// Its command was refused.
+    /// The command was refused.
     Refused(Refusal),
-    /// The order that it gave has this result code, which isn't `Done`.
+    /// The order that the command gave has this result code, which isn't `Done`.
     Code(ResultCode),
 }
 
@@ -27,7 +27,7 @@ pub struct Stop {
     pub cause: Cause,
 }
 
-// The words of a result code.
+// Returns the words for a result code.
 fn word_of(code: ResultCode) -> &'static [u8]
     ensures word { result.now ≡ code_word code }
     ensures short { length result.now ≤ 18 }
@@ -47,7 +47,7 @@ fn word_of(code: ResultCode) -> &'static [u8]
     }
 }
 
-/// Adds a space and a result code, in words and as its number.
+/// Appends a space and a result code, in words and as a number.
 pub fn add_code(line: &mut LineText, code: ResultCode)
     requires { length line.old ≤ 200 }
     ensures text { line.new ≡ line.old ++ 32 ∷ code_text code }
@@ -59,7 +59,7 @@ pub fn add_code(line: &mut LineText, code: ResultCode)
     line.push(b")");
 }
 
-/// Why a line is bad. `text` is its text, or `None` where it is too long.
+/// Returns why a bad line is bad. `text` is the line, or `None` if it is too long.
 pub fn fault_of(text: Option<&[u8]>) -> LineFault
     requires { IfSome text (λ t. Says t.now Line.Bad) }
     ensures { (line : List ℕ) → IsTextOf (option_map (λ t. t.now) text.entry) line → IsFaultOf line result }
@@ -71,7 +71,7 @@ pub fn fault_of(text: Option<&[u8]>) -> LineFault
 }
 
 impl Cause {
-    /// Adds a space and the cause in words to a line.
+    /// Appends a space and the cause, in words.
     pub fn add_to(self, line: &mut LineText)
         requires { length line.old ≤ 100 }
         ensures text { line.new ≡ line.old ++ 32 ∷ cause_text self }

@@ -1,4 +1,4 @@
-// What watches a run.
+// Observers of runs.
 ghost use Rattle.std.specs.Prelude.{◌≡◌, Bool, true, false, IfSome, option_map};
 ghost use Rattle.model.specs.declared.geometry.Geometry.{Geometry};
 ghost use Rattle.model.specs.Run.{BadLine, Nothing, Reported, Turn};
@@ -8,27 +8,27 @@ ghost use Rattle.script.specs.Lines.{IsTextOf};
 
 use model::{Answer, Command, Line, ResultCode};
 
-/// Watches a run. It is shown each turn, and says whether the run goes on after it.
+/// Observes a run: it is shown each turn, and decides after it whether the run continues.
 pub trait Observer {
-    // What it makes of a turn over a machine of a geometry, and whether the run goes on.
+    // How the observer changes when it sees a turn of a machine of this geometry, and whether the run continues.
     ghost sees: { Geometry → Turn → Self → Self → Bool → Type 0 };
 
-    // Whether it may end a run.
+    // Whether the observer may end a run.
     ghost may_end: { Bool };
 
-    /// Sees a line that was skipped.
+    /// Sees a line that was skipped. Returns whether the run continues, as the next two do.
     fn skip(&mut self) -> bool
         ensures seen { (g : Geometry) (t : Turn) → t.reply ≡ Nothing → sees g t self.old self.new result }
         ensures goes_on { may_end ≡ false → result ≡ true };
 
-    /// Sees a bad line. The text is the line, or `None` where that has more than 256 bytes.
+    /// Sees a bad line. `text` is the line, or `None` if it has more than 256 bytes.
     fn bad(&mut self, text: Option<&[u8]>) -> bool
         requires { IfSome text (λ t. Says t.now Line.Bad) }
         ensures seen { (g : Geometry) (t : Turn) → IsTextOf (option_map (λ x. x.now) text.entry) t.line
             → t.reply ≡ BadLine → sees g t self.old self.new result }
         ensures goes_on { may_end ≡ false → result ≡ true };
 
-    /// Sees a command, its answer, and the result code of the order that an invocation gave.
+    /// Sees a command, its answer, and the result code if the command was an invocation that gave an order.
     fn answer(&mut self, command: &Command, answer: &Answer, code: Option<ResultCode>) -> bool
         ensures seen { (g : Geometry) (t : Turn) → Says t.line (Line.Command command.now)
             → t.reply ≡ Reported answer.now → reported_code g t.before command.now answer.now ≡ code
@@ -36,7 +36,7 @@ pub trait Observer {
         ensures goes_on { may_end ≡ false → result ≡ true };
 }
 
-/// Sees nothing, and lets each run go on.
+/// An observer that ignores all turns, and never ends a run.
 #[derive(Clone, Copy)]
 pub struct Silent;
 

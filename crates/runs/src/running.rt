@@ -22,11 +22,11 @@ use memchr::memchr;
 use model::Line;
 use script::{LineBuffer, Output, RunFault, parse_line, print_answer, print_bad_line};
 
-// How many bytes a read requests.
+// The size of the buffer for one read, in bytes.
 const PIECE_SIZE: usize = 4096;
 
-// Does what a line says, shows the observer what became of it, and writes the answer. It returns
-// whether the observer lets the run go on. The text is the line, or `None` where that is too long.
+// Carries out a parsed line, shows the turn to the observer, and writes the answer. Returns whether the observer lets
+// the run continue. `text` is the line, or `None` if it is too long.
 #[inline(never)]
 fn take<D: Device, S: ObjectStore<D>, W: Output, O: Observer>(
     kernel: &mut Kernel<D, S>,
@@ -59,7 +59,7 @@ fn take<D: Device, S: ObjectStore<D>, W: Output, O: Observer>(
     }
 }
 
-// Takes the line that ends with `bytes`, and begins another.
+// Carries out the line that ends with `bytes`, where `line` has its beginning; then clears `line`.
 #[inline(always)]
 fn take_line<D: Device, S: ObjectStore<D>, W: Output, O: Observer>(
     kernel: &mut Kernel<D, S>,
@@ -84,7 +84,7 @@ fn take_line<D: Device, S: ObjectStore<D>, W: Output, O: Observer>(
     take_held(kernel, line, writer, observer)
 }
 
-// Takes the line that was gathered, and begins another.
+// Carries out the line in the buffer `line`, then clears the buffer.
 #[inline(never)]
 fn take_held<D: Device, S: ObjectStore<D>, W: Output, O: Observer>(
     kernel: &mut Kernel<D, S>,
@@ -105,7 +105,8 @@ fn take_held<D: Device, S: ObjectStore<D>, W: Output, O: Observer>(
     taken
 }
 
-// Takes each line that ends in a piece, in place where it lies in it whole, and keeps the beginning of the next.
+// Carries out each line that ends in a piece of the script, and keeps the beginning of the next in `line`. A line
+// that lies in the piece as a whole isn't copied.
 fn take_piece<D: Device, S: ObjectStore<D>, W: Output, O: Observer>(
     kernel: &mut Kernel<D, S>,
     line: &mut LineBuffer,
@@ -140,7 +141,7 @@ fn take_piece<D: Device, S: ObjectStore<D>, W: Output, O: Observer>(
     Ok(())
 }
 
-// Takes the rest at the end of the input, where it isn't empty.
+// At the end of the input, carries out the rest in `line` unless it is empty.
 fn take_rest<D: Device, S: ObjectStore<D>, W: Output, O: Observer>(
     kernel: &mut Kernel<D, S>,
     line: &mut LineBuffer,
@@ -202,28 +203,25 @@ fn run_turns<D: Device, S: ObjectStore<D>, R: Script, W: Output, O: Observer>(
     }
 }
 
-/// Runs a script over a kernel: reads it in pieces of 4096 bytes, which may end anywhere, and writes
-/// the answer to each line that isn't skipped before it takes the next line. A line that isn't of the
-/// grammar is answered `bad line`. What was written is passed on before each read, and at the end of
-/// the input. The lines that end in a piece are served before the next is read: that is tested, not
-/// proved.
+/// Runs a script over a kernel: reads it in pieces of at most 4096 bytes, which may end anywhere, and writes the
+/// answer to each line that isn't skipped before it takes the next line. A line outside the grammar is answered `bad
+/// line`. The written answers are passed on before each read, and at the end of the input. All lines that end in a
+/// piece are answered before the next piece is read: that is tested, not proved.
 ///
-/// What is written is the printed answers of a run of the machine on the commands that the lines
-/// name, from whichever machine the kernel stands for; power cuts and failures of the device are
-/// part of such a run. A crash at any moment while a line is served leaves a candidate of the
-/// machine before it, or what its command is to save besides; `fault` is answered exactly if the
-/// device failed.
+/// The text written is the printed answers of a run of the machine on the commands of these lines. The run may begin
+/// with any machine that the kernel stands for, and includes power cuts and failures of the device. A crash at any
+/// moment of a line leaves a candidate of the machine before the line, or the state that its command saves. `fault`
+/// is answered exactly if the device failed.
 ///
-/// If each line is an invocation, a load or a store by a process of a closed set, or by one made of
-/// numbers that were free, then objects outside the set that weren't free keep their content and
-/// their owner (EROS: confinement). Exception: capabilities to members may become void.
+/// If each line is an invocation, a load or a store by a process of a closed set, or by one made from free numbers,
+/// then objects outside the set that weren't free keep their content and their owner (EROS: confinement). Exception:
+/// capabilities to members may become void.
 ///
-/// `RunFault::Read` exactly if a read failed: then each line whose newline was read was answered.
-/// `RunFault::Write` exactly if a call of the writer failed: then the lines taken are the first of
-/// those read whole, or all of an input at its end, and only the answer to the last may be cut
-/// short; where it fails to pass on what it took, all of those lines were answered. The kernel then
-/// stands where the lines taken left it. A read that was interrupted is tried again. Reading lines
-/// and printing answers takes no memory.
+/// Returns `RunFault::Read` exactly if a read failed: then each line whose newline was read was answered. Returns
+/// `RunFault::Write` exactly if a call of the writer failed. Then the lines taken are the first of those that were
+/// read whole (at the end of the input, of all), and only the answer to the last of them may be cut short; if the
+/// failed call was one that passes on, all of them were answered. The kernel then stands where the lines taken left
+/// it. A read that was interrupted is tried again. Reading lines and printing answers takes no memory.
 pub fn run<D: Device, S: ObjectStore<D>, R: Script, W: Output>(
     kernel: &mut Kernel<D, S>,
     reader: &mut R,
@@ -240,11 +238,11 @@ pub fn run<D: Device, S: ObjectStore<D>, R: Script, W: Output>(
     run_observed(kernel, reader, writer, &mut Silent)
 }
 
-/// Runs a script over a kernel as `run` does, and shows an observer each turn, in order. What is
-/// written is the same with each observer.
+/// Runs a script over a kernel as `run` does, and shows each turn to an observer, in order. Which observer it is
+/// doesn't change the text written.
 ///
-/// `RunFault::Stopped` exactly if the observer ends the run: then all lines taken were answered,
-/// and the last of them is where it did.
+/// Returns `RunFault::Stopped` exactly if the observer ended the run: then all lines taken were answered, and the
+/// last of them is the line at which it ended.
 pub fn run_observed<D: Device, S: ObjectStore<D>, R: Script, W: Output, O: Observer>(
     kernel: &mut Kernel<D, S>,
     reader: &mut R,
@@ -264,11 +262,11 @@ pub fn run_observed<D: Device, S: ObjectStore<D>, R: Script, W: Output, O: Obser
     run_turns(kernel, reader, writer, observer)
 }
 
-/// Runs one line over a kernel: does what it says, shows an observer the turn, writes the answer and passes it on.
-/// Returns whether the observer lets a run go on.
+/// Runs one line over a kernel: carries it out, shows the turn to an observer, writes the answer and passes it on.
+/// Returns whether the observer lets a run continue.
 ///
-/// `RunFault::Write` exactly if a call of the writer failed: then the answer may be cut short, and the kernel stands
-/// where the line left it.
+/// Returns `RunFault::Write` exactly if a call of the writer failed: then the answer may be cut short, and the kernel
+/// stands where the line left it.
 pub fn run_line<D: Device, S: ObjectStore<D>, W: Output, O: Observer>(
     kernel: &mut Kernel<D, S>,
     line: &[u8],

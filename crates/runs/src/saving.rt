@@ -1,4 +1,4 @@
-// Saving all that a machine did.
+// Saving the present state of a machine.
 ghost use Rattle.std.specs.Prelude.{Ok};
 ghost use Rattle.model.specs.Text.{Fits};
 ghost use Rattle.runs.specs.Saving.{CarriesOut, CarriesOutAll, Moves, Saves, commit_stages};
@@ -8,7 +8,7 @@ use device::Device;
 use kernel::Kernel;
 use model::{Answer, Command, Refusal};
 
-// Carries out a command. A refusal is an error.
+// Carries out a command. Returns its answer, or an error if this is a refusal.
 fn carry_out<D: Device, S: ObjectStore<D>>(
     kernel: &mut Kernel<D, S>,
     order: Command,
@@ -23,8 +23,8 @@ fn carry_out<D: Device, S: ObjectStore<D>>(
     Ok(answer)
 }
 
-/// Makes the present state the saved one: copies home what an earlier save left, freezes the machine, writes each frozen
-/// object to the log, and commits. Returns the answer to the commit.
+/// Makes the present state the saved one: copies home what an earlier save left in the log, freezes the machine,
+/// writes each frozen object to the log, and commits. Returns the answer to the commit.
 ///
 /// Fails with the first refusal, and begins no stage after it.
 pub fn commit_all<D: Device, S: ObjectStore<D>>(
@@ -38,7 +38,7 @@ pub fn commit_all<D: Device, S: ObjectStore<D>>(
     carry_out(kernel, Command::Commit)
 }
 
-/// Copies each saved object to its home, and returns the answer to the commit. Fails with a refusal.
+/// Copies each saved object home, and returns `committed`. Fails if this is refused.
 pub fn migrate_all<D: Device, S: ObjectStore<D>>(
     kernel: &mut Kernel<D, S>,
     committed: Answer,
@@ -51,8 +51,8 @@ pub fn migrate_all<D: Device, S: ObjectStore<D>>(
     }
 }
 
-/// Saves all: copies home what an earlier save left, freezes the machine, writes each frozen object to the log, commits,
-/// and copies each saved object to its home. Returns the answer to the commit.
+/// Saves the present state: copies home what an earlier save left in the log, freezes the machine, writes each frozen
+/// object to the log, commits, and copies each saved object home. Returns the answer to the commit.
 ///
 /// Fails with the first refusal, and begins no stage after it.
 pub fn save<D: Device, S: ObjectStore<D>>(kernel: &mut Kernel<D, S>) -> Result<Answer, Refusal>

@@ -1,34 +1,34 @@
-// What a run reads.
+// Where a run reads its script.
 ghost use Rattle.std.specs.Prelude.{◌≡◌, ◌<◌, ℕ, List, [], Option, length, IsErr};
 ghost use Rattle.runs.specs.KernelRuns.{IsCounted};
 ghost use Rattle.runs.specs.Taking.{LeavesFewer, ReadsPiece};
 
 use script::{Output, RunFault};
 
-/// What one read gave.
+/// The result of one read.
 #[derive(Clone, Copy)]
 pub enum Piece {
-    /// So many bytes.
+    /// The number of bytes that were read.
     Bytes(usize),
-    /// The input is at its end.
+    /// The input has ended.
     End,
-    /// Nothing: it was interrupted.
+    /// Nothing was read: the read was interrupted.
     Nothing,
 }
 
-/// A script that comes piece by piece, each once the answers to what came before are passed on.
+/// A script that comes in pieces. Each piece is read only once the answers to the earlier ones are passed on.
 pub trait Script {
-    // The bytes that will be read from here on, where they are known.
+    // The bytes that are still to be read, where they are known.
     ghost unread: { Self → Option (List ℕ) };
 
     // How many reads failed.
     ghost failures: { Self → ℕ };
 
-    // How many more reads can succeed before the end.
+    // The most reads that can still succeed before the end.
     ghost reads_left: { Self → ℕ };
 
-    /// Reads a piece. No answer waits in `output`: whoever writes the script has got them all.
-    /// `RunFault::Read` where reading fails, and the count of failures rises then and never else.
+    /// Reads a piece. No answer may wait in `output`: whoever writes the script has received them all. Returns
+    /// `RunFault::Read` if reading fails; only then the count of failures rises.
     fn read_piece<W: Output>(&mut self, output: &W, piece: &mut [u8]) -> Result<Piece, RunFault>
         requires none_waits { W.waiting output.now ≡ [] }
         requires room { 0 < length piece.old }

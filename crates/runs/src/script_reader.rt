@@ -1,4 +1,4 @@
-// A script that a reader gives.
+// A script that comes from a reader.
 ghost use Rattle.std.specs.Prelude.{◌≡◌, ◌<◌, ◌+◌, ◌-◌, ◌^◌, [], length, IsErr, OnOk};
 ghost use Rattle.script.specs.CallErrors.{HasCause};
 ghost use Rattle.runs.specs.KernelRuns.{IsCounted};
@@ -11,7 +11,7 @@ use collections::Tally;
 use script::{Output, RunFault};
 use std::io::ErrorKind;
 
-/// Reads a script from a reader, and counts the reads that fail. After 2^64 - 1 reads it fails each.
+/// Reads a script from a reader, and counts the reads that fail. After 2^64 - 1 reads, every read fails.
 #[derive(Drop)]
 pub struct ScriptReader<R> {
     inner: R,
@@ -20,7 +20,7 @@ pub struct ScriptReader<R> {
 }
 
 impl<R: RawReader> ScriptReader<R> {
-    /// Reads from `inner`, where no read has failed.
+    /// Returns a script that is read from `inner`; no read has failed yet.
     pub fn new(inner: R) -> ScriptReader<R>
         ensures inner { read_from result ≡ inner }
         ensures left { left_to_read result ≡ 2 ^ 64 - 1 }
@@ -33,7 +33,7 @@ impl<R: RawReader> ScriptReader<R> {
         }
     }
 
-    // Counts a read that failed.
+    // Counts a read that failed, and returns its fault.
     fn fail(&mut self) -> RunFault
         ensures fault { result ≡ RunFault.Read }
         ensures inner { self.new.inner ≡ self.old.inner }
@@ -52,7 +52,8 @@ impl<R: RawReader> Script for ScriptReader<R> {
 
     ghost reads_left = { left_to_read };
 
-    /// Reads a piece by one call of the reader. `RunFault::Read` exactly if that call fails, or no read is left.
+    /// Reads a piece by one call of the reader. Returns `RunFault::Read` exactly if that call fails, or no read is
+    /// left.
     fn read_piece<W: Output>(&mut self, _output: &W, piece: &mut [u8]) -> Result<Piece, RunFault>
         requires none_waits { W.waiting _output.now ≡ [] }
         requires room { 0 < length piece.old }

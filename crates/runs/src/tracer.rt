@@ -1,4 +1,4 @@
-// What becomes of each line of a run, on standard error.
+// Tracing: a line on standard error about each line of a script.
 ghost use Rattle.std.specs.Prelude.{◌≡◌, ◌+◌, ◌-◌, ◌<◌, ◌≤◌, ◌^◌, ◌∷◌, [], ◌++◌, List, ℕ, IfNone, IfSome, Some, codes};
 ghost use Rattle.std.specs.Prelude.{length, min, true};
 ghost use Rattle.model.specs.Text.{line_of, spaced};
@@ -11,32 +11,31 @@ use crate::observer::Observer;
 use model::{Answer, Command, ResultCode};
 use script::{LineFault, LineText, Output, answer_line, command_word};
 
-/// What a run does beside writing the answers.
+/// What a traced run does besides writing the answers.
 #[derive(Clone, Copy)]
 pub struct TraceOptions {
-    /// It writes what became of each line.
+    /// Whether it writes a line of trace for each line of the script.
     pub trace: bool,
-    /// It ends at the first line that is bad or refused, or whose order has a result code other
-    /// than 0.
+    /// Whether it ends at the first line that is bad or refused, or whose order has a result code other than 0.
     pub strict: bool,
 }
 
-/// Traces a run: writes a line for each line of the script that isn't skipped, with its number, its
-/// command and what became of it. A trace that can't be written doesn't end the run.
+/// Traces a run: for each line of the script that isn't skipped, writes a line with its number, its command and the
+/// answer. If the trace can't be written, the run continues.
 #[derive(Drop)]
 pub struct Tracer<V> {
     errors: V,
     options: TraceOptions,
-    // How many lines it saw.
+    // How many lines were seen.
     line: u64,
-    // A line of the trace couldn't be written. No line follows it.
+    // Whether a line of the trace couldn't be written. No line is written after it.
     is_lost: bool,
-    // Where it ended the run.
+    // Where the tracer ended the run, if it did.
     stop: Option<Stop>,
 }
 
 impl<V: Output> Tracer<V> {
-    /// A tracer that saw no line, and writes to `errors`.
+    /// Returns a tracer that writes to `errors` and has seen no line.
     pub fn new(errors: V, options: TraceOptions) -> Tracer<V>
         ensures { IsNewTracer errors options result }
     {
@@ -49,14 +48,14 @@ impl<V: Output> Tracer<V> {
         }
     }
 
-    /// Where it ended the run, if it did.
+    /// Returns where the tracer ended the run, if it did.
     pub fn stop(&self) -> Option<Stop>
         ensures { result ≡ self.now.stop }
     {
         self.stop
     }
 
-    // Writes a line of the trace, unless none are wanted, or one before is lost.
+    // Writes a line of the trace, unless the options have no trace or an earlier line was lost.
     fn write(&mut self, line: LineText)
         requires { length line < 320 }
         ensures traced { IsTraced self.old.options.trace self.old.is_lost self.new.is_lost
@@ -75,15 +74,15 @@ impl<V: Output> Tracer<V> {
         }
     }
 
-    // The number of the next line.
+    // Returns the number of the next line.
     fn next(&self) -> u64
         ensures { result ≡ min (self.now.line + 1) (2 ^ 64 - 1) }
     {
         self.line.saturating_add(1)
     }
 
-    // Counts a line, writes its trace, and ends a strict run there if it has a cause. It returns
-    // whether the run goes on.
+    // Records that a line was seen, and writes its trace. A strict run ends there if the line has a cause. Returns
+    // whether the run continues.
     fn note(&mut self, place: u64, text: LineText, cause: Option<Cause>) -> bool
         requires { length text < 320 }
         ensures { Notes V.written place text cause self.old self.new result }
@@ -96,7 +95,7 @@ impl<V: Output> Tracer<V> {
         }
     }
 
-    // Ends the run at this line, if it is strict. It returns whether the run goes on.
+    // Ends a strict run at this line. Returns whether the run continues.
     fn end_at(&mut self, cause: Cause) -> bool
         ensures ends { EndsIf self.old.options.strict (Some cause) self.old.line result self.new.stop }
         ensures options { self.new.options ≡ self.old.options }
@@ -115,7 +114,7 @@ impl<V: Output> Tracer<V> {
     }
 }
 
-// The number of a line, which its trace begins with.
+// Returns the beginning of a line's trace: its number.
 fn begin(place: u64) -> LineText
     ensures text { result ≡ place_text place }
     ensures short { length result ≤ 21 }
@@ -126,7 +125,7 @@ fn begin(place: u64) -> LineText
     line
 }
 
-// The trace of a bad line.
+// Returns the trace of a bad line.
 fn bad_trace(place: u64, fault: LineFault) -> LineText
     ensures text { result ≡ spaced (place_text place ∷ cause_text (Cause.BadLine fault) ∷ []) }
     ensures short { length result ≤ 92 }
@@ -136,7 +135,7 @@ fn bad_trace(place: u64, fault: LineFault) -> LineText
     line
 }
 
-// The trace of a command.
+// Returns the trace of a command.
 fn answer_trace(
     place: u64,
     command: &Command,
@@ -157,7 +156,7 @@ fn answer_trace(
     line
 }
 
-// Why a strict run ends at a command, if it does.
+// Returns why a strict run ends at a command, or `None` if it doesn't.
 fn cause_of(answer: &Answer, code: Option<ResultCode>) -> Option<Cause>
     ensures some { IfSome result (IsCauseIn answer.now code) }
     ensures none { IfNone result ((why : Cause) → IsCauseIn answer.now code why → ⊥) }

@@ -1,21 +1,21 @@
-// What a run did that isn't committed.
+// Recording whether a run did something that isn't committed.
 ghost use Rattle.std.specs.Prelude.{◌≡◌, ◌||◌, false};
 ghost use Rattle.runs.specs.Unsaved.{Notes, nothing_unsaved};
 
 use crate::observer::Observer;
 use model::{Answer, Command, ResultCode};
 
-/// Watches for invocations and stores that aren't committed, and lets each run go on.
+/// An observer that records whether there are uncommitted invocations and stores. It never ends a run.
 #[derive(Clone, Copy)]
 pub struct Unsaved {
-    // Some came after the last checkpoint or restart.
+    // Whether there were some since the last checkpoint or restart.
     present: bool,
-    // Some came before the last checkpoint, which isn't committed.
+    // Whether there were some before the last checkpoint, and this isn't committed.
     frozen: bool,
 }
 
 impl Unsaved {
-    /// Nothing was done.
+    /// Returns an observer that has seen nothing.
     pub fn new() -> Unsaved
         ensures { result ≡ nothing_unsaved }
     {
@@ -25,7 +25,7 @@ impl Unsaved {
         }
     }
 
-    /// Whether something isn't committed.
+    /// Whether there are uncommitted invocations or stores.
     pub fn is_some(&self) -> bool
         ensures { result ≡ self.now.present || self.now.frozen }
     {

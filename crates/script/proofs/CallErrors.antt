@@ -23,7 +23,7 @@ pub failed_after : (a b c : Option CallErrors) (n : ℕ) → b ≡ option_map (m
     OneFailed a c
 failed_after a b c n was is = (n + 0, inl (is ∙ ap (option_map (more_errors 1 0)) was ∙ more_twice a 0 n 1 0))
 
--- too many were interrupted
+-- the call gave up after too many interruptions
 pub gave_up : (a b : Option CallErrors) (n : ℕ) → 2 ^ 64 - 1 ≤ n → b ≡ option_map (more_errors 0 n) a → OneFailed a b
 gave_up a b n many is = (n, inr (many, is))
 

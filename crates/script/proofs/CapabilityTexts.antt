@@ -7,7 +7,7 @@ use Rattle.model.specs.declared.capability.Capability.TheVariants as capability
 use Rattle.script.proofs.CapabilityWords.{HasText, arguments_are, capability_again, kind_for}
 use Rattle.script.proofs.Texts.{spaced_more}
 
--- an access, as its word with a space before it
+-- the text of an access is its word with a space before it
 access_is : (a : Access) → flat_map (λ w. 32 ∷ w) (access_words a) ≡ access_text a
 access_is a = grind (arith, nat_tests)
 
@@ -66,7 +66,7 @@ pieces_are c has = ap words_of (text_is c) ∙ split_spaced (capability_words c)
 pub no_text : (text : List ℕ) (c : Capability) → HasText c → words_of text ≢ capability_words c → capability_text c ≢ text
 no_text text c has none spelt = none (ap words_of (sym spelt) ∙ pieces_are c has)
 
--- two capabilities that have one text are one
+-- two capabilities with the same text are equal
 pub text_once : (c d : Capability) → HasText c → HasText d → capability_text c ≡ capability_text d → c ≡ d
 text_once c d has also same =
     let again = capability_again c has in

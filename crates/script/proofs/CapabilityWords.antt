@@ -35,7 +35,7 @@ kind_for (capability.Resume p) = kind.Resume
 kind_for (capability.Bank b) = kind.Bank
 kind_for capability.Discrim = kind.Discrim
 
--- what has a text: within its bounds, and of an object of 64 bits
+-- a capability has a text if it is well formed and its object's number has 64 bits
 abbrev pub HasText : Capability → Type 0
 HasText c = IsWellFormed c × IfSome (named c) (λ o. o < 2 ^ 64)
 
@@ -88,7 +88,7 @@ key_takes : (words : Words) (p : ℕ × Words) → key_at words ≡ Some p → (
 unfolding key_at
 key_takes words p e = grind (arith, nat_tests, bind_some, guard_some, number_takes)
 
--- the capability that was read, and the words of it
+-- the capability that was read, and the words that were taken for it
 abbrev IsReadFrom : Kind → Words → Capability × Words → Type 0
 IsReadFrom k words p = HasText p.0 × (kind_name k ∷ words ≡ capability_words p.0 ++ p.1)
 
@@ -136,7 +136,7 @@ kind_at_name k = grind (arith, nat_tests)
 
 -- ---- what the words of a text name
 
--- what was read is any capability with these words
+-- the capability that was read is the only one with these words
 pub arguments_are : (words rest : Words) (word : List ℕ) (k : Kind) (c : Capability) → words ≡ word ∷ rest → word ≡ kind_name k →
     HasText c → words ≡ capability_words c
     → capability_at k rest ≡ Some (c, [])

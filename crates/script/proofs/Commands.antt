@@ -39,7 +39,7 @@ number_in_none word none = go (number_in word) refl where
   go None e = e
   go (Some n) e = let found = number_in_some word n e in absurd (none n found.0 found.1)
 
--- what `number_of` says of a word is what reading gives
+-- the number of a word is the one that was read
 pub number_gives : (r : Option ℕ) (word : List ℕ) (old left : Words) → old ≡ word ∷ left
     → IfSome r (λ n. (n < 2 ^ 64) × (word ≡ decimal n)) → IfNone r ((n : ℕ) → n < 2 ^ 64 → word ≢ decimal n) → Gives r left (number_at old)
 unfolding number_at
@@ -246,7 +246,7 @@ keyword_at_name k = grind (arith, nat_tests)
 
 -- ---- what the words of a line say
 
--- the arguments that were read are those of any command with these words
+-- the arguments that were read are those of the only command with these words
 arguments_are : (words rest : Words) (word : List ℕ) (k : Keyword) (c : Command) → words ≡ word ∷ rest → word ≡ keyword_name k → Fits c →
     words ≡ command_words c
     → arguments_at k rest ≡ Some (c, [])

@@ -7,7 +7,7 @@ use Rattle.std.proofs.Common.{◌≡◌, ◌+◌, ◌<◌, ◌++◌, ◌∙◌}
 use Rattle.std.specs.List.{join_with_byte}
 use Rattle.std.specs.Prelude.{IfNone, None, Option, Some}
 
--- the bytes of such a line are those of the word, and a space
+-- such a line begins with the bytes of the word and a space
 module _ (word : List ℕ) (more : ℕ) (line : List ℕ) (begins : BeginsWith word more line) where
   pub byte_is : (i : ℕ) → i < length word + 1 → get_or line i 0 ≡ get_or (word ++ codes " ") i 0
   byte_is i lt = sym (get_or-take (length word + 1) line i 0 lt) ∙ ap (λ (l : List ℕ). get_or l i 0) begins.front
@@ -68,7 +68,7 @@ operation_bytes line Send begins =
     let at = byte_is (codes "send") 19 line begins in
     (omega (arith, begins.room), (at 0 (omega arith), at 1 (omega arith), at 2 (omega arith), at 3 (omega arith), at 4 (omega arith)))
 
--- the words of a line are those of no other
+-- no two lines have the same words
 one_line : (a b : List ℕ) → words_of a ≡ words_of b → a ≡ b
 one_line a b same = sym (join_with_byte-slice_split 32 a) ∙ ap (join_with_byte 32) same ∙ join_with_byte-slice_split 32 b
 
@@ -96,7 +96,7 @@ none_common rest line keyword.Journal least load store order same common begins 
 none_common rest line keyword.Restart least load store order same common begins = absurd common
 none_common rest line keyword.Cut least load store order same common begins = absurd common
 
--- from the words that are left of a line, where there are some
+-- none of these words begins the rest of a line
 pub none_taken : {A : Type 0} (result : Option A) (words : List (List ℕ)) (rest : List ℕ) → words ≡ words_of rest →
     (BeginsWith (codes "load") 3 rest → ⊥) → (BeginsWith (codes "store") 5 rest → ⊥) →
     ((o : Operation) → BeginsWith (operation_name o) 19 rest → ⊥)

@@ -9,7 +9,7 @@ is_space b = b == 32
 pub first_end_within : (text : List ℕ) → first_end text ≤ length text
 first_end_within text = prefix_len-le-length _ text
 
--- it ends at the first space
+-- the first word ends at the first space
 pub ends_here : (text : List ℕ) (i : ℕ) → i ≤ first_end text → i < length text → get_or text i 0 ≡ 32 → i ≡ first_end text
 ends_here text i before lt space = grind (arith, nat_tests, fails_before_first)
 
@@ -26,7 +26,7 @@ goes_on text i before lt other =
 pub word_length : (text : List ℕ) → length (first_word text) ≡ first_end text
 word_length text = length-take-le (first_end text) text (first_end_within text)
 
--- its bytes are those of the text
+-- the bytes of the first word are those of the text
 pub word_reads : (text : List ℕ) (i : ℕ) → i < first_end text
     → (i < length (first_word text)) × (get_or (first_word text) i 0 ≡ get_or text i 0) × (take i (first_word text) ≡ take i text)
 word_reads text i lt = grind (arith, nat_tests, word_length, get_or-take, take-take)

@@ -16,7 +16,7 @@ pub took_more : (a b c : Option (List ℕ)) (bytes : List ℕ) (i n : ℕ) → A
     → Appends b c (take n (take (length bytes - i) (drop i bytes))) → Appends a c (take (i + n) bytes)
 took_more a b c bytes i n h k = grind (arith, nat_tests, take_all, length-drop, take-add, Appends-trans)
 
--- one text was written, and then another
+-- one text was written, then another
 pub wrote_trans : (a b c : Written) (first second : List ℕ) → Wrote a b first → Wrote b c second → Wrote a c (first ++ second)
 wrote_trans a b c first second h k = grind (arith, nat_tests, Appends-trans)
 
@@ -28,7 +28,7 @@ second_front a b c first second h k = grind (arith, nat_tests, append_assoc, App
 pub first_front : (a b : Written) (first second : List ℕ) → WroteFront a b first → WroteFront a b (first ++ second)
 first_front a b first second h = grind (arith, nat_tests, append_assoc)
 
--- the first text was written, and then the second or a beginning of it
+-- the first text was written, then the second or a beginning of it
 pub writes_after : (a b c : Written) (r : Result (Unit {0}) RunFault) (first second : List ℕ) → Wrote a b first → Writes b c r second →
     Writes a c r (first ++ second)
 writes_after a b c (Ok x) first second h w = wrote_trans a b c first second h w
@@ -57,7 +57,7 @@ line_fails a b e line spelled second text same is w = (
       (first_front a b _ _ w.1),
 )
 
--- the first line was written, and then the second text or a beginning of it
+-- the first line was written, then the second text or a beginning of it
 pub line_and : (a b c : Written) (r : Result (Unit {0}) RunFault) (line spelled second text : List ℕ) → line ≡ spelled →
     text ≡ line_of spelled ++ second
     → Wrote a b (line_of line) → Writes b c r second → Writes a c r text
@@ -76,7 +76,7 @@ broke_off a b bytes n failures h same failed = record { taken = front_at a.conte
 pub taken_all : (a b : Option (List ℕ)) (bytes : List ℕ) (n : ℕ) → n ≡ length bytes → Appends a b (take n bytes) → Appends a b bytes
 taken_all a b bytes n all h = subst (Appends a b) (take_all n bytes (omega arith)) h
 
--- the first n bytes were written, and then the rest or a beginning of it
+-- the first n bytes were written, then the rest or a beginning of it
 pub rest_written : (a b c : Written) (r : Result (Unit {0}) RunFault) (bytes : List ℕ) (n : ℕ) → Wrote a b (take n bytes)
     → Writes b c r (take (length bytes - n) (drop n bytes)) → Writes a c r bytes
 rest_written a b c r bytes n h w =

@@ -23,7 +23,7 @@ zero_longer [] none some first = absurd (omega (arith, some))
 zero_longer (b ∷ []) none some first = absurd (none 0 (omega arith) (ap (λ (x : ℕ). x ∷ []) first ∙ sym (decimal_digit 0 (omega arith))))
 zero_longer (b ∷ c ∷ bs) none some first = omega arith
 
--- one digit more, or a byte that is none
+-- one more byte is a digit, or isn't
 pub digits_on : (ds : List ℕ) (i : ℕ) → i < length ds → AllDigits 10 (take i ds) → IsInRange 48 57 (get_or ds i 0) →
     AllDigits 10 (take (i + 1) ds)
 digits_on ds i lt so_far digit = digits_more 10 ds i lt so_far (omega (arith, digit_value_digit (get_or ds i 0) digit, digit.1))
@@ -31,7 +31,7 @@ digits_on ds i lt so_far digit = digits_more 10 ds i lt so_far (omega (arith, di
 pub no_number : (old rest : Words) (word : List ℕ) → old ≡ word ∷ rest → number_at old ≡ None → (n : ℕ) → n < 2 ^ 64 → word ≢ decimal n
 no_number old rest word is none n small spelt = grind (arith, nat_tests, number_again)
 
--- a number that is too great for its place stands where a register has to
+-- a number that is too great for a machine number, or for a register where one is needed
 pub register_fault : (is_register : Bool) (old left : Words) (n most : ℕ) → number_at old ≡ Some (n, left) →
     most + 1 ≡ (if is_register then 32 else 2 ^ 64) → most < n →
     (place : ℕ) → (word : List ℕ) × (rest : Words) × (old ≡ word ∷ rest) × IsWordFault word place is_register (fault.NoRegister n)
@@ -156,7 +156,7 @@ module _ (k : Keyword) (all left : Words) (count : ℕ) (end : length (are_regis
       rw (← none) (has_word line k _ rest word place (names ∙ ap (λ (l : Words). keyword_name k ∷ l) split)
       (omega (arith, at, operands_length _ _ operands)))
 
--- the same of a table
+-- the same for a table of operands
 module _ (registers : List Bool) (k : Keyword) (same : registers ≡ are_registers k) (all left : Words) (count : ℕ)
     (taken : Taken registers all count left)
   where

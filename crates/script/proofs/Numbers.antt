@@ -22,7 +22,7 @@ pub digits_are_decimal : (word : List ℕ) → AllDigits 10 word → 0 < length 
     → digits_value 10 word < 2 ^ 64 → word ≡ decimal (digits_value 10 word)
 digits_are_decimal word digits some first small = sym (decimal-digits_value own word digits some first small)
 
--- one digit more
+-- one more digit
 pub value_more : (digits : List ℕ) (i value : ℕ) → i < length digits → AllDigits 10 (take i digits) →
     value ≡ digits_value 10 (take i digits) → IsInRange 48 57 (get_or digits i 0)
     → AllDigits 10 (take (i + 1) digits) × (value * 10 + (get_or digits i 0 - 48) ≡ digits_value 10 (take (i + 1) digits))
@@ -40,7 +40,7 @@ value_great digits i value lt is digit great =
       great,
     )
 
--- of the first word of a text
+-- the first word of a text is too great
 pub word_great : (text : List ℕ) (i value : ℕ) → i < first_end text → value ≡ digits_value 10 (take i text)
     → IsInRange 48 57 (get_or text i 0) → (value * 10 + (get_or text i 0 - 48) < 2 ^ 64 → ⊥) → 2 ^ 64 ≤ digits_value 10 (first_word text)
 word_great text i value lt is digit great =
@@ -49,7 +49,7 @@ word_great text i value lt is digit great =
     (subst (λ (d : ℕ). IsInRange 48 57 d) (sym reads.1) digit) (λ small. great
     (subst (λ (d : ℕ). value * 10 + (d - 48) < 2 ^ 64) reads.1 small))
 
--- what the value of its digits says of a word with no leading zero
+-- a word without a leading zero is a number exactly if its digits have a value
 pub number_found : (word : List ℕ) (r : Option ℕ) → 0 < length word → (get_or word 0 0 ≡ 48 → length word ≡ 1)
     → IfSome r (λ n. (n < 2 ^ 64) × AllDigits 10 word × (n ≡ digits_value 10 word))
     → IfSome r (λ n. (n < 2 ^ 64) × (word ≡ decimal n))

@@ -65,7 +65,7 @@ values_three : (text : List ℕ) (at one two three : ℕ) → at + 2 < length te
 values_three text at one two three within first second third =
     digit_more text at 2 (one * 10 + two) three within (values_two text at one two (omega (arith, within)) first second) third
 
--- the same, by where they end
+-- the same, by the place where the digits end
 pub values_up_to_three : (text : List ℕ) (at one two three : ℕ) → at + 2 < length text → IsDigit text at one → IsDigit text (at + 1) two →
     IsDigit text (at + 2) three → Values text at (at + 3 - at) ((one * 10 + two) * 10 + three)
 values_up_to_three text at one two three within first second third =
@@ -114,7 +114,7 @@ value_below text at size most n within few values =
     let long : length (take size (drop at text)) ≡ size = length-take-le size (drop at text) (omega (arith, within, length-drop at text)) in
     rw values.1 (digits_value_short own (take size (drop at text)) most values.0 (omega (arith, long, few)))
 
--- another digit at a place
+-- one more digit at a place
 pub place_more : (text : List ℕ) (at place value digit : ℕ) → at < place → place < length text → Values text at (place - at) value →
     IsDigit text place digit → Values text at (place + 1 - at) (value * 10 + digit)
 place_more text at place value digit begun within so_far is =
@@ -147,7 +147,7 @@ digits_last text at place n begun whole few some values =
 pub last_one : (text : List ℕ) (at n : ℕ) → length text ≡ at + 1 → IsDigit text at n → number_at (words_of (drop at text)) ≡ Some (n, [])
 last_one text at n whole first = grind (arith, nat_tests, digits_alone, begins_behind, values_one, length-drop)
 
--- the same, where a digit was looked for
+-- the same, for a digit that may be missing
 pub last_one_found : (text : List ℕ) (at : ℕ) (r : Option ℕ) → length text ≡ at + 1 → IfSome r (λ n. IsDigit text at n)
     → IfSome r (λ n. number_at (words_of (drop at text)) ≡ Some (n, []))
 last_one_found text at r whole found = grind (arith, nat_tests, last_one)

@@ -8,7 +8,7 @@ use Rattle.model.specs.declared.line.Line.TheVariants as line
 pub spelling_said : (c : Command) → Fits c → IsSkipped (spelling c) → ⊥
 spelling_said c fits skipped = skip_is_no_command (spelling c) c (length-spelling c fits, skipped) (fits, refl)
 
--- a line whose pieces are the words of a command says it
+-- a line whose words are those of a command is that command
 pub says_said : (text : List ℕ) (c : Command) → Fits c × (words_of text ≡ command_words c) → Says text (line.Command c)
 says_said text c said = (said.0, spelling_from_words text c said.1)
 

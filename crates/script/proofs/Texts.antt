@@ -11,7 +11,7 @@ pub capability_has_line : (name : List ℕ) (index : ℕ) (capability : Capabili
     → line_of (spaced (name ∷ decimal index ∷ capability_text capability ∷ [])) ≡ capability_line name (index, capability)
 capability_has_line name index capability some = grind (arith, nat_tests)
 
--- the words of a line, each with a space before it but the first
+-- the words of a line, each but the first with a space before it
 pub spaced_is : (word : List ℕ) (words : List (List ℕ)) → spaced (word ∷ words) ≡ word ++ flat_map (λ w. 32 ∷ w) words
 spaced_is word [] = sym (append-nil word)
 spaced_is word (next ∷ words) = ap (λ (t : List ℕ). word ++ 32 ∷ t) (spaced_is next words)
@@ -20,7 +20,7 @@ pub spaced_more : (word : List ℕ) (words more : List (List ℕ)) → spaced (w
     ≡ spaced (word ∷ words) ++ flat_map (λ w. 32 ∷ w) more
 spaced_more word words more = grind (arith, nat_tests, spaced_is, flat_map-append, append_assoc)
 
--- words that are put on a line, one after the other
+-- words that are appended to a line, one after another
 abbrev put_all : List ℕ → List (List ℕ) → List ℕ
 put_all line [] = line
 put_all line (word ∷ words) = put_all (line ++ 32 ∷ word) words
@@ -34,7 +34,7 @@ put_spaced : (word : List ℕ) (words more numbers last : List (List ℕ))
     ≡ spaced (word ∷ (((words ++ more) ++ numbers) ++ last))
 put_spaced word words more numbers last = grind (arith, nat_tests, put_all_is, spaced_more)
 
--- the first line of a process, as its parts are joined
+-- the first line of a process, in the form in which the code appends its parts
 abbrev pub process_put : ℕ → ℕ → ℕ → ℕ → List ℕ → List ℕ → List ℕ → List ℕ
 process_put number owner annex key state words space =
     ((((((((spaced (headed (codes "process") number owner) ++ 32 ∷ codes "annex") ++ 32 ∷ decimal annex) ++ 32 ∷ state) ++ 32 ∷ codes "key")

@@ -13,7 +13,7 @@ use collections::Tally;
 use std::alloc::Allocator;
 use std::io::{BufWriter, ErrorKind, Write};
 
-/// A writer, with a count of its calls that failed. It keeps nothing back.
+/// A writer, with a count of its calls that failed. It has no buffer.
 #[derive(Drop)]
 pub struct CountedWriter<W> {
     inner: W,
@@ -21,7 +21,7 @@ pub struct CountedWriter<W> {
 }
 
 impl<W: RawWriter> CountedWriter<W> {
-    /// Writes to `inner`. No call has failed yet.
+    /// Returns a writer to `inner`, none of whose calls has failed yet.
     pub fn new(inner: W) -> CountedWriter<W>
         ensures inner { inner_writer result ≡ inner }
         ensures failures { failed_writes result ≡ 0 }
@@ -32,21 +32,21 @@ impl<W: RawWriter> CountedWriter<W> {
         }
     }
 
-    /// The writer beneath.
+    /// Returns the writer beneath.
     pub fn get_ref(&self) -> &W
         ensures { result.now ≡ inner_writer self.now }
     {
         &self.inner
     }
 
-    /// The writer beneath, without the count.
+    /// Returns the writer beneath, without the count.
     pub fn into_inner(self) -> W
         ensures { result ≡ inner_writer self }
     {
         self.inner
     }
 
-    // Counts a call that failed.
+    // Counts one failed call, and returns the fault for it.
     fn fail(&mut self) -> RunFault
         ensures fault { result ≡ RunFault.Write }
         ensures inner { self.new.inner ≡ self.old.inner }
@@ -56,7 +56,8 @@ impl<W: RawWriter> CountedWriter<W> {
         RunFault::Write
     }
 
-    // Writes a beginning of the text, at least a byte. An interrupted call is made again.
+    // Writes at least the first byte of the text, and returns how many bytes it wrote. Repeats a call that was
+    // interrupted.
     fn write_some(&mut self, text: &[u8]) -> Result<usize, RunFault>
         requires { 0 < length text.now }
         ensures count { IfOk result (λ n. (0 < n) × (n ≤ length text.now)) }
@@ -101,7 +102,7 @@ impl<W: RawWriter> Output for CountedWriter<W> {
 
     ghost waiting = { λ _. [] };
 
-    // Mostly it makes one call.
+    // Usually one call of the writer is enough.
     #[inline(always)]
     fn write_fully(&mut self, text: &[u8]) -> Result<(), RunFault>
         ensures written { Writes (written_by W.held self.old) (written_by W.held self.new) result text.now }
@@ -131,14 +132,14 @@ impl<W: RawWriter> Output for CountedWriter<W> {
     }
 }
 
-/// A writer behind a buffer, with a count of the calls that failed.
+/// A buffered writer, with a count of its calls that failed.
 #[derive(Drop)]
 pub struct BufferedOutput<B: RawBuffer> {
     counted: CountedWriter<B>,
 }
 
 impl<W: Write + Drop, A: Allocator> BufferedOutput<BufWriter<W, A>> {
-    /// Writes to the buffer. No call has failed yet.
+    /// Returns a writer to `buffer`, none of whose calls has failed yet.
     pub fn new(buffer: BufWriter<W, A>) -> BufferedOutput<BufWriter<W, A>>
         ensures inner { inner_writer (counted_buffer result) ≡ buffer }
         ensures failures { failed_writes (counted_buffer result) ≡ 0 }
@@ -148,7 +149,7 @@ impl<W: Write + Drop, A: Allocator> BufferedOutput<BufWriter<W, A>> {
         }
     }
 
-    /// The writer behind the buffer.
+    /// Returns the writer behind the buffer.
     pub fn get_ref(&self) -> &W
         ensures { result.now ≡ writer_inner (inner_writer (counted_buffer self.now)) }
     {

@@ -7,7 +7,7 @@ pub enum RunFault {
     /// The reader of the script failed.
     #[error("cannot read script")]
     Read = 1,
-    /// The writer of the answers failed, or took nothing.
+    /// The writer of the answers failed, or accepted no bytes.
     #[error("cannot write output")]
     Write = 2,
     /// The observer of the run ended it.

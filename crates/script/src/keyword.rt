@@ -20,10 +20,10 @@ const SEND: u64 = 0x646e_6573;
 
 const RETURN: u64 = 0x7574_6572;
 
-// The length of the shortest line that says an invocation.
+// The length of the shortest line with an invocation.
 const SHORTEST_INVOCATION: usize = 24;
 
-/// What the first word of a command says.
+/// The meaning of a command's first word.
 #[derive(Clone, Copy)]
 pub enum Keyword {
     Invoke(Operation),
@@ -41,7 +41,7 @@ pub enum Keyword {
 }
 
 impl Keyword {
-    // Every keyword, first those that only come here.
+    // All keywords. Those that `Words::common_keyword` doesn't find come first.
     const ALL: [Keyword; 14] = [
         Keyword::Show,
         Keyword::Journal,
@@ -59,7 +59,7 @@ impl Keyword {
         Keyword::Invoke(Operation::Send),
     ];
 
-    // The word that says the keyword.
+    // Returns the word for the keyword.
     fn name(self) -> &'static [u8]
         ensures { result.now ≡ keyword_name self }
     {
@@ -80,7 +80,7 @@ impl Keyword {
     }
 }
 
-/// The first word of a command's line.
+/// Returns the first word of a command's line.
 #[tactic(auto, unfolding(model::specs::Text::command_words))]
 pub fn command_word(command: &Command) -> &'static [u8]
     ensures word { result.now ≡ command_name command.now }
@@ -102,7 +102,7 @@ pub fn command_word(command: &Command) -> &'static [u8]
     }
 }
 
-// The word of an operation.
+// Returns the word for an operation.
 fn operation_word(operation: Operation) -> &'static [u8]
     ensures { result.now ≡ operation_name operation }
 {
@@ -113,7 +113,7 @@ fn operation_word(operation: Operation) -> &'static [u8]
     }
 }
 
-/// The keyword that is the word.
+/// Returns the keyword for a word, or `None`.
 #[inline(never)]
 pub fn keyword_of(word: &[u8]) -> Option<Keyword>
     ensures found { IfSome result (λ k. word.now ≡ keyword_name k) }
@@ -127,7 +127,7 @@ pub fn keyword_of(word: &[u8]) -> Option<Keyword>
     None
 }
 
-/// Four bytes of a text as one number in little-endian order.
+/// Returns four bytes of a text, from index `at` on, as one little-endian number.
 #[inline(always)]
 pub fn four_at(text: &[u8], at: usize) -> u64
     requires { at + 3 < length text.now }
@@ -140,7 +140,7 @@ pub fn four_at(text: &[u8], at: usize) -> u64
         + u64::from(text[at + 3]) * 0x100_0000
 }
 
-/// Whether a line begins with `load`, and two numbers can follow.
+/// Whether a line begins with `load `, and is long enough for two numbers after it.
 #[inline(always)]
 #[tactic(auto, using(crate::proofs::CommonWords::load_bytes))]
 pub fn is_load(line: &[u8]) -> bool
@@ -151,7 +151,7 @@ pub fn is_load(line: &[u8]) -> bool
     line.len() >= 8 && four_at(line, 0) == LOAD && line[4] == b' '
 }
 
-/// Whether a line begins with `store`, and three numbers can follow.
+/// Whether a line begins with `store `, and is long enough for three numbers after it.
 #[inline(always)]
 #[tactic(auto, using(crate::proofs::CommonWords::store_bytes))]
 pub fn is_store(line: &[u8]) -> bool
@@ -162,14 +162,15 @@ pub fn is_store(line: &[u8]) -> bool
     line.len() >= 11 && four_at(line, 0) == STORE && line[4] == b'e' && line[5] == b' '
 }
 
-/// An operation that a line names, and where the words after its name begin.
+/// The operation with which a line begins, and where the words after it begin.
 #[derive(Clone, Copy)]
 pub struct Named {
     pub operation: Operation,
     pub next: usize,
 }
 
-/// The operation that a line names first, where ten numbers can follow.
+/// Returns the operation with which a line begins, or `None` if there is none or the line is too short for ten
+/// numbers after it.
 #[inline(always)]
 #[tactic(auto, using(crate::proofs::CommonWords::operation_bytes))]
 pub fn operation_in(line: &[u8]) -> Option<Named>

@@ -1,4 +1,4 @@
-//! The text of scripts: what a line says, and what is written for an answer.
+//! The text of scripts: reading the commands of lines, and writing answers.
 #![tactic(auto)]
 
 mod counted;

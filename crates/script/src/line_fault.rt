@@ -1,4 +1,4 @@
-// Why a line is bad.
+// Why a line of a script is bad.
 ghost use Rattle.std.specs.Prelude.{◌≡◌, ◌≢◌, ℕ, ◌+◌, ◌<◌, ◌≤◌, ◌^◌, Bool, List, [], ◌∷◌, ◌++◌, IfSome, IfNone, IsTrue};
 ghost use Rattle.std.specs.Prelude.{◌↔◌, if◌then◌else◌, length, decimal};
 ghost use Rattle.std.specs.Str.Parse.{AllDigits};
@@ -21,13 +21,13 @@ pub enum LineFault {
     CarriageReturn,
     /// It has a tab.
     Tab,
-    /// The word at this place is empty: two spaces stand side by side, or one at an end.
+    /// The word at this place is empty: the line has two spaces side by side, or a space at its start or end.
     EmptyWord(u64),
     /// Its first word names no command.
     NoCommand,
-    /// It has fewer words than this, which its command has.
+    /// It has fewer words than its command, which has this many.
     FewWords(u64),
-    /// It has more words than this, which its command has.
+    /// It has more words than its command, which has this many.
     ManyWords(u64),
     /// The word at this place isn't a decimal number.
     NoNumber(u64),
@@ -35,12 +35,12 @@ pub enum LineFault {
     LeadingZero(u64),
     /// The number at this place is 2^64 or above.
     Great(u64),
-    /// This number names a register, and is above 31.
+    /// This number should name a register, but is above 31.
     NoRegister(u64),
 }
 
 impl LineFault {
-    /// Adds a space and the fault in words to a line.
+    /// Appends a space and a text of the fault to a line.
     pub fn add_to(self, line: &mut LineText)
         requires { length line.old ≤ 200 }
         ensures text { line.new ≡ line.old ++ 32 ∷ line_fault_text self }
@@ -68,7 +68,7 @@ impl LineFault {
     }
 }
 
-// Adds a space, a word and a number.
+// Appends a space, a word, a space and a number.
 fn add_number(line: &mut LineText, word: &[u8], number: u64)
     requires { length line.old + length word.now ≤ 290 }
     ensures text { line.new ≡ line.old ++ 32 ∷ spaced (word.now ∷ decimal number ∷ []) }
@@ -77,7 +77,7 @@ fn add_number(line: &mut LineText, word: &[u8], number: u64)
     line.named(word, number);
 }
 
-// Adds a space, a word, a number and another word.
+// Appends a word, a number and another word, each after a space.
 fn add_numbered(line: &mut LineText, word: &[u8], number: u64, more: &[u8])
     requires { length line.old + length word.now + length more.now ≤ 290 }
     ensures text { line.new ≡ line.old ++ 32 ∷ spaced (word.now ∷ decimal number ∷ more.now ∷ []) }
@@ -87,7 +87,7 @@ fn add_numbered(line: &mut LineText, word: &[u8], number: u64, more: &[u8])
     line.word(more);
 }
 
-// For each word after a keyword, whether it is a register.
+// Returns, for each word after a keyword, whether it must name a register.
 fn operands(keyword: Keyword) -> &'static [bool]
     ensures { result.now ≡ are_registers keyword }
 {
@@ -116,7 +116,7 @@ fn is_digits(word: &[u8]) -> bool
     true
 }
 
-// Why the word at a place isn't the decimal text of a number below 2^64.
+// Returns why a word isn't the decimal text of a number below 2^64. `place` is its place in the line.
 #[tactic(auto, using(crate::proofs::LineFaults::zero_longer, crate::proofs::LineFaults::too_great))]
 fn number_fault(word: &[u8], place: u64) -> LineFault
     requires { (n : ℕ) → n < 2 ^ 64 → word.now ≢ decimal n }
@@ -134,14 +134,14 @@ fn number_fault(word: &[u8], place: u64) -> LineFault
     LineFault::Great(place)
 }
 
-// The greatest number that an operand may be.
+// Returns the greatest number that an operand may be.
 fn greatest(is_register: bool) -> u64
     ensures { result + 1 ≡ (if is_register then 32 else 2 ^ 64) }
 {
     if is_register { 31 } else { u64::MAX }
 }
 
-// Takes the next word, which is the one at a place, and says why it can't stand there, if it can't.
+// Takes the next word, whose place in the line is `place`. Returns what is wrong with it, or `None`.
 fn operand_fault(words: &mut Words<'_>, place: u64, is_register: bool) -> Option<LineFault>
     requires { words.old ≢ [] }
     ensures fault { IfSome result (λ why. (word : List ℕ) × (rest : List (List ℕ)) × (words.old ≡ word ∷ rest)
@@ -165,7 +165,7 @@ fn operand_fault(words: &mut Words<'_>, place: u64, is_register: bool) -> Option
     }
 }
 
-// The first fault of the words after a keyword, if they have one.
+// Returns the first fault of the words after a keyword, or `None`.
 fn operands_fault(keyword: Keyword, words: &mut Words<'_>) -> Option<LineFault>
     ensures fault { IfSome result (λ why. (line : List ℕ) → Names line keyword words.old → IsFaultOf line why) }
     ensures none { IfNone result (AreOperands (are_registers keyword) words.old) }
@@ -188,7 +188,7 @@ fn operands_fault(keyword: Keyword, words: &mut Words<'_>) -> Option<LineFault>
     }
 }
 
-/// A reason why a line is bad. It takes no memory.
+/// Returns a reason why a bad line is bad. It takes no memory.
 #[tactic(auto, using(crate::proofs::LineFaults::not_bad))]
 pub fn why_bad(line: &[u8]) -> LineFault
     requires { Says line.now Line.Bad }

@@ -1,4 +1,4 @@
-// Lines that are put together before they are written.
+// Lines that are assembled before they are written.
 ghost use Rattle.std.specs.Prelude.{◌≡◌, ◌+◌, ◌*◌, ◌<◌, ◌≤◌, [], ◌∷◌, ◌++◌, length, decimal};
 ghost use Rattle.std.specs.List.{flat_map};
 ghost use Rattle.model.specs.Text.{access_text, capability_text, line_of, spaced};
@@ -11,7 +11,7 @@ use itoa::Buffer;
 use model::{Access, Capability};
 use std::marker::Model;
 
-/// A line of text of at most 320 bytes that is put together before it is written.
+/// A line of text of at most 320 bytes that is assembled before it is written.
 #[derive(Drop)]
 pub struct LineText {
     bytes: [u8; 320],
@@ -29,7 +29,7 @@ impl Model for LineText {
 }
 
 impl LineText {
-    /// A line that begins with the word.
+    /// Returns a line that begins with a word.
     pub fn new(word: &[u8]) -> Self
         requires { length word.now ≤ 320 }
         ensures { result ≡ word.now }
@@ -39,7 +39,7 @@ impl LineText {
         line
     }
 
-    /// A line of no text.
+    /// Returns an empty line.
     #[inline(always)]
     pub fn empty() -> Self
         ensures { result ≡ [] }
@@ -50,7 +50,7 @@ impl LineText {
         }
     }
 
-    /// Begins another line, with the word.
+    /// Clears the line, then appends a word.
     #[inline(always)]
     pub fn begin(&mut self, first: &[u8])
         requires { length first.now ≤ 320 }
@@ -60,7 +60,7 @@ impl LineText {
         self.push(first);
     }
 
-    /// A line that begins with the word and the number.
+    /// Returns a line of a word, a space and a number.
     pub fn numbered(word: &[u8], number: u64) -> Self
         requires { length word.now ≤ 299 }
         ensures text { result ≡ spaced (word.now ∷ decimal number ∷ []) }
@@ -71,7 +71,7 @@ impl LineText {
         line
     }
 
-    /// Adds the text.
+    /// Appends a text.
     pub fn push(&mut self, text: &[u8])
         requires { length self.old + length text.now ≤ 320 }
         ensures { self.new ≡ self.old ++ text.now }
@@ -81,7 +81,7 @@ impl LineText {
         self.size = end;
     }
 
-    // Adds the byte.
+    // Appends a byte.
     #[inline(always)]
     fn byte(&mut self, byte: u8)
         requires { length self.old < 320 }
@@ -91,7 +91,7 @@ impl LineText {
         self.size += 1;
     }
 
-    /// Adds a space and the word.
+    /// Appends a space and a word.
     pub fn word(&mut self, word: &[u8])
         requires { length self.old + length word.now < 320 }
         ensures { self.new ≡ self.old ++ 32 ∷ word.now }
@@ -100,7 +100,7 @@ impl LineText {
         self.push(word);
     }
 
-    /// Adds a space and the number.
+    /// Appends a space and a number.
     #[tactic(auto, using(crate::proofs::Texts::one_digit_text, crate::proofs::Texts::two_digits_text))]
     pub fn number(&mut self, number: u64)
         requires { length self.old + 21 ≤ 320 }
@@ -119,7 +119,7 @@ impl LineText {
         }
     }
 
-    // Adds a space and the number.
+    // Appends a space and a number of any length.
     #[inline(never)]
     fn long_number(&mut self, number: u64)
         requires { length self.old + 21 ≤ 320 }
@@ -130,7 +130,7 @@ impl LineText {
         self.word(buffer.format(number).as_bytes());
     }
 
-    /// Adds the number.
+    /// Appends the digits of a number.
     pub fn digits(&mut self, number: u64)
         requires { length self.old + 20 ≤ 320 }
         ensures text { self.new ≡ self.old ++ decimal number }
@@ -140,7 +140,7 @@ impl LineText {
         self.push(buffer.format(number).as_bytes());
     }
 
-    /// Adds a space and the word, and a space and the number.
+    /// Appends a space, a word, a space and a number.
     pub fn named(&mut self, word: &[u8], number: u64)
         requires { length self.old + length word.now + 22 ≤ 320 }
         ensures text { self.new ≡ (self.old ++ 32 ∷ word.now) ++ 32 ∷ decimal number }
@@ -150,7 +150,7 @@ impl LineText {
         self.number(number);
     }
 
-    /// Adds the numbers, with a space before each.
+    /// Appends numbers, with a space before each.
     pub fn numbers(&mut self, numbers: &[u64])
         requires { length self.old + 21 * length numbers.now ≤ 320 }
         ensures text { self.new ≡ self.old ++ flat_map (λ n. 32 ∷ decimal n) numbers.now }
@@ -161,7 +161,7 @@ impl LineText {
         }
     }
 
-    // Adds what a capability is restricted to, where it is.
+    // Appends a space and the restriction of a capability, if there is one.
     fn access(&mut self, access: Access)
         requires { length self.old ≤ 300 }
         ensures text { self.new ≡ self.old ++ access_text access }
@@ -174,7 +174,7 @@ impl LineText {
         }
     }
 
-    /// Adds a space and the capability.
+    /// Appends a space and the text of a capability.
     #[tactic(auto, using(std::proofs::Common::append_assoc), unfolding(model::specs::Text::capability_text))]
     pub fn capability(&mut self, capability: Capability)
         requires { length self.old ≤ 240 }
@@ -219,7 +219,7 @@ impl LineText {
         &self.bytes[..self.size]
     }
 
-    /// Writes the line, and a newline. What it then holds isn't said.
+    /// Writes the line and a newline. Afterwards the line may hold any text.
     pub fn print<W: Output>(&mut self, writer: &mut W) -> Result<(), RunFault>
         requires { length self.old < 320 }
         ensures { Writes (W.written writer.old) (W.written writer.new) result (line_of self.old) }
@@ -228,7 +228,7 @@ impl LineText {
         writer.write_fully(&self.bytes[..self.size])
     }
 
-    /// Writes the line, and a newline.
+    /// Writes the line and a newline.
     pub fn write_to<W: Output>(mut self, writer: &mut W) -> Result<(), RunFault>
         requires { length self < 320 }
         ensures { Writes (W.written writer.old) (W.written writer.new) result (line_of self) }

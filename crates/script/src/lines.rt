@@ -1,4 +1,4 @@
-// A line of a script, gathered piece by piece.
+// A line of a script, which is read in pieces.
 ghost use Rattle.std.specs.Prelude.{◌≡◌, ◌↔◌, List, ℕ, [], ◌++◌, IfSome, IsTrue, option_map};
 ghost use Rattle.script.specs.Lines.{Holds, IsTextOf};
 ghost use Rattle.model.specs.Text.{Says};
@@ -7,8 +7,8 @@ use crate::parse::{LONGEST_LINE, parse_line};
 use arrayvec::ArrayVec;
 use model::Line;
 
-/// A line that was read in part: its bytes. If it has more than `LONGEST_LINE`, it keeps only that
-/// the line is too long.
+/// The bytes of a line that were read so far. For a line of more than `LONGEST_LINE` bytes it records only that the
+/// line is too long.
 #[derive(Drop)]
 pub struct LineBuffer {
     text: ArrayVec<u8, LONGEST_LINE>,
@@ -26,14 +26,14 @@ impl LineBuffer {
         }
     }
 
-    /// Whether nothing was read of it.
+    /// Whether no byte of the line was read.
     pub fn is_empty(&self) -> bool
         ensures { (line : List ℕ) → Holds self.now line → (IsTrue result ↔ (line ≡ [])) }
     {
         !self.is_long && self.text.is_empty()
     }
 
-    /// Adds bytes to it.
+    /// Appends bytes to the line.
     pub fn extend(&mut self, bytes: &[u8])
         ensures { (line : List ℕ) → Holds self.old line → Holds self.new (line ++ bytes.now) }
     {
@@ -42,7 +42,7 @@ impl LineBuffer {
         }
     }
 
-    /// Its bytes, or `None` where it has more than 256.
+    /// Returns the bytes of the line, or `None` if there are more than 256.
     pub fn text(&self) -> Option<&[u8]>
         ensures text { (line : List ℕ) → Holds self.now line → IsTextOf (option_map (λ t. t.now) result) line }
         ensures held { IfSome result (λ t. Holds self.now t.now) }
@@ -54,7 +54,7 @@ impl LineBuffer {
         }
     }
 
-    /// What it says.
+    /// Parses the line.
     pub fn says(&self) -> Line
         ensures { (line : List ℕ) → Holds self.now line → Says line result }
     {
@@ -65,7 +65,7 @@ impl LineBuffer {
         }
     }
 
-    /// Begins another line.
+    /// Clears the buffer for another line.
     pub fn clear(&mut self)
         ensures { Holds self.new [] }
     {

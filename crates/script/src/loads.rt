@@ -1,4 +1,4 @@
-// Loads and stores, read in one pass over a line. After `None` the line may still say one.
+// Fast readers of loads and stores, in one pass over a line. `None` is no proof that the line has no load or store.
 ghost use Rattle.std.specs.Prelude.{◌≡◌, IfSome};
 ghost use Rattle.model.specs.declared.command.Command.{Command};
 ghost use Rattle.model.specs.Text.{Fits, command_words};
@@ -7,14 +7,14 @@ ghost use Rattle.script.specs.Reading.{words_of};
 use crate::keyword::{is_load, is_store};
 use crate::short::{last_number, number_before};
 
-/// A load that a line says.
+/// A load, as read from a line.
 #[derive(Clone, Copy)]
 pub struct Load {
     pub process: u64,
     pub address: u64,
 }
 
-/// A store that a line says.
+/// A store, as read from a line.
 #[derive(Clone, Copy)]
 pub struct Store {
     pub process: u64,
@@ -22,7 +22,7 @@ pub struct Store {
     pub value: u64,
 }
 
-/// The load that a line says.
+/// Returns the load that a line contains. `None` may also mean that the general parser must decide.
 #[tactic(auto, using(crate::proofs::ShortInvocations::load_said))]
 #[inline(always)]
 pub fn load_in(line: &[u8]) -> Option<Load>
@@ -40,7 +40,7 @@ pub fn load_in(line: &[u8]) -> Option<Load>
     })
 }
 
-/// The store that a line says.
+/// Returns the store that a line contains. `None` may also mean that the general parser must decide.
 #[tactic(auto, using(crate::proofs::ShortInvocations::store_said))]
 #[inline(always)]
 pub fn store_in(line: &[u8]) -> Option<Store>

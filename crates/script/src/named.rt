@@ -1,4 +1,4 @@
-// The capability and the state that a text names.
+// Reading the texts of capabilities and states.
 ghost use Rattle.std.specs.Prelude.{◌≡◌, ◌≢◌, ◌<◌, ◌^◌, IfSome, IfNone};
 ghost use Rattle.model.specs.declared.capability.Capability.{Capability};
 ghost use Rattle.model.specs.declared.object.State.{State};
@@ -12,7 +12,7 @@ use crate::shown::state_word;
 use crate::words::Words;
 use model::{Access, Capability, MAX_HEIGHT, State};
 
-// What the first word of a capability says.
+// The kind of a capability, from the first word of its text.
 #[derive(Clone, Copy)]
 enum Kind {
     Void,
@@ -41,7 +41,7 @@ impl Kind {
         Kind::Discrim,
     ];
 
-    // The word that says the kind.
+    // Returns the word for the kind.
     fn name(self) -> &'static [u8]
         ensures { result.now ≡ kind_name self }
     {
@@ -60,7 +60,7 @@ impl Kind {
     }
 }
 
-// The kind that is the word.
+// Returns the kind for a word, or `None`.
 fn kind_of(word: &[u8]) -> Option<Kind>
     ensures found { IfSome result (λ k. word.now ≡ kind_name k) }
     ensures none { IfNone result ((k : Kind) → word.now ≢ kind_name k) }
@@ -73,7 +73,7 @@ fn kind_of(word: &[u8]) -> Option<Kind>
     None
 }
 
-// The access that the word names.
+// Returns the access for a word, `ro` or `weak`, or `None`.
 #[tactic(auto, unfolding(crate::specs::Named::access_in))]
 fn access_of(word: &[u8]) -> Option<Access>
     ensures { result ≡ access_in word.now }
@@ -87,7 +87,7 @@ fn access_of(word: &[u8]) -> Option<Access>
     }
 }
 
-// Takes the next word as an access, which is full where no word is left.
+// Takes the next word as an access. If no word is left, the access is full.
 #[tactic(auto, unfolding(crate::specs::Named::access_at))]
 fn access(words: &mut Words<'_>) -> Option<Access>
     ensures { Gives result words.new (access_at words.old) }
@@ -122,7 +122,7 @@ fn key(words: &mut Words<'_>) -> Option<u16>
     }
 }
 
-// Takes the words that follow the first one.
+// Takes the words that follow the kind, and returns the capability.
 #[tactic(auto, unfolding(crate::specs::Named::capability_at))]
 fn arguments(kind: Kind, words: &mut Words<'_>) -> Option<Capability>
     ensures { Gives result words.new (capability_at kind words.old) }
@@ -154,13 +154,12 @@ fn arguments(kind: Kind, words: &mut Words<'_>) -> Option<Capability>
     }
 }
 
-/// The capability that a text names, in the form that `show` prints it, if it names one.
+/// Returns the capability with this text, which has the form that `show` prints, or `None`.
 ///
-/// The forms are `void`, `number N`, `page OBJECT`, `node OBJECT`, `space OBJECT HEIGHT`,
-/// `process PROCESS`, `start PROCESS KEY`, `resume PROCESS`, `bank BANK` and `discrim`. `ro` or
-/// `weak` may follow a page, a node and a space. The words have one space between each two,
-/// numbers are decimal without leading zeros and below 2^64, heights 1 to 4, keys below 65536.
-/// Any other text names none. It takes no memory.
+/// The forms are `void`, `number N`, `page OBJECT`, `node OBJECT`, `space OBJECT HEIGHT`, `process PROCESS`, `start
+/// PROCESS KEY`, `resume PROCESS`, `bank BANK` and `discrim`. `ro` or `weak` may follow a page, a node and a space.
+/// There is one space between words; numbers are decimal without leading zeros and below 2^64, heights 1 to 4, keys
+/// below 65536. For any other text it returns `None`. It takes no memory.
 #[tactic(auto, using(crate::proofs::CapabilityTexts::no_text, crate::proofs::CapabilityWords::no_words))]
 pub fn capability_of(text: &[u8]) -> Option<Capability>
     ensures some { IfSome result (λ c. IsWellFormed c
@@ -178,9 +177,9 @@ pub fn capability_of(text: &[u8]) -> Option<Capability>
     }
 }
 
-/// The state of a process that a text names: `available`, `running` or `waiting`.
+/// Returns the state of a process with this text: `available`, `running` or `waiting`.
 ///
-/// Any other text names none. It takes no memory.
+/// For any other text it returns `None`. It takes no memory.
 #[tactic(auto, using(crate::proofs::Tables::no_state_left))]
 pub fn state_of(text: &[u8]) -> Option<State>
     ensures some { IfSome result (λ s. state_text s ≡ text.now) }

@@ -3,18 +3,18 @@ ghost use Rattle.std.specs.Prelude.{◌≡◌, ◌≢◌, ℕ, ◌+◌, ◌*◌,
 ghost use Rattle.std.specs.Str.Parse.{AllDigits, digits_value};
 ghost use Rattle.script.specs.Reading.{first_end, first_word};
 
-/// A number that a text begins with.
+/// The number with which a text begins.
 #[derive(Clone, Copy)]
 pub struct Front {
     pub number: u64,
-    /// How many bytes of the text it takes.
+    /// How many bytes of the text the number takes.
     pub size: usize,
 }
 
-// To a number below this any digit can be added.
+// A number below this one can take any further digit and stays below 2^64.
 const TENTH: u64 = u64::MAX / 10;
 
-// The number with one digit more, where it is below 2^64.
+// Returns the number with one more digit, or `None` if that is 2^64 or above.
 #[inline(always)]
 fn with_digit(number: u64, digit: u64) -> Option<u64>
     requires { digit < 10 }
@@ -27,7 +27,7 @@ fn with_digit(number: u64, digit: u64) -> Option<u64>
     number.checked_mul(10)?.checked_add(digit)
 }
 
-// The value of the first word of a text, if it is digits alone and below 2^64.
+// Returns the value of the first word of a text, or `None` if that has other bytes than digits or is 2^64 or above.
 #[tactic(auto, using(crate::proofs::FirstWords::ends_here, crate::proofs::FirstWords::first_end_within))]
 fn value_in_front(text: &[u8]) -> Option<Front>
     ensures size { IfSome result (λ front. front.size ≡ first_end text.now) }
@@ -52,7 +52,8 @@ fn value_in_front(text: &[u8]) -> Option<Front>
     })
 }
 
-/// The number whose decimal text, without leading zeros, is the first word of a text.
+/// Returns the number with which a text begins: its first word, in decimal without leading zeros. `None` if that is
+/// no number.
 #[tactic(auto, using(crate::proofs::FirstWords::word_length, crate::proofs::Numbers::decimal_not_empty))]
 #[inline(never)]
 pub fn number_in_front(text: &[u8]) -> Option<Front>

@@ -1,4 +1,4 @@
-// What a line of a script says.
+// Parsing a line of a script.
 ghost use Rattle.std.specs.Prelude.{◌≡◌, ◌≢◌, ℕ, List, ◌∷◌, IsTrue, ◌↔◌, IfSome, IfNone};
 ghost use Rattle.script.specs.declared.keyword.Keyword.{Keyword};
 ghost use Rattle.script.specs.Keywords.{keyword_name};
@@ -12,10 +12,10 @@ use crate::short::{last_registers, order_in};
 use crate::words::Words;
 use model::{Command, Invocation, Line, Operation};
 
-/// The longest line that isn't bad, in bytes.
+/// The most bytes that a line may have and not be bad.
 pub const LONGEST_LINE: usize = 256;
 
-// Takes the first word as a keyword.
+// Takes the first word, and returns its keyword.
 #[inline(always)]
 fn keyword(words: &mut Words<'_>) -> Option<Keyword>
     ensures found { IfSome result (λ k. words.old ≡ keyword_name k ∷ words.new) }
@@ -27,7 +27,7 @@ fn keyword(words: &mut Words<'_>) -> Option<Keyword>
     keyword_of(words.next()?)
 }
 
-// Takes the words that follow the name of an operation.
+// Takes the words that follow the name of an operation, and returns the command.
 #[tactic(auto, unfolding(crate::specs::Reading::invocation_at))]
 fn invocation(operation: Operation, words: &mut Words<'_>) -> Option<Command>
     ensures { Gives result words.new (invocation_at operation words.old) }
@@ -41,7 +41,7 @@ fn invocation(operation: Operation, words: &mut Words<'_>) -> Option<Command>
     }))
 }
 
-// Takes the words that follow a keyword.
+// Takes the words that follow a keyword, and returns the command.
 #[tactic(auto, unfolding(crate::specs::Reading::arguments_at))]
 fn arguments(keyword: Keyword, words: &mut Words<'_>) -> Option<Command>
     ensures { Gives result words.new (arguments_at keyword words.old) }
@@ -79,14 +79,14 @@ fn arguments(keyword: Keyword, words: &mut Words<'_>) -> Option<Command>
     }
 }
 
-// Whether a line says nothing.
+// Whether a line is skipped: it is empty or a comment.
 fn is_skipped(line: &[u8]) -> bool
     ensures { IsTrue result ↔ IsSkipped line.now }
 {
     matches!(line, [] | [b'#', ..])
 }
 
-// The command that the words of the line say.
+// Returns the command on a line, or `None`.
 #[tactic(auto, using(crate::proofs::Commands::no_keyword))]
 fn command_in(line: &[u8]) -> Option<Command>
     ensures found { IfSome result (λ c. Fits c × (words_of line.now ≡ command_words c)) }
@@ -102,7 +102,7 @@ fn command_in(line: &[u8]) -> Option<Command>
     }
 }
 
-// What a line says. Most invocations, loads and stores are read before.
+// Parses any line. The fast readers have read most invocations, loads and stores before.
 #[tactic(auto, using(crate::proofs::Spellings::spelling_said, crate::proofs::Spellings::says_said))]
 #[inline(never)]
 fn other_line(line: &[u8]) -> Line
@@ -121,16 +121,15 @@ fn other_line(line: &[u8]) -> Line
     }
 }
 
-/// What a line of a script says. The line is the bytes before the newline.
+/// Parses a line of a script: the bytes before a newline.
 ///
-/// An empty line and one that begins with `#` say nothing. Any other line says a command if it is
-/// the command's one spelling: its words with one space between each two, numbers decimal without
-/// leading zeros and below 2^64, registers below 32. Anything else is bad, and so is every line of
-/// more than 256 bytes. It takes no memory.
+/// An empty line and one that begins with `#` are skipped. Any other line is a command if it is the only spelling of
+/// one: its words with one space between them, numbers decimal without leading zeros and below 2^64, registers below
+/// 32. Anything else is bad, and so is every line of more than 256 bytes. It takes no memory.
 #[inline(never)]
 pub fn parse_line(line: &[u8]) -> Line
     ensures says { Says line.now result }
-    // A command's spelling is read as that command.
+    // The line of each command is parsed as that command.
     ensures reads { (c : Command) → Fits c → line.now ≡ spelling c → result ≡ Line.Command c }
 {
     if let Some(load) = load_in(line) {
@@ -158,7 +157,8 @@ pub fn parse_line(line: &[u8]) -> Line
             }));
         }
     }
-    // A call's result in a variable of its own leaves the others in the caller's place.
+    // The result of this call has its own variable, so the compiler can build the others directly in the caller's
+    // memory.
     let other = other_line(line);
     other
 }

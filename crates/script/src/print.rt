@@ -11,7 +11,7 @@ use crate::short_line::ShortLine;
 use crate::shown::print_object;
 use model::{Answer, Description, Refusal, Unjournaled};
 
-// The line of the refusal to journal a page.
+// Returns the line of a refusal to journal a page.
 fn unjournaled_line(why: Unjournaled) -> LineText
     ensures text { result ≡ codes "not journaled " ++ decimal (unjournaled_number why) }
     ensures short { length result ≤ 41 }
@@ -22,7 +22,7 @@ fn unjournaled_line(why: Unjournaled) -> LineText
     }
 }
 
-/// The line of a refusal.
+/// Returns the line of a refusal.
 pub fn refusal_line(refusal: Refusal) -> LineText
     ensures text { result ≡ refusal_text refusal }
     ensures short { length result ≤ 41 }
@@ -45,7 +45,7 @@ pub fn refusal_line(refusal: Refusal) -> LineText
     }
 }
 
-/// The line of an answer, or `shown` for an object. It takes no memory.
+/// Returns the line of an answer; for an object the line is `shown`. It takes no memory.
 #[tactic(auto, unfolding(model::specs::Text::printed))]
 pub fn answer_line(answer: &Answer) -> LineText
     ensures text { IsAnswerText answer.now result }
@@ -65,7 +65,7 @@ pub fn answer_line(answer: &Answer) -> LineText
     }
 }
 
-// The line of the place at which the machine stands.
+// Returns the line with the generation and the age at which the machine stands.
 fn place_line(generation: u64, age: u64) -> LineText
     ensures text { result ≡ spaced (codes "at" ∷ decimal generation ∷ decimal age ∷ []) }
     ensures short { length result ≤ 44 }
@@ -75,7 +75,7 @@ fn place_line(generation: u64, age: u64) -> LineText
     line
 }
 
-// Writes a line that has a word and a number.
+// Writes a line with a word and a number.
 #[inline(never)]
 fn print_numbered<W: Output>(word: &[u8], number: u64, writer: &mut W) -> Result<(), RunFault>
     requires { length word.now ≤ 38 }
@@ -88,8 +88,7 @@ fn print_numbered<W: Output>(word: &[u8], number: u64, writer: &mut W) -> Result
     line.print(writer)
 }
 
-// Writes the value that is answered to a load, as `print_numbered` does. The word is known here, so
-// it is copied faster.
+// Writes the answer to a load, as `print_numbered` would. Here the word is a constant, so it is copied faster.
 #[inline(never)]
 fn print_value<W: Output>(value: u64, writer: &mut W) -> Result<(), RunFault>
     ensures { Writes (W.written writer.old) (W.written writer.new) result
@@ -101,7 +100,7 @@ fn print_value<W: Output>(value: u64, writer: &mut W) -> Result<(), RunFault>
     line.print(writer)
 }
 
-// Writes at which generation and age the machine stands.
+// Writes the line with the generation and the age at which the machine stands.
 #[inline(never)]
 fn print_place<W: Output>(generation: u64, age: u64, writer: &mut W) -> Result<(), RunFault>
     ensures { Writes (W.written writer.old) (W.written writer.new) result
@@ -114,7 +113,7 @@ fn print_place<W: Output>(generation: u64, age: u64, writer: &mut W) -> Result<(
     line.print(writer)
 }
 
-// Writes a refusal.
+// Writes the line of a refusal.
 #[inline(never)]
 fn print_refusal<W: Output>(refusal: Refusal, writer: &mut W) -> Result<(), RunFault>
     ensures { Writes (W.written writer.old) (W.written writer.new) result
@@ -139,10 +138,10 @@ fn print_shown<W: Output>(shown: &Description, writer: &mut W) -> Result<(), Run
     writer.write_fully(b"end\n")
 }
 
-/// Writes the text of an answer: one line, or for an object several, with `end` as the last one.
+/// Writes the text of an answer: one line; for an object several, the last of which is `end`.
 ///
-/// `Err(RunFault::Write)` where the writer fails or takes nothing: what was written is then a
-/// beginning of that text. It takes no memory.
+/// Returns `Err(RunFault::Write)` if the writer fails or accepts no bytes; then it accepted only a beginning of the
+/// text. It takes no memory.
 #[tactic(auto, using(crate::proofs::Fronts::writes_same), unfolding(model::specs::Text::printed))]
 pub fn print_answer<W: Output>(answer: &Answer, writer: &mut W) -> Result<(), RunFault>
     ensures { Writes (W.written writer.old) (W.written writer.new) result (printed answer.now) }
@@ -161,10 +160,10 @@ pub fn print_answer<W: Output>(answer: &Answer, writer: &mut W) -> Result<(), Ru
     }
 }
 
-/// Writes what answers a bad line.
+/// Writes the answer to a bad line.
 ///
-/// `Err(RunFault::Write)` where the writer fails or takes nothing: what was written is then a
-/// beginning of that text.
+/// Returns `Err(RunFault::Write)` if the writer fails or accepts no bytes; then it accepted only a beginning of the
+/// text.
 pub fn print_bad_line<W: Output>(writer: &mut W) -> Result<(), RunFault>
     ensures { Writes (W.written writer.old) (W.written writer.new) result bad_line }
 {

@@ -1,4 +1,4 @@
-// A writer, call by call.
+// A writer, with a contract for each of its calls.
 ghost use Rattle.std.specs.Prelude.{◌≡◌, ◌≢◌, ◌<◌, ℕ, List, [], Option, None, length, option_map, IfErr, IfOk, OnOk};
 ghost use Rattle.std.specs.Prelude.{OnErr};
 ghost use Rattle.std.specs.Io.{WritesAtMost};
@@ -10,15 +10,15 @@ ghost use Rattle.script.specs.CallErrors.{CallErrors, more_errors};
 use std::alloc::Allocator;
 use std::io::{self, BufWriter, ErrorKind, Write};
 
-/// A writer, and the errors that its calls returned, where these are known.
+/// A writer. Where it is known, also which of its calls failed.
 pub trait RawWriter {
-    // The bytes that it holds, where they are known.
+    // The bytes that the writer holds, where they are known.
     ghost held: { Self → Option (List ℕ) };
 
-    // The errors so far.
+    // The number of errors so far, where it is known.
     ghost errors: { Self → Option CallErrors };
 
-    /// Writes the first of these bytes, as many as the writer takes, by one call.
+    /// Writes the first of these bytes, as many as the writer accepts, by one call. Returns how many.
     fn put(&mut self, text: &[u8]) -> io::Result<usize>
         ensures bound { WritesAtMost result text.now }
         ensures bytes { WriteAppends (held self.old) (held self.new) result text.now }
@@ -34,10 +34,10 @@ pub trait RawWriter {
 
 /// A writer behind a buffer.
 pub trait RawBuffer: RawWriter {
-    // What it took and didn't pass on.
+    // The bytes that the buffer accepted and didn't pass on.
     ghost buffered: { Self → List ℕ };
 
-    /// Passes on all that it took, by one call.
+    /// Passes on all buffered bytes, by one call.
     fn pass(&mut self) -> io::Result<()>
         ensures bytes { Keeps (Self.held self.old) (Self.held self.new) }
         ensures none_waits { OnOk result (buffered self.new ≡ []) }
@@ -45,7 +45,7 @@ pub trait RawBuffer: RawWriter {
         ensures failed { OnErr result (Self.errors self.new ≡ option_map (more_errors 1 0) (Self.errors self.old)) };
 }
 
-/// Nothing is known of its errors: what they are is trusted.
+/// Nothing is known about the errors of this writer.
 impl<W: Write> RawWriter for W {
     ghost held = { W.contents };
 

@@ -1,4 +1,5 @@
-// The parts of an invocation, each number read at a place of the line. After `None` the line may still say one.
+// Fast readers of the parts of an invocation, at an index of a line. `None` is no proof that the line has no
+// invocation.
 ghost use Rattle.std.specs.Prelude.{◌≡◌, ◌≢◌, ◌+◌, ◌-◌, ◌%◌, ◌/◌, ◌<◌, ◌≤◌, ℕ, List, [], Some, IfSome, length};
 ghost use Rattle.std.specs.Prelude.{drop, take, slice_index_or};
 ghost use Rattle.std.specs.Int.{IsInRange};
@@ -12,31 +13,31 @@ use crate::keyword::{four_at, operation_in};
 use crate::words::register_of;
 use model::{Operation, Register};
 
-// The first four bytes of `0 0 0 0`, and the last four.
+// The first and the last four bytes of `0 0 0 0`, each as one number.
 const VOID_BEGIN: u64 = 0x2030_2030;
 
 const VOID_END: u64 = 0x3020_3020;
 
-// `0 ` and `9 ` as one number each.
+// `0 ` and `9 `, each as one number.
 const ZERO_AND_SPACE: u64 = 0x2030;
 
 const NINE_AND_SPACE: u64 = 0x2039;
 
-// The bytes of the digits, and of a space, as words: a digit's value is a word too.
+// The bytes of the first and the last digit, and of a space. They are `u64`, as the values of digits are.
 const FIRST_DIGIT: u64 = 48;
 
 const LAST_DIGIT: u64 = 57;
 
 const SPACE: u64 = 32;
 
-/// A number of a text, and where the word after it begins.
+/// A number in a text, and where the next word begins.
 #[derive(Clone, Copy)]
 pub struct Short {
     pub number: u64,
     pub next: usize,
 }
 
-// Two bytes of a text as one number in little-endian order.
+// Returns two bytes of a text, from index `at` on, as one little-endian number.
 #[inline(always)]
 fn two_at(text: &[u8], at: usize) -> u64
     requires { at + 1 < length text.now }
@@ -46,7 +47,7 @@ fn two_at(text: &[u8], at: usize) -> u64
     u64::from(text[at]) + u64::from(text[at + 1]) * 0x100
 }
 
-// The value of the digit at a place, if one is there.
+// Returns the value of the digit at an index, or `None` if there is no digit.
 #[inline(always)]
 fn digit_at(text: &[u8], at: usize) -> Option<u64>
     requires { at < length text.now }
@@ -60,7 +61,7 @@ fn digit_at(text: &[u8], at: usize) -> Option<u64>
     Some(byte - FIRST_DIGIT)
 }
 
-// Where the digits at a place end at the latest, if they are at most 19: fewer than those of 2^64.
+// Returns where at most 19 digits from index `at` on may end. A number of 19 digits is below 2^64.
 #[inline(always)]
 fn digits_end(text: &[u8], at: usize) -> usize
     requires { at < length text.now }
@@ -74,8 +75,8 @@ fn digits_end(text: &[u8], at: usize) -> usize
     }
 }
 
-// The number at a place whose first digits, up to `from`, are those of `number`, if it has at most 19
-// and a space follows it. Else `next` is beyond the text.
+// Returns the number whose digits begin at `at`; `number` is the value of those before `from`. If there are more than
+// 19 digits, or no space follows them, `next` is beyond the text.
 #[tactic(auto, using(crate::proofs::ShortNumbers::place_more))]
 #[inline(never)]
 fn digits_before(text: &[u8], at: usize, from: usize, number: u64) -> Short
@@ -109,8 +110,8 @@ fn digits_before(text: &[u8], at: usize, from: usize, number: u64) -> Short
     }
 }
 
-// The number at a place, if it has two or more digits and a space follows it. Else `next` is beyond
-// the text.
+// Returns the number at `at`, if it has two or more digits and a space follows it. Otherwise `next` is beyond the
+// text.
 #[tactic(auto, using(crate::proofs::ShortNumbers::values_up_to_three))]
 #[inline(never)]
 fn longer_before(text: &[u8], at: usize) -> Short
@@ -151,8 +152,8 @@ fn longer_before(text: &[u8], at: usize) -> Short
     digits_before(text, at, at + 3, three)
 }
 
-/// The number at a place, if a space follows it. At least `behind` bytes follow its first byte, and
-/// two fewer the first of the next word.
+/// Returns the number at `at`, if a space follows it. At least `behind` bytes must follow the one at `at`; then at
+/// least `behind - 2` follow the first byte of the next word.
 #[inline(always)]
 pub fn number_before(text: &[u8], at: usize, behind: usize) -> Option<Short>
     requires room { at + behind < length text.now }
@@ -176,14 +177,14 @@ pub fn number_before(text: &[u8], at: usize, behind: usize) -> Option<Short>
     Some(short)
 }
 
-// A register that a text names, and where the word after it begins.
+// A register that a text names, and where the next word begins.
 #[derive(Clone, Copy)]
 struct ShortRegister {
     register: Register,
     next: usize,
 }
 
-// The register at a place, if a space follows its number.
+// Returns the register at `at`, if a space follows its number.
 #[tactic(auto, using(crate::proofs::ShortInvocations::register_reads))]
 #[inline(always)]
 fn register_before(text: &[u8], at: usize, behind: usize) -> Option<ShortRegister>
@@ -200,8 +201,8 @@ fn register_before(text: &[u8], at: usize, behind: usize) -> Option<ShortRegiste
     })
 }
 
-// The number at a place whose first digits, up to `from`, are those of `number`, if it has at most 19
-// and is the last word.
+// Returns the number whose digits begin at `at`, if it is the last word and has at most 19 digits. `number` is the
+// value of the digits before `from`.
 #[tactic(auto, using(crate::proofs::ShortNumbers::place_more, crate::proofs::ShortNumbers::digits_last))]
 #[inline(never)]
 fn last_digits(text: &[u8], at: usize, from: usize, number: u64) -> Option<u64>
@@ -225,7 +226,7 @@ fn last_digits(text: &[u8], at: usize, from: usize, number: u64) -> Option<u64>
     Some(number)
 }
 
-// The number at a place, if it has two or more digits and is the last word.
+// Returns the number at `at`, if it has two or more digits and is the last word.
 #[tactic(auto, using(crate::proofs::ShortNumbers::values_up_to_three))]
 #[inline(never)]
 fn last_longer(text: &[u8], at: usize) -> Option<u64>
@@ -248,7 +249,7 @@ fn last_longer(text: &[u8], at: usize) -> Option<u64>
     last_digits(text, at, at + 3, number)
 }
 
-/// The number at a place, if it is the last word.
+/// Returns the number at `at`, if it is the last word.
 #[tactic(auto, using(crate::proofs::ShortNumbers::last_one_found))]
 #[inline(always)]
 pub fn last_number(text: &[u8], at: usize) -> Option<u64>
@@ -261,7 +262,7 @@ pub fn last_number(text: &[u8], at: usize) -> Option<u64>
     digit_at(text, at)
 }
 
-// The register at a place, if it is the last word.
+// Returns the register at `at`, if it is the last word.
 #[inline(always)]
 fn last_register(text: &[u8], at: usize) -> Option<Register>
     requires { at < length text.now }
@@ -270,7 +271,7 @@ fn last_register(text: &[u8], at: usize) -> Option<Register>
     register_of(last_number(text, at)?)
 }
 
-/// The registers at a place, if they are the last words. Mostly nothing is sent.
+/// Returns the four registers at `at`, if they are the last words. Most are `0 0 0 0`, which is tried first.
 #[tactic(auto, using(crate::proofs::ShortInvocations::void_read, crate::proofs::ShortInvocations::registers_read))]
 #[inline(always)]
 pub fn last_registers(text: &[u8], at: usize) -> Option<[Register; 4]>
@@ -291,14 +292,14 @@ pub fn last_registers(text: &[u8], at: usize) -> Option<[Register; 4]>
     Some([first.register, second.register, third.register, fourth])
 }
 
-// Four numbers of a text, and where the word after them begins.
+// Four numbers in a text, and where the next word begins.
 #[derive(Clone, Copy)]
 struct Shorts {
     numbers: [u64; 4],
     next: usize,
 }
 
-// The four numbers at a place, if four more can follow.
+// Returns the four numbers at `at`, if the line is long enough for four more.
 #[tactic(auto, using(crate::proofs::ShortInvocations::numbers_read))]
 #[inline(always)]
 fn numbers_before(text: &[u8], at: usize) -> Option<Shorts>
@@ -317,7 +318,7 @@ fn numbers_before(text: &[u8], at: usize) -> Option<Shorts>
     })
 }
 
-/// What a line says of an invocation before the registers that it sends, and where those begin.
+/// The part of an invocation before the registers that it sends, and where these begin.
 #[derive(Clone, Copy)]
 pub struct Order {
     pub operation: Operation,
@@ -327,7 +328,7 @@ pub struct Order {
     pub next: usize,
 }
 
-/// How the line of an invocation begins. After `None` the line may still say one.
+/// Returns the beginning of an invocation's line. `None` may also mean that the general parser must decide.
 #[inline(always)]
 pub fn order_in(line: &[u8]) -> Option<Order>
     ensures reads { IfSome result (λ o. (sent : List ℕ)

@@ -1,4 +1,4 @@
-// Short lines that are put together before they are written.
+// Short lines that are assembled before they are written.
 ghost use Rattle.std.specs.Prelude.{◌≡◌, ◌+◌, ◌<◌, ◌≤◌, [], ◌∷◌, ◌++◌, length, decimal};
 ghost use Rattle.model.specs.Text.{line_of};
 ghost use Rattle.script.specs.Writing.{Writes};
@@ -8,8 +8,8 @@ use crate::output::Output;
 use itoa::Buffer;
 use std::marker::Model;
 
-/// A line of text of at most 60 bytes that is put together before it is written. A `LineText` has
-/// room for more, which takes time to clear.
+/// A line of text of at most 60 bytes that is assembled before it is written. A `LineText` is longer, and takes more
+/// time to clear.
 #[derive(Drop)]
 pub struct ShortLine {
     bytes: [u8; 60],
@@ -27,7 +27,7 @@ impl Model for ShortLine {
 }
 
 impl ShortLine {
-    /// A line of no text.
+    /// Returns an empty line.
     #[inline(always)]
     pub fn empty() -> Self
         ensures { result ≡ [] }
@@ -38,7 +38,7 @@ impl ShortLine {
         }
     }
 
-    /// Adds the text.
+    /// Appends a text.
     #[inline(always)]
     pub fn push(&mut self, text: &[u8])
         requires { length self.old + length text.now ≤ 60 }
@@ -49,7 +49,7 @@ impl ShortLine {
         self.size = end;
     }
 
-    // Adds the byte.
+    // Appends a byte.
     #[inline(always)]
     fn byte(&mut self, byte: u8)
         requires { length self.old < 60 }
@@ -59,7 +59,7 @@ impl ShortLine {
         self.size += 1;
     }
 
-    /// Adds a space and the number.
+    /// Appends a space and a number.
     #[tactic(auto, using(crate::proofs::Texts::one_digit_text))]
     #[inline(always)]
     pub fn number(&mut self, number: u64)
@@ -75,7 +75,7 @@ impl ShortLine {
         }
     }
 
-    // Adds a space and the number.
+    // Appends a space and a number of any length.
     #[inline(never)]
     fn long_number(&mut self, number: u64)
         requires { length self.old + 21 ≤ 60 }
@@ -87,7 +87,7 @@ impl ShortLine {
         self.push(buffer.format(number).as_bytes());
     }
 
-    /// Writes the line, and a newline. What it then holds isn't said.
+    /// Writes the line and a newline. Afterwards the line may hold any text.
     #[inline(always)]
     pub fn print<W: Output>(&mut self, writer: &mut W) -> Result<(), RunFault>
         requires { length self.old < 60 }

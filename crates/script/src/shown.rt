@@ -1,4 +1,4 @@
-// The text of an object.
+// Writing the text of an object.
 ghost use Rattle.std.specs.Prelude.{◌≡◌, ◌<◌, ◌≤◌, [], ◌∷◌, ◌++◌, map, length, codes, decimal};
 ghost use Rattle.model.specs.Text.{spaced, headed, capability_text, state_text, word_line, word_lines, capability_line};
 ghost use Rattle.model.specs.Text.{capability_lines, line_of, registers_of, object_text};
@@ -9,7 +9,7 @@ use crate::line_text::LineText;
 use crate::output::Output;
 use model::{Capability, Content, Object, Root, Slots, State};
 
-// Begins the line `NAME number owner OWNER` with the part that is the same for all objects.
+// Begins a line with `NAME number owner OWNER`, as for all objects.
 fn begin_heading(line: &mut LineText, name: &[u8], number: u64, owner: u64)
     requires { length name.now ≤ 8 }
     ensures text { line.new ≡ spaced (headed name.now number owner) }
@@ -20,7 +20,7 @@ fn begin_heading(line: &mut LineText, name: &[u8], number: u64, owner: u64)
     line.named(b"owner", owner);
 }
 
-/// The word of a state.
+/// Returns the word for a state.
 pub fn state_word(state: State) -> &'static [u8]
     ensures word { result.now ≡ state_text state }
     ensures short { length result.now ≤ 9 }
@@ -32,7 +32,7 @@ pub fn state_word(state: State) -> &'static [u8]
     }
 }
 
-// Begins the first line of a process.
+// Writes the first line of a process into `line`, without the newline.
 fn begin_process(line: &mut LineText, number: u64, owner: u64, root: &Root<Capability>)
     ensures text { line.new ≡ spaced (headed (codes "process") number owner
         ++ (codes "annex" ∷ decimal root.now.annex ∷ state_text root.now.state
@@ -50,7 +50,7 @@ fn begin_process(line: &mut LineText, number: u64, owner: u64, root: &Root<Capab
     line.capability(root.space);
 }
 
-// Begins the line of a bank.
+// Writes the line of a bank into `line`, without the newline.
 #[tactic(auto, using(crate::proofs::Texts::bank_text))]
 fn begin_bank(line: &mut LineText, number: u64, owner: u64, limit: u64, used: u64)
     ensures text { line.new ≡ spaced (headed (codes "bank") number owner
@@ -62,7 +62,7 @@ fn begin_bank(line: &mut LineText, number: u64, owner: u64, limit: u64, used: u6
     line.named(b"used", used);
 }
 
-// Writes the line of a word that isn't 0.
+// Writes the line of one word, unless the word is 0.
 #[tactic(auto, using(crate::proofs::Fronts::writes_same))]
 fn print_word<W: Output>(
     line: &mut LineText,
@@ -82,7 +82,7 @@ fn print_word<W: Output>(
     line.print(writer)
 }
 
-// Writes the lines of the words that aren't 0.
+// Writes the lines of all words that aren't 0.
 fn print_words<W: Output>(
     line: &mut LineText,
     words: &[u64],
@@ -96,7 +96,7 @@ fn print_words<W: Output>(
     Ok(())
 }
 
-// Writes the line of a capability that isn't void.
+// Writes the line of one capability, unless it is void.
 #[tactic(auto, using(crate::proofs::Fronts::writes_same, crate::proofs::Texts::capability_has_line))]
 fn print_capability<W: Output>(
     line: &mut LineText,
@@ -118,7 +118,7 @@ fn print_capability<W: Output>(
     line.print(writer)
 }
 
-// Writes the lines of the capabilities that aren't void.
+// Writes the lines of all capabilities that aren't void.
 fn print_capabilities<W: Output>(
     line: &mut LineText,
     name: &[u8],
@@ -135,7 +135,7 @@ fn print_capabilities<W: Output>(
     Ok(())
 }
 
-// Writes a line, and then the lines of the capabilities that aren't void.
+// Writes `line`, then the lines of all capabilities that aren't void.
 fn print_holder<W: Output>(
     line: &mut LineText,
     name: &[u8],
@@ -151,7 +151,7 @@ fn print_holder<W: Output>(
     print_capabilities(line, name, capabilities, writer)
 }
 
-// The registers, or none where there are none.
+// Returns the registers, or no capabilities if there are no registers.
 fn held_by(registers: &Option<Slots<Capability>>) -> &[Capability]
     ensures { result.now ≡ registers_of registers.now }
 {
@@ -161,7 +161,7 @@ fn held_by(registers: &Option<Slots<Capability>>) -> &[Capability]
     }
 }
 
-/// Writes the lines of an object but the last.
+/// Writes the lines of an object, except the last, `end`.
 #[tactic(auto, using(crate::proofs::Fronts::writes_same, crate::proofs::Texts::object_free))]
 #[inline(never)]
 pub fn print_object<W: Output>(

@@ -12,14 +12,14 @@ use crate::number::number_in_front;
 use model::Register;
 use std::marker::Model;
 
-// Where the first space is.
+// Returns the index of the first space.
 fn first_space(bytes: &[u8]) -> Option<usize>
     ensures { result ≡ position (λ b. b == 32) bytes.now }
 {
     bytes.iter().position(|byte| *byte == b' ')
 }
 
-// What follows the space after the first word of a text, if there is a space.
+// Returns the text after the space at `end`, where the first word ends, or `None` if there is no space.
 #[tactic(auto, using(crate::proofs::Split::word_and_more, crate::proofs::Split::word_alone))]
 fn behind_first(text: &[u8], end: usize) -> Option<&[u8]>
     requires { end ≡ first_end text.now }
@@ -33,7 +33,7 @@ fn behind_first(text: &[u8], end: usize) -> Option<&[u8]>
     }
 }
 
-/// The register of a number, where a process has it.
+/// Returns the register with a number, or `None` if processes don't have it.
 #[inline(always)]
 pub fn register_of(number: u64) -> Option<Register>
     ensures register { IfSome result (λ r. r ≡ number) }
@@ -45,7 +45,7 @@ pub fn register_of(number: u64) -> Option<Register>
     }
 }
 
-/// The words of a line that are left, with one space between each two.
+/// The words of a line that weren't taken yet, with one space between them.
 #[derive(Drop)]
 pub struct Words<'a> {
     rest: Option<&'a [u8]>,
@@ -62,14 +62,14 @@ impl<'a> Model for Words<'a> {
 }
 
 impl<'a> Words<'a> {
-    /// The words of a line.
+    /// Returns all words of a line.
     pub fn new(line: &'a [u8]) -> Self
         ensures { result ≡ words_of line.now }
     {
         Words { rest: Some(line) }
     }
 
-    /// The same words.
+    /// Returns a copy: taking words from it leaves the original.
     pub fn copy(&self) -> Words<'a>
         ensures { result ≡ self.now }
     {
@@ -103,8 +103,8 @@ impl<'a> Words<'a> {
         }
     }
 
-    /// Takes one of the words that most lines begin with, where it is the next one and its numbers
-    /// can follow.
+    /// Takes the next word if it is `load`, `store` or an operation, with which most lines begin, and the line is
+    /// long enough for its numbers. Otherwise takes nothing and returns `None`.
     #[inline(always)]
     pub fn common_keyword(&mut self) -> Option<Keyword>
         ensures taken { IfSome result (λ k. self.old ≡ keyword_name k ∷ self.new) }
@@ -160,7 +160,7 @@ impl<'a> Words<'a> {
         register_of(self.number()?)
     }
 
-    /// Takes four numbers.
+    /// Takes the next four words as numbers.
     #[tactic(auto, unfolding(crate::specs::Reading::numbers_at))]
     pub fn numbers(&mut self) -> Option<[u64; 4]>
         ensures { Gives result self.new (numbers_at self.old) }
@@ -173,7 +173,7 @@ impl<'a> Words<'a> {
         ])
     }
 
-    /// Takes the numbers of four registers.
+    /// Takes the next four words as the numbers of registers.
     #[tactic(auto, unfolding(crate::specs::Reading::registers_at))]
     pub fn registers(&mut self) -> Option<[Register; 4]>
         ensures { Gives result self.new (registers_at self.old) }

@@ -19,7 +19,7 @@ weights_rise weight m (suc n) le =
 abbrev pub AreBelow : ℕ → List ℕ → Type 0
 AreBelow bound hs = (k : ℕ) → get_or hs k 0 ≤ bound
 
--- numbers up to a bound, weighted, are at most the bound as often as there are weights
+-- the weighted sum of numbers up to a bound is at most the bound times the sum of the weights
 weighted_most : (weight : ℕ → ℕ) (bound : ℕ) (hs : List ℕ) → AreBelow bound hs → weighted weight hs ≤ weights weight (length hs) * bound
 weighted_most weight bound [] small = omega arith
 weighted_most weight bound (h ∷ hs) small =

@@ -13,7 +13,7 @@ pub number_there : (row : List ℕ) (k : ℕ) → k < length row / 4 → get_or 
 unfolding numbers
 number_there row k lt = get_or-map-range_with_len (λ (j : ℕ). little_number 4 (drop (4 * j) row)) 0 (length row / 4) k k 0 lt (omega arith)
 
--- a number by its four bytes
+-- a number as the sum of its four bytes, weighted
 number_of : (row : List ℕ) (at : ℕ) → little_number 4 (drop at row)
     ≡ get_or row (at + 0) 0 + 256 * (get_or row (at + 1) 0 + 256 * (get_or row (at + 2) 0 + 256 * get_or row (at + 3) 0))
 number_of row at = omega (arith, get_or-drop at row 0 0, get_or-drop at row 1 0, get_or-drop at row 2 0, get_or-drop at row 3 0)
@@ -57,7 +57,7 @@ same_number x y k len same =
           )
     ]
 
--- and a number tells its four bytes
+-- a number determines its four bytes
 four_bytes : (a b c d e f g h : ℕ) → a < 256 → b < 256 → c < 256 → d < 256 → e < 256 → f < 256 → g < 256 → h < 256 →
     a + 256 * (b + 256 * (c + 256 * d)) ≡ e + 256 * (f + 256 * (g + 256 * h))
     → (a ≡ e) × (b ≡ f) × (c ≡ g) × (d ≡ h)
@@ -81,7 +81,7 @@ byte_back x y at bx by same j lt =
     (sym (number_of x at) ∙ same ∙ number_of y at) in
     one_of_four (λ (i : ℕ). get_or x (at + i) 0) (λ (i : ℕ). get_or y (at + i) 0) all.0 all.1 all.2 all.3 j lt
 
--- rows with the same numbers are the same
+-- rows with the same numbers are equal
 pub same_rows : (x y : List ℕ) → AreBytes x → AreBytes y → length x % 4 ≡ 0 → length x ≡ length y → numbers x ≡ numbers y → x ≡ y
 same_rows x y bx by whole len same =
     same_lists x y len (λ i d lt.

@@ -56,7 +56,7 @@ none_left s t [] same = same
 none_left s t (h ∷ hs) same = let next = none_left (step s h) (step t h) hs same in
     (omega (arith, next), omega (arith, next), omega (arith, next))
 
--- before it, b and c make up for a
+-- before the last difference, b and c balance the difference in a
 record IsBalanced (s t : Sums) : Type 0 where
   pub less_b : s.a < t.a → t.b ≤ s.b
   pub less_c : s.a < t.a → s.c ≤ t.c
@@ -106,7 +106,7 @@ one_left s t (x ∷ xs) (y ∷ ys) len few same =
           }
     ]
 
--- if all three are greater, two differences don't make them the same again
+-- if all three sums are greater, two differences don't make them equal again
 two_left : (s t : Sums) (xs ys : List ℕ) → length xs ≡ length ys → differences xs ys ≤ 2 → t.a < s.a → t.b < s.b → t.c < s.c →
     Same (run s xs) (run t ys) → ⊥
 two_left s t [] [] len few a b c same = omega (arith, same)
@@ -126,7 +126,7 @@ two_left s t (x ∷ xs) (y ∷ ys) len few a b c same =
           ]
     ]
 
--- from the same sums on, three differences change one of them
+-- from equal sums on, at most three differences change one of the sums
 three_left : (s : Sums) (xs ys : List ℕ) → length xs ≡ length ys → differences xs ys ≤ 3 → Same (run s xs) (run s ys) → xs ≡ ys
 three_left s [] [] len few same = refl
 three_left s [] (y ∷ ys) len few same = absurd (omega (arith, len))
@@ -157,7 +157,7 @@ three_told xs ys len few e =
     let runs : run (sums []) xs ≡ run (sums []) ys = run_is xs ∙ e ∙ sym (run_is ys) in
     three_left (sums []) xs ys len few (ap (λ (s : Sums). s.a) runs, ap (λ (s : Sums). s.b) runs, ap (λ (s : Sums). s.c) runs)
 
--- b and c tell two differences: with one number more, which makes up for a, the lists differ at three places
+-- b and c reveal two differences: with one more number, which balances a, the lists differ at three places
 pub two_told : (xs ys : List ℕ) → length xs ≡ length ys → differences xs ys ≤ 2 → weighted place xs ≡ weighted place ys →
     weighted triangle xs ≡ weighted triangle ys → xs ≡ ys
 two_told xs ys len few b c =

@@ -10,7 +10,7 @@ use Rattle.seal.proofs.Weights.{same_sums}
 is_row : (row : List ℕ) → AreBytes row → length row % 4 ≡ 0 → length row ≤ 4096 → IsRow row
 is_row row bytes whole size = record { bytes = All-from_get_or (λ b. b < 256) row 0 (λ i lt. bytes i); whole = whole; size = size }
 
--- after the seal there is nothing
+-- a row has no bytes after its seal
 nothing_behind : (row : List ℕ) → 24 ≤ length row → drop (length row - 24 + 24) row ≡ []
 nothing_behind row room = drop_all (length row - 24 + 24) row (omega (arith, room))
 

@@ -8,13 +8,13 @@ use borrow.Rule.Slice.PartMut.{put_mid}
 use Rattle.seal.proofs.Numbers.{AreBytes}
 use Rattle.seal.proofs.Weights.{same_sums}
 
--- each of the three fits eight bytes
+-- each of the three sums fits eight bytes
 pub record AreWords (s : Sums) : Type 0 where
   pub a : s.a < 2 ^ 64
   pub b : s.b < 2 ^ 64
   pub c : s.c < 2 ^ 64
 
--- its bytes decide a number, whatever follows
+-- the bytes of a number determine it, whatever follows
 number_first : (m n : ℕ) (x y : List ℕ) → m < 2 ^ 64 → n < 2 ^ 64 → little_bytes 8 m ++ x ≡ little_bytes 8 n ++ y → (m ≡ n) × (x ≡ y)
 number_first m n x y small small' e =
     (sym (little_number-reads_back 8 m x small) ∙ ap (little_number 8) e ∙ little_number-reads_back 8 n y small', ap (drop 8) e)
@@ -25,7 +25,7 @@ two_numbers a b d e a' b' d' e' same =
     let first = number_first a d (little_bytes 8 b) (little_bytes 8 e) a' d' same in
     (first.0, (number_first b e [] [] b' e' first.1).0)
 
--- given bytes spell one value
+-- given bytes encode one value of sums
 pub one_spelling : (s t : Sums) → AreWords s → AreWords t → sums_bytes s ≡ sums_bytes t → s ≡ t
 unfolding sums_bytes
 one_spelling s t small small' e =
@@ -34,7 +34,7 @@ one_spelling s t small small' e =
     let rest = two_numbers s.b s.c t.b t.c small.b small.c small'.b small'.c first.1 in
     same_sums s t first.0 rest.0 rest.1
 
--- after the first eight bytes they spell b and c
+-- after the first eight bytes they encode b and c
 pub tail_spelling : (s t : Sums) → AreWords s → AreWords t → drop 8 (sums_bytes s) ≡ drop 8 (sums_bytes t) → (s.b ≡ t.b) × (s.c ≡ t.c)
 unfolding sums_bytes
 tail_spelling s t small small' e = two_numbers s.b s.c t.b t.c small.b small.c small'.b small'.c e
@@ -52,7 +52,7 @@ length_sums s = refl
 as_le : (xs : List ℕ) → little_number 8 xs ≡ from_le_bytes w64 xs
 as_le xs = omega arith
 
--- eight bytes are those of the number in them
+-- eight bytes are the encoding of the number that they encode
 number_back : (xs : List ℕ) → length xs ≡ 8 → AreBytes xs → little_bytes 8 (little_number 8 xs) ≡ xs
 number_back xs l small = le_bytes_8 xs (little_number 8 xs) l small (as_le xs)
 
@@ -102,7 +102,7 @@ written bytes buf at n room is =
     ap (λ (t : List ℕ). little_bytes 8 n ++ t) (drop-drop 8 at bytes) in
     rw (past, whole, append-nil) (sym (append_assoc (take at bytes) (little_bytes 8 n) (drop (at + 8) bytes)))
 
--- one number after another
+-- writing one number after another
 behind : (old mid new front number : List ℕ) (at : ℕ) → length front ≡ at → length number ≡ 8 → mid ≡ front ++ drop at old →
     new ≡ (take at mid ++ number) ++ drop (at + 8) mid → new ≡ (front ++ number) ++ drop (at + 8) old
 behind old mid new front number at len eight was is =

@@ -2,16 +2,16 @@
 ghost use Rattle.seal.specs.Laws.{BodiesDecideSeals, BurstsBreakSeals, BurstsChangeSums, FewChangesChangeSums, SumsFit};
 ghost use Rattle.seal.specs.Laws.{ZerosAreSealed};
 
-/// A change of at most three numbers of 4 bytes changes the sums of a row, and so does a burst of at most 64 bits. A
-/// sealed row with such a burst, also in its seal, isn't sealed. It does nothing: its contract is the law.
+/// If at most three numbers of 4 bytes in a row change, or a burst of at most 64 bits, its sums change. A sealed row
+/// with such a burst, even in its seal, isn't sealed any more. The function does nothing: its contract is the law.
 pub fn damage_is_seen()
     ensures numbers { FewChangesChangeSums }
     ensures burst { BurstsChangeSums }
     ensures sealed { BurstsBreakSeals }
 {}
 
-/// The sums of a row are below 2^60. A row of zeros is sealed. Sealed rows with the same body are the same. It does
-/// nothing: its contract is the law.
+/// The sums of a row are below 2^60. A row of zeros is sealed. Sealed rows with the same body are the same. The
+/// function does nothing: its contract is the law.
 pub fn seals_are_sums()
     ensures size { SumsFit }
     ensures zeros { ZerosAreSealed }

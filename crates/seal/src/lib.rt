@@ -1,4 +1,5 @@
-//! Seals of rows of bytes. A sealed row ends in the sums of the bytes before: a change of few bits breaks its seal.
+//! Seals of rows of bytes. A sealed row ends in the sums of the bytes before them: a change of few bits breaks the
+//! seal.
 #![tactic(auto)]
 
 mod laws;

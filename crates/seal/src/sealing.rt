@@ -4,7 +4,7 @@ ghost use Rattle.seal.specs.Seal.{IsSealed, body_of};
 
 use crate::sums::{SUMS_BYTES, put_sums, sums_at, sums_of};
 
-/// Whether the last 24 bytes of a row of at most 4096 are the sums of those before.
+/// Whether the last 24 bytes of a row of at most 4096 are the sums of the bytes before them.
 pub fn is_sealed(row: &[u8]) -> bool
     requires whole { length row.now % 4 ≡ 0 }
     requires room { 24 ≤ length row.now }
@@ -15,7 +15,7 @@ pub fn is_sealed(row: &[u8]) -> bool
     sums_at(row, body) == sums_of(&row[..body])
 }
 
-/// Seals a row of at most 4096 bytes: writes the sums of the others into its last 24. The others stay.
+/// Seals a row of at most 4096 bytes: writes the sums of all but its last 24 bytes into these 24. The others stay.
 pub fn seal(row: &mut [u8])
     requires whole { length row.old % 4 ≡ 0 }
     requires room { 24 ≤ length row.old }

@@ -1,4 +1,4 @@
-// The sums of a row of bytes, and their own bytes.
+// The sums of a row of bytes, and the bytes of sums.
 ghost use Rattle.std.specs.Prelude.{◌≡◌, ◌+◌, ◌^◌, ◌<◌, ◌≤◌, ◌%◌, ◌++◌, length, take, drop};
 ghost use Rattle.byteorder.specs.Endian.{little_bytes};
 ghost use Rattle.seal.specs.Sums.{Fit, sums_bytes, sums_of};
@@ -8,18 +8,18 @@ use byteorder::{ByteOrder, LittleEndian};
 /// How many bytes sums take.
 pub const SUMS_BYTES: usize = 24;
 
-/// The sums of a row of bytes. They tell it from every row that differs in at most three numbers of 4 bytes.
+/// The sums of a row of bytes. A row that differs in at most three numbers of 4 bytes has other sums.
 #[derive(Clone, Copy, PartialEq, Eq)]
 pub struct Sums {
-    /// The sum of the row's numbers of 4 bytes.
+    /// The sum of all numbers of 4 bytes in the row.
     pub a: u64,
-    /// Their sum, each times its place k, counted from the end: the last has place 1.
+    /// The sum of these numbers, each times its place k, counted from the end: the last number has place 1.
     pub b: u64,
-    /// Their sum, each times k (k + 1) / 2.
+    /// The sum of these numbers, each times k (k + 1) / 2.
     pub c: u64,
 }
 
-/// Returns the sums of a row of at most 4096 bytes, whole numbers of 4. Each sum is below 2^60.
+/// Returns the sums of a row of at most 4096 bytes, whose length is a multiple of 4. Each sum is below 2^60.
 pub fn sums_of(row: &[u8]) -> Sums
     requires whole { length row.now % 4 ≡ 0 }
     requires size { length row.now ≤ 4096 }

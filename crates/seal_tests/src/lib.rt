@@ -1,4 +1,4 @@
-//! Tests of sums and seals by values that a program in Python computed from their definition.
+//! Tests of sums and seals against values that a Python program computed from their definition.
 #![tactic(auto)]
 
 #[cfg(test)]

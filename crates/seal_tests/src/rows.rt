@@ -2,7 +2,7 @@
 use seal::{Sums, is_sealed, seal, sums_of};
 use std::process::Abort;
 
-// A row whose byte i is first + step * i modulo 256, and its sums.
+// A row whose byte i is (first + step * i) modulo 256, and the sums of the row.
 struct Row {
     first: u8,
     step: u8,
@@ -36,7 +36,7 @@ const BODIES: &[Row] = &[
     },
 ];
 
-// Rows of 4096 bytes. The second has the greatest sums.
+// Rows of 4096 bytes. The second has the greatest sums that are possible.
 const WORDS: &[Row] = &[
     Row {
         first: 9,
@@ -58,7 +58,7 @@ const WORDS: &[Row] = &[
     },
 ];
 
-// The seal of 488 bytes that count from 1 on.
+// The seal of 488 bytes 1, 2, 3, .. (modulo 256).
 const SEAL: [u8; 24] = [
     206, 129, 252, 118, 58, 0, 0, 0, 195, 248, 112, 221, 15, 12, 0, 0, 120, 137, 108, 154, 180,
     196, 1, 0,

@@ -141,7 +141,7 @@ none_committed image closed h is =
 
 -- ---- at each moment
 
--- from a durable disk on
+-- closing a gate on a durable disk
 pub gate_run : {at : ℕ} {keeps : Image → Type 0} {old mid new : Disk} → Only mid.seen mid → LeavesOnly old mid keeps
     → ((c : Image) → Elsewhere at 1 mid.seen c → keeps c) → LeavesOnly mid new (λ c. IsTorn at 1 mid c) → LeavesOnly old new keeps
 gate_run {at} {keeps} {old} {mid} {new} durable before here run =
@@ -149,14 +149,14 @@ gate_run {at} {keeps} {old} {mid} {new} durable before here run =
     (leaves_weaker {old = mid} {new = new} {P = λ c. IsTorn at 1 mid c} keeps
     (λ c torn. here c (subst (λ (image : Image). Elsewhere at 1 image c) (agrees_is torn.0 mid.seen (durable torn.0 torn.1)) torn.2)) run)
 
--- the first of them
+-- closing the first gate
 pub first_run : {at : ℕ} {keeps : Image → Type 0} {old new : Disk} → Only old.seen old → ((c : Image) → Elsewhere at 1 old.seen c → keeps c)
     → LeavesOnly old new (λ c. IsTorn at 1 old c) → LeavesOnly old new keeps
 first_run {at} {keeps} {old} {new} durable here run =
     leaves_weaker {old = old} {new = new} {P = λ c. IsTorn at 1 old c} keeps
     (λ c torn. here c (subst (λ (image : Image). Elsewhere at 1 image c) (agrees_is torn.0 old.seen (durable torn.0 torn.1)) torn.2)) run
 
--- what a read gives where a run ends has what a crash leaves
+-- after a run, a read returns an image with the property that each crash leaves
 pub seen_has : {old new : Disk} {P : Image → Type 0} → LeavesOnly old new P → CountsNow new → new.may_leave new.seen → P new.seen
 seen_has {old} {new} {P} run counts_now left = ends run counts_now new.seen left
 
@@ -172,7 +172,7 @@ pub peek_run : {old new : Disk} → Peeks old new → LeavesOnly old new (λ c. 
 peek_run {old} {new} run = leaves_weaker {old = old} {new = new} {P = old.may_leave} (λ c. WasKeptOrHasNone old c)
     (λ c left. (c, left, untouched)) run
 
--- and what closes the gates after them
+-- a run after which the gates are closed
 pub closing_run : {old mid new : Disk} → old.may_leave old.seen → Agrees mid.seen old.seen
     → LeavesOnly old mid (λ c. WasKeptOrHasNone old c) → LeavesOnly mid new (λ c. KeepsOrHasNone mid.seen c) →
     LeavesOnly old new (λ c. WasKeptOrHasNone old c)

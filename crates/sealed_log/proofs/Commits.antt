@@ -23,7 +23,7 @@ use Rattle.sealed_log.proofs.Slots.{are_slots, one_commits, opens_in, same_gate,
 
 -- ---- one sector is torn
 
--- another sector stays
+-- all other sectors stay
 pub beside : (at i : ℕ) (d c : Image) → Elsewhere at 1 d c → (i ≡ at → ⊥) → c i ≡ d i
 beside at i d c torn other =
     elim (cases_lt i at) [
@@ -44,14 +44,14 @@ no_gate j k e = let is : 8 + 16 * k ≡ 16 + 16 * j = e in omega (arith, is)
 no_header : (j k : ℕ) → gate_sector k ≡ header_sector j → ⊥
 no_header j k e = let is : 16 + 16 * k ≡ 8 + 16 * j = e in omega (arith, is)
 
--- so the other slots stay, if it is that of a header
+-- so all other slots stay, if it is the sector of a header
 others_by_header : (j : ℕ) (d c : Image) → Elsewhere (header_sector j) 1 d c → OthersStay j (slots_in d) (slots_in c)
 others_by_header j d c torn k other =
     same_slot c d (slots_in c) (slots_in d) k (are_slots c) (are_slots d)
     (beside (header_sector j) (header_sector k) d c torn (λ e. other (same_headers j k e)))
     (beside (header_sector j) (gate_sector k) d c torn (no_header j k))
 
--- or that of a gate
+-- and if it is the sector of a gate
 pub others_by_gate : (j : ℕ) (d c : Image) → Elsewhere (gate_sector j) 1 d c → OthersStay j (slots_in d) (slots_in c)
 others_by_gate j d c torn k other =
     same_slot c d (slots_in c) (slots_in d) k (are_slots c) (are_slots d)
@@ -67,7 +67,7 @@ module _ (before h : SealedHeader) (next : before.header.sequence + 1 ≡ h.head
   slot : h.header.sequence % 3 ≡ (s + 1) % 3
   slot = ap (λ (n : ℕ). n % 3) (sym next)
 
-  -- while its header is written
+  -- the old header stays committed while the new one is being written
   pub header_torn : (d c : Image) → Commits d before → Elsewhere (header_at h) 1 d c → Commits c before
   header_torn d c was torn =
       let here : Elsewhere (header_sector ((s + 1) % 3)) 1 d c = subst (λ (k : ℕ). Elsewhere (header_sector k) 1 d c) slot torn in
@@ -84,7 +84,7 @@ module _ (before h : SealedHeader) (next : before.header.sequence + 1 ≡ h.head
         fits = was.fits;
       }
 
-  -- while its gate is written
+  -- either header is committed while the new gate is being written
   module _ (fits : AreWords (header_numbers h)) (m c : Image) (was : Commits m before) (written : m (header_at h) ≡ sealed_header_bytes h)
       (torn : Elsewhere (gate_at h) 1 m c) where
     there : c (header_sector ((s + 1) % 3)) ≡ sealed_header_bytes h
@@ -131,7 +131,7 @@ module _ (before h : SealedHeader) (next : before.header.sequence + 1 ≡ h.head
 
 -- ---- from a disk whose writes aren't durable
 
--- what is committed on one image and on another stays so
+-- if the same header is committed on two images, it stays committed from one to the other
 stays_by : (seen c : Image) (before : SealedHeader) → Commits seen before → Commits c before → StaysCommitted seen c
 stays_by seen c before was now = λ g is. subst (λ (h : SealedHeader). Commits c h) (one_commits seen before g was is) now
 
@@ -157,7 +157,7 @@ header_order h {at} {old} {new} place run =
     leaves_weaker {old = old} {new = new} {P = λ c. IsTorn at 1 old c} (λ c. IsInOrder h old c)
     (λ c torn. inl (subst (λ (i : ℕ). IsTorn i 1 old c) place torn)) run
 
--- the header is durable, and with it all that was written before
+-- the header is durable, and so is all that was written before
 pub record IsReady (h : SealedHeader) (old mid : Disk) : Type 0 where
   pub fits : AreWords (header_numbers h)
   pub one : CommitsOne old
@@ -226,7 +226,7 @@ module _ {h : SealedHeader} {old mid : Disk} (ready : IsReady h old mid) where
     committed = gate_written ready.next.0 h ready.next.2 ready.fits mid.seen c still ready.written torn gate;
   }
 
--- what is durable is one
+-- on a durable disk each crash leaves the same committed header
 pub durable_one : (disk : Disk) → Only disk.seen disk → CommitsOne disk
 durable_one disk only = λ c left h is. subst (λ (image : Image). Commits image h) (sym (agrees_is c disk.seen (only c left))) is
 

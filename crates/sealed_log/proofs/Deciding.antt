@@ -62,7 +62,7 @@ behind n k rest =
     ap (λ (m : ℕ). drop m (number n ++ rest)) next ∙ sym (drop-drop (8 * k) 8 (number n ++ rest))
     ∙ ap (drop (8 * k)) (drop_at (number n) rest 8 (length-number n))
 
--- a number is read from its place
+-- a number is read at its place
 word_there : (ns rest : List ℕ) (k : ℕ) → AreWords ns → k < length ns → little_number 8 (drop (8 * k) (words_bytes ns ++ rest))
     ≡ get_or ns k 0
 unfolding words_bytes
@@ -91,7 +91,7 @@ sector_known ns bytes count fits e =
     ∙ ap (λ (l : List ℕ). little_number 8 (drop (8 * k) l)) whole ∙ word_there ns (blank ++ seal) k fits there
     ∙ sym (get_or_default ns k d 0 there))
 
--- the bytes of a header tell which it is
+-- the bytes of a header determine it
 pub header_known : (h : SealedHeader) (bytes : List ℕ) → AreWords (header_numbers h) → bytes ≡ sealed_header_bytes h →
     sealed_header_from (eleven bytes) ≡ h
 unfolding sealed_header_bytes

@@ -26,7 +26,7 @@ headers_stay slot old new torn k =
 both_stay : (a b c : Slots) → HeadersStay a b → HeadersStay b c → HeadersStay a c
 both_stay a b c one two k = ((two k).0 ∙ (one k).0, (two k).1 ∙ (one k).1)
 
--- the header in the slot of one that counts has its number
+-- a header that counts, in the slot of one that counted before, has the same number
 same_number : (old new : Slots) (m n : ℕ) → HeadersStay old new → Counts old m → Counts new n → n % 3 ≡ m % 3 → n ≡ m
 same_number old new m n stay was is e =
     same_Some n m (sym is.header ∙ (stay (n % 3)).0 ∙ ap (λ (k : ℕ). (old k).header) e ∙ was.header)
@@ -51,7 +51,7 @@ other_gate slots m t is e other gate = other (same_Some (t + 1) m (sym gate ∙ 
 -- ---- in order
 
 module _ (old : Slots) (o : Order) (is : IsOrder old o) where
-  -- where another header counts, that in the first slot does
+  -- if another header counts, the one in the first slot counts
   first_counts : (n : ℕ) → Counts old n → (n % 3 ≡ o.first → ⊥) → (m : ℕ) × (m % 3 ≡ o.first) × Counts old m × (m < n)
   first_counts n it other =
       elim (cases_eq (n % 3) o.second) [
@@ -98,7 +98,7 @@ module _ (old : Slots) (o : Order) (is : IsOrder old o) where
     abbrev m : ℕ
     m = lowest.0
 
-    -- what counts now counted before
+    -- a header that counts now counted before
     counted_before : (n : ℕ) → Counts new n → Counts old n
     counted_before n it =
         elim (cases_eq (n % 3) o.first) [

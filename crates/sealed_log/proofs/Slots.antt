@@ -14,7 +14,7 @@ use Rattle.sealed_log.proofs.Deciding.{eleven, header_known, number_or_not, one_
 
 -- ---- what is decided is an option
 
--- a number that has P, if there is one
+-- the only number with property P, if there is one
 abbrev pub IsThe : (ℕ → Type 0) → Option ℕ → Type 0
 IsThe P it = (s : ℕ) → (it ≡ Some s) ↔ P s
 
@@ -55,7 +55,7 @@ are_slots image = record {
   bytes = λ k. refl;
 }
 
--- the same header sector, the same header
+-- equal header sectors hold the same header
 pub same_header : (c d : Image) (a b : Slots) (k : ℕ) → AreSlots c a → AreSlots d b → c (header_sector k) ≡ d (header_sector k) →
     (a k).header ≡ (b k).header
 same_header c d a b k ia ib e =
@@ -63,7 +63,7 @@ same_header c d a b k ia ib e =
     (λ s is. (ib.header k s).1 (subst (λ (bytes : List ℕ). IsSound bytes s) e ((ia.header k s).0 is)))
     (λ s is. (ia.header k s).1 (subst (λ (bytes : List ℕ). IsSound bytes s) (sym e) ((ib.header k s).0 is)))
 
--- the same gate sector, the same gate
+-- equal gate sectors hold the same gate
 pub same_gate : (c d : Image) (a b : Slots) (k : ℕ) → AreSlots c a → AreSlots d b → c (gate_sector k) ≡ d (gate_sector k) →
     (a k).gate ≡ (b k).gate
 same_gate c d a b k ia ib e =
@@ -98,7 +98,7 @@ opens_in image h is =
     subst (λ (s : Slots). Opens s h.header.sequence (sealed_header_bytes h)) (one_slots image is.slots (slots_in image) is.are (are_slots image))
     is.opens
 
--- an image has one committed header at most
+-- an image has at most one committed header
 pub one_commits : (image : Image) (g h : SealedHeader) → Commits image g → Commits image h → g ≡ h
 one_commits image g h a b =
     let first = opens_in image g a in

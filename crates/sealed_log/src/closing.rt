@@ -43,7 +43,7 @@ fn goes_first(slots: &[SlotNumbers], i: u64, j: u64) -> bool
     }
 }
 
-// Returns the order of all three slots. Slot `i` goes before slot `j`, and neither is slot 2.
+// Returns the order of all three slots. Of the other two, slot `i` goes before slot `j`; neither is slot 2.
 fn with_last(slots: &[SlotNumbers], i: u64, j: u64) -> Order
     requires slots { length slots.now ≡ 3 }
     requires first { i < 2 }
@@ -86,7 +86,7 @@ fn order_of(slots: &[SlotNumbers]) -> Order
     }
 }
 
-// Returns the order for the headers of a device.
+// Returns the order for the headers that a device has now.
 fn read_order<D: Device>(device: &mut D) -> Result<Order, Failed>
     requires inside { 56 ≤ (D.disk device.old).sectors }
     ensures order { IfOk result (λ order. IsOrderOf (D.disk device.old).seen order) }
@@ -114,7 +114,7 @@ fn close_gate<D: Device>(device: &mut D, slot: u64) -> Result<(), Failed>
     put_sector(device, gate_sector(slot), &gate)
 }
 
-// Closes the gates in this order, each with a sync. All writes must be durable before.
+// Closes the gates in this order, each with a sync. All earlier writes must be durable already.
 fn close_in_order<D: Device>(device: &mut D, order: Order) -> Result<(), Failed>
     requires inside { 56 ≤ (D.disk device.old).sectors }
     requires order { IsOrderOf (D.disk device.old).seen order }

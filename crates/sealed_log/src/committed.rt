@@ -11,8 +11,7 @@ ghost use Rattle.sealed_log.specs.Reading.{HasNoneBy, IsChosen, number_of, numbe
 use crate::opening::{HeaderSlot, read_slots};
 use device::Device;
 use header_slots::{NotCommitted, SlotNumbers, committed};
-use layout::{BadImage, OpenFault};
-use layout::{SealedHeader, is_within_limits};
+use layout::{BadImage, OpenFault, SealedHeader, is_within_limits};
 
 // Returns the sequence number of a header.
 fn number_of(header: Option<SealedHeader>) -> Option<u64>
@@ -45,7 +44,7 @@ pub(crate) fn numbers_of(slots: &[HeaderSlot]) -> [SlotNumbers; 3]
     ]
 }
 
-// Returns the header with a sequence number that is committed.
+// Returns the committed header, whose sequence number is given.
 fn header_of(slots: &[HeaderSlot], sequence: u64) -> SealedHeader
     requires slots { length slots.now ≡ 3 }
     requires committed { IsCommitted (numbered slots.now) sequence }
@@ -77,7 +76,7 @@ fn reason_of(why: NotCommitted) -> BadImage
     }
 }
 
-// Returns the committed header of three slots, if it is within its limits.
+// Returns the committed header of three slots, if its fields are within their limits.
 #[tactic(auto, using(crate::proofs::Reading::refused_by, crate::proofs::Reading::beyond_by))]
 fn choose(slots: &[HeaderSlot], room: u64) -> Result<SealedHeader, BadImage>
     requires { length slots.now ≡ 3 }

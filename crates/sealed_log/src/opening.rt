@@ -9,7 +9,7 @@ use crate::sector::read_sector;
 use device::{Device, Failed, SECTOR_SIZE};
 use layout::{SealedHeader, decode_numbered_gate, decode_sealed_header};
 
-/// What a header slot holds.
+/// The content of a header slot.
 #[derive(Clone, Copy)]
 pub(crate) struct HeaderSlot {
     /// The header, if it is sound.

@@ -22,12 +22,13 @@ fn slot_of(header: SealedHeader) -> u64
 }
 
 /// Commits a header, with two syncs. After `Ok` each crash leaves it committed, and all earlier writes are durable.
-/// Returns `Failed` exactly if the device failed; then a crash leaves the old header committed, or this one.
+/// Returns `Failed` exactly if the device failed; then a crash leaves the old header committed, or the new one.
 ///
-/// Its sequence number must be the next after that of the committed header, and each crash before the call must leave
-/// that header. What the header speaks of needs no sync of its own: it is durable before the gate is written.
+/// The new sequence number must follow that of the committed header, and each crash before the call must leave the
+/// old header committed. Frames and directories that the new header names need no sync of their own: they are durable
+/// before the gate is written.
 ///
-/// It writes only the header's own slot: the header, then its gate.
+/// It writes only the slot of the new header: the header, then its gate.
 pub fn publish<D: Device>(device: &mut D, header: SealedHeader) -> Result<(), Failed>
     requires inside { 56 ≤ (D.disk device.old).sectors }
     requires one { CommitsOne (D.disk device.old) }
@@ -42,8 +43,8 @@ pub fn publish<D: Device>(device: &mut D, header: SealedHeader) -> Result<(), Fa
     ensures size { (D.disk device.new).sectors ≡ (D.disk device.old).sectors }
     ensures elsewhere { SparesRest header (D.disk device.old).seen (D.disk device.new).seen }
 
-    // A crash at any moment leaves the old header committed, or this one. With this one it leaves all that was written
-    // before the call.
+    // A crash at any moment leaves the old header committed, or this one. If it leaves this one, it also leaves all
+    // that was written before the call.
     ensures any_moment { LeavesOnly (D.disk device.old) (D.disk device.new)
         (λ c. IsOldOrNew header (D.disk device.old) c) }
 

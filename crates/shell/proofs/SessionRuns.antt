@@ -26,7 +26,7 @@ use Rattle.shell.specs.declared.request.Request.TheVariants as request
 
 module _ {D S : Type 0} (disk : D → Disk) (view : S → View D) (parts : S → Parts) where
   module _ (g : Geometry) where
-    -- some turns lead from one kernel to another
+    -- a run of some turns leads from one kernel to another
     abbrev Runs : Power D S → Power D S → Type 0
     Runs old new = (m : Machine) → Stands disk view parts g old m → (turns : List Turn) × IsRunOf disk view parts g m old new turns
 

@@ -62,7 +62,7 @@ module _ {D S : Type 0} (disk : D → Disk) (view : S → View D) (parts : S →
       (t, subst (λ (x : Session D S). StepsBy disk view parts topics prompts l x t (Ok true)) same step, refl)
   served_more (k ∷ ks) l s mid t served step = (served.0, served.1, served_more ks l served.0 mid t served.2 step)
 
-  -- one line more
+  -- a session with one more line
   pub more : (their_topics : List Topic) (theirs : Bool) → their_topics ≡ topics → theirs ≡ prompts →
       (ahead now later : Option (List (List ℕ))) (s mid t : Session D S) (l : List ℕ) → SoFar ahead now s mid → Takes now later (l ∷ []) →
       StepsBy disk view parts their_topics theirs l mid t (Ok true) → SoFar ahead later s t
@@ -88,7 +88,7 @@ module _ {D S : Type 0} (disk : D → Disk) (view : S → View D) (parts : S →
         (subst (λ (p : Bool). Finishes disk view parts their_topics p last later mid t r) same_prompts ends),
   )
 
-  -- what had been written couldn't be passed on
+  -- passing on what was written before the session failed
   pub not_begun : (ahead : Option (List (List ℕ))) (s : Session D S) (last : Written) (e : RunFault) → e ≡ fault.Write →
       WroteFront s.output last [] → ServesFrom disk view parts topics prompts ahead ahead s (record s { output = last }) (Err e)
   not_begun ahead s last e is failed = inr (rw is refl, refl, failed, refl)

@@ -21,7 +21,7 @@ use Rattle.shell.specs.Served.{ReadsLine, lines_to}
 use Rattle.shell.specs.declared.typed_lines.LineEnd.{LineEnd}
 use Rattle.shell.specs.declared.typed_lines.LineEnd.TheVariants as end
 
--- one byte more of a line, which isn't its end
+-- one more byte of a line, which isn't its newline
 byte_more : (begun rest : List ℕ) (b : ℕ) → b ≢ 10 → lines_from begun (b ∷ rest) ≡ lines_from (begun ++ b ∷ []) rest
 byte_more [] rest b other = let differs : (b == 10) ≡ false = grind (arith, nat_tests) in rw differs refl
 byte_more (c ∷ begun) rest b other = ap (onto_first c) (byte_more begun rest b other)
@@ -48,7 +48,7 @@ from_joined c [] rest = onto_first_one (lines_of rest)
     onto_first_one (l ∷ ls) = refl
 from_joined c (d ∷ begun) rest = ap (onto_first c) (from_joined d begun rest) ∙ onto_joined c (d ∷ begun) (lines_of rest)
 
--- a line of more than 256 bytes is read as its first 257
+-- of a line of more than 256 bytes the first 257 are kept
 read_long : (begun more : List ℕ) → 257 ≤ length begun → read_as (begun ++ more) ≡ take 257 begun
 read_long begun more full =
     let long : nat_lt 256 (length (begun ++ more)) ≡ true = lt-ltb 256 (length (begun ++ more))
@@ -72,7 +72,7 @@ byte_dropped (c ∷ begun) rest b other full =
     ap (map read_as) (from_joined c begun (b ∷ rest)) ∙ rw differs (dropped (c ∷ begun) b (lines_of rest) full)
     ∙ sym (ap (map read_as) (from_joined c begun rest))
 
--- at the end of the input what was read is the last line
+-- at the end of the input the bytes that were read are the last line
 at_end : (begun : List ℕ) → lines_from begun [] ≡ lines_to end.Input begun
 at_end [] = refl
 at_end (c ∷ begun) = from_joined c begun []
@@ -92,7 +92,7 @@ module _ (first : Option (List (List ℕ))) (begun : List ℕ) where
       nothing (Some ls) (Some xs) None read takes = absurd read
       nothing (Some ls) (Some xs) (Some ys) read takes = takes ∙ ap (λ (t : List ℕ). map read_as (lines_from begun t)) read
 
-  -- a byte of the line was read, and kept if it is one of the first
+  -- a byte of the line was read, and kept if it is one of the first 257
   pub byte_read : (old new : Option (List ℕ)) (b : ℕ) (after : List ℕ) → b ≢ 10 → IsKept begun b after →
       Consumes old new (b ∷ []) → Takes first (lines_ahead begun old) [] → Takes first (lines_ahead after new) []
   byte_read old new b after other is = more first old new
@@ -123,7 +123,7 @@ module _ (first : Option (List (List ℕ))) (begun : List ℕ) where
       whole (Some ls) (Some xs) (Some ys) read takes =
           takes ∙ ap (λ (t : List ℕ). map read_as (lines_from begun t)) read ∙ ap (map read_as) (newline begun ys)
 
-  -- the input is at its end
+  -- the input has ended
   pub end_read : (old new : Option (List ℕ)) → Consumes old new [] × IsAtEnd new → Takes first (lines_ahead begun old) [] →
       ReadsLine first new begun end.Input
   end_read old new read takes = (whole first old new read takes, read.1)
@@ -140,7 +140,7 @@ module _ (first : Option (List (List ℕ))) (begun : List ℕ) where
 
 -- ---- a line that was taken
 
--- what was read is the next line
+-- the line that was read is the next one
 pub line_taken : (old : Option (List (List ℕ))) (rest : Option (List ℕ)) (line : List ℕ) (e : LineEnd) → ReadsLine old rest line e →
     (e ≡ end.Input → line ≡ [] → ⊥) → Takes old (lines_ahead [] rest) (read_as line ∷ [])
 line_taken old rest line e reads some = taken e line reads.0 some
@@ -162,14 +162,14 @@ read_short line words short is =
     let tested : nat_lt 256 (length line) ≡ false = grind (arith, nat_tests) in
     is ∙ sym (rw tested refl)
 
--- the input ended after a line, or it is none
+-- the input ended after a line, or there was no line
 pub not_last : (r : Bool) (A B : Type 0) → IsTrue r ↔ (A × B) → r ≡ false → A → B → ⊥
 not_last r A B is none a b = let holds : IsTrue r = is.1 (a, b) in cc
 
 pub is_read : (r : Bool) (A B : Type 0) → IsTrue r ↔ (A × B) → r ≡ true → A × B
 is_read r A B is holds = is.0 holds
 
--- there was no line
+-- there was no further line
 none_ahead : (rest : Option (List ℕ)) → IsAtEnd rest → NoneAhead (lines_ahead [] rest)
 none_ahead None ends = tt
 none_ahead (Some xs) ends = ap (λ (t : List ℕ). map read_as (lines_of t)) ends
@@ -188,7 +188,7 @@ one_byte old new (x ∷ []) p b d reads is one at =
     subst (λ (y : ℕ). Consumes old new (y ∷ [])) at (subst (λ (q : Piece). ReadsPiece old new (x ∷ []) (Ok q)) is reads).1
 one_byte old new (x ∷ y ∷ ys) p b d reads is one at = absurd (omega (arith, one))
 
--- a byte makes a line at most one longer
+-- one byte makes the kept line longer by at most one
 pub kept_length : (old new : List ℕ) (b : ℕ) → IsKept old b new → length new ≤ length old + 1
 kept_length old new b is = ⊎_elim
     (λ fits. omega (arith, ap length fits.1, length-append old (b ∷ [])))

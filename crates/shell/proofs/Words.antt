@@ -7,11 +7,11 @@ use Rattle.std.specs.Prelude.{if◌then◌else◌, nat_lt, slice_index_or}
 use Rattle.model.specs.Text.{spaced}
 use Rattle.shell.specs.Lines.{is_blank, words_in}
 
--- a byte of a word is added to the words before it
+-- the words after one more byte of a word
 abbrev pub added : List ℕ → Bool → ℕ → List ℕ
 added words apart b = (if apart && nat_lt 0 (length words) then words ++ 32 ∷ [] else words) ++ b ∷ []
 
--- the words before, and those of what follows, where a blank may stand between
+-- the words so far, then those of the rest; a blank may come between
 abbrev pub going_on : List ℕ → Bool → List ℕ → List ℕ
 going_on words apart [] = words
 going_on words apart (b ∷ bs) = cond (is_blank b) (going_on words true bs) (going_on (added words apart b) false bs)
@@ -42,7 +42,7 @@ spaced_longer : (b : ℕ) (f : List ℕ) (ps : List (List ℕ)) → spaced ((b �
 spaced_longer b f [] = refl
 spaced_longer b f (p ∷ ps) = refl
 
--- after a part that goes on
+-- the words after a part that continues a word
 spaced_behind : (words : List ℕ) (b : ℕ) (f : List ℕ) (ps : List (List ℕ)) →
     behind ((words ++ b ∷ []) ++ f) ps ≡ words ++ spaced ((b ∷ f) ∷ ps)
 spaced_behind words b f [] = append_assoc words (b ∷ []) f

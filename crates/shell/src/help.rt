@@ -1,15 +1,15 @@
-// What a shell says of its commands.
+// The help texts of a shell.
 ghost use Rattle.std.specs.Prelude.{◌≡◌, ◌≢◌, MatchOption};
 ghost use Rattle.std.specs.List.{All, Any};
 ghost use Rattle.shell.specs.Served.{WritesHelp};
 
 use script::Output;
 
-/// A word, and what is said of it.
+/// A topic of the help: a word, and the text about it.
 pub struct Topic {
-    /// The word that follows `help`, or none.
+    /// The word that follows `help`, or empty for `help` alone.
     pub word: &'static [u8],
-    /// Lines for a person.
+    /// The text, in lines for a person.
     pub text: &'static [u8],
 }
 
@@ -156,7 +156,7 @@ Orders of a bank: 1 page, 2 node, 3 process, 4 sub-bank (W1 limit), 5 free (C0),
     },
 ];
 
-// The text of a topic with this word.
+// Returns the text of the topic with a word, or `None`.
 fn text_in<'t>(topics: &'t [Topic], word: &[u8]) -> Option<&'t [u8]>
     ensures { MatchOption result (All (λ t. t.word.now ≢ word.now) topics.now)
         (λ text. Any (λ t. (t.word.now ≡ word.now) × (text.now ≡ t.text.now)) topics.now) }
@@ -169,7 +169,7 @@ fn text_in<'t>(topics: &'t [Topic], word: &[u8]) -> Option<&'t [u8]>
     None
 }
 
-/// Writes what the topics say of a word. A text that can't be written is left out.
+/// Writes the text of the topic with a word, or that there is none. A failure to write is ignored.
 pub(crate) fn help_on<V: Output>(topics: &[Topic], word: &[u8], notes: &mut V)
     ensures { WritesHelp topics.now word.now (V.written notes.old) (V.written notes.new) }
 {

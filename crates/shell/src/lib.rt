@@ -1,4 +1,4 @@
-//! A shell over a kernel: what is typed, and what the shell answers itself.
+//! A shell over a kernel: reading the lines that a person types, and the answers that the shell gives itself.
 #![tactic(auto)]
 
 mod help;

@@ -1,4 +1,4 @@
-// A line as a shell reads it.
+// The form in which a shell reads a line.
 ghost use Rattle.std.specs.Prelude.{◌≡◌, ◌&&◌, ◌+◌, ◌≤◌, ◌∷◌, [], ◌++◌, ◌==◌, ◌<◌, IfSome, if◌then◌else◌, length, nat_lt, true};
 ghost use Rattle.std.specs.List.{position};
 ghost use Rattle.shell.specs.Lines.{before_comment, read_as, words_in};
@@ -7,7 +7,7 @@ ghost use Rattle.model.specs.Text.{spaced};
 
 use arrayvec::ArrayVec;
 
-/// How many bytes of a line are kept: a line of more than 256 is bad.
+/// How many bytes of a line are kept. A line with more than 256 is bad, so one more is enough.
 pub(crate) const MOST: usize = 257;
 
 fn is_blank(byte: u8) -> bool
@@ -24,7 +24,7 @@ fn first_hash(bytes: &[u8]) -> Option<usize>
     bytes.iter().position(|byte| *byte == b'#')
 }
 
-// What stands before the comment of a line.
+// Returns the part of a line before its comment.
 fn without_comment(line: &[u8]) -> &[u8]
     ensures before { result.now ≡ before_comment line.now }
     ensures short { length result.now ≤ length line.now }
@@ -33,7 +33,7 @@ fn without_comment(line: &[u8]) -> &[u8]
     &line[..end]
 }
 
-// Adds a byte of a word, after a space if another word stands before it.
+// Appends a byte of a word. If `is_apart` and there are bytes before, appends a space first.
 fn add(words: &mut ArrayVec<u8, MOST>, is_apart: bool, byte: u8)
     requires room { length words.old.items + 1 ≤ 257 }
     requires apart { is_apart ≡ true → length words.old.items + 2 ≤ 257 }
@@ -46,7 +46,7 @@ fn add(words: &mut ArrayVec<u8, MOST>, is_apart: bool, byte: u8)
     words.push(byte);
 }
 
-// The words of a text, with one space between each two.
+// Returns the words of a text, with one space between them.
 #[tactic(auto, using(crate::proofs::Words::blank_read, crate::proofs::Words::byte_added))]
 fn spaced_words(text: &[u8]) -> ArrayVec<u8, MOST>
     requires { length text.now ≤ 257 }
@@ -66,7 +66,8 @@ fn spaced_words(text: &[u8]) -> ArrayVec<u8, MOST>
     words
 }
 
-/// A line as a shell reads it, of at most 257 bytes.
+/// Returns a line of at most 257 bytes without its comment, and with one space between words. A line of 257 bytes
+/// stays as it is, since it is bad.
 #[tactic(auto, using(crate::proofs::ShellLines::read_short, crate::proofs::ShellLines::read_whole))]
 pub(crate) fn reading_of(line: &[u8]) -> ArrayVec<u8, MOST>
     requires { length line.now ≤ 257 }

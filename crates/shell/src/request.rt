@@ -1,21 +1,21 @@
-// The words that a shell answers itself.
+// The lines that a shell answers itself.
 ghost use Rattle.shell.specs.Lines.{IsRequest};
 
-/// What a line requests of a shell.
+/// What a line asks the shell to do.
 pub(crate) enum Request<'a> {
-    /// The line is for the machine.
+    /// To pass the line to the machine.
     Pass,
-    /// To explain a word, or to list all commands where the word is empty.
+    /// To write the help about a word, or about all commands if the word is empty.
     Help(&'a [u8]),
-    /// To list what is there.
+    /// To list all objects.
     List,
-    /// To save all.
+    /// To save the present state.
     Save,
     /// To end.
     Quit,
 }
 
-/// What a line requests of a shell.
+/// Returns what a line asks the shell to do.
 pub(crate) fn request_of(line: &[u8]) -> Request<'_>
     ensures { IsRequest line.now result }
 {

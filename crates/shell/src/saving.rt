@@ -1,4 +1,4 @@
-// Saving all in a shell.
+// Saving the present state in a shell.
 ghost use Rattle.std.specs.Prelude.{◌≡◌, ◌≤◌, [], OnOk, length};
 ghost use Rattle.model.specs.Text.{line_of};
 ghost use Rattle.script.specs.Writing.{Writes};
@@ -11,7 +11,8 @@ use model::{Answer, Refusal};
 use runs::{Unsaved, commit_all, migrate_all};
 use script::{LineText, Output, RunFault, refusal_line};
 
-/// Saves all, as `eros run --save` does. Once that is committed, nothing is unsaved.
+/// Saves the present state, as `eros run --save` does. Once it is committed, `unsaved` records that nothing is
+/// unsaved.
 pub(crate) fn save_all<D: Device, S: ObjectStore<D>>(
     kernel: &mut Kernel<D, S>,
     unsaved: &mut Unsaved,
@@ -23,7 +24,7 @@ pub(crate) fn save_all<D: Device, S: ObjectStore<D>>(
     migrate_all(kernel, committed)
 }
 
-/// The line that answers a request to save.
+/// Returns the line that answers a request to save.
 pub(crate) fn saved_line(saved: Result<Answer, Refusal>) -> LineText
     ensures text { result ≡ saved_text saved }
     ensures short { length result ≤ 41 }
@@ -34,7 +35,7 @@ pub(crate) fn saved_line(saved: Result<Answer, Refusal>) -> LineText
     }
 }
 
-/// Writes a line and passes it on. `RunFault::Write` if a call of the writer failed.
+/// Writes a line and passes it on. Returns `RunFault::Write` if a call of the writer failed.
 pub(crate) fn print_line<W: Output>(line: LineText, writer: &mut W) -> Result<(), RunFault>
     requires { length line ≤ 300 }
     ensures writes { Writes (W.written writer.old) (W.written writer.new) result (line_of line) }

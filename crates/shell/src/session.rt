@@ -1,4 +1,4 @@
-// What a shell does with each line.
+// A session: what a shell does with each line.
 ghost use Rattle.std.specs.Prelude.{◌≡◌, ◌≢◌, ◌&&◌, ◌||◌, [], IfErr, IsErrOf, OnOk, codes, false, not};
 ghost use Rattle.script.specs.Writing.{Writes};
 ghost use Rattle.runs.specs.KernelRuns.{IsCounted};
@@ -20,20 +20,20 @@ use kernel::Kernel;
 use runs::{RawReader, Unsaved, run_line};
 use script::{Output, RunFault};
 
-/// A shell over a kernel. It answers `help`, `help WORD`, `list`, `save`, `quit` and `exit` itself, and gives all other lines to
-/// the machine. Help, prompts and remarks go to `notes`.
+/// A shell over a kernel. It carries out `help`, `help WORD`, `list`, `save`, `quit` and `exit` itself, and passes
+/// all other lines to the machine. Help, prompts and remarks go to `notes`.
 #[derive(Drop)]
 pub struct Shell<V> {
     notes: V,
     topics: &'static [Topic],
     is_prompting: bool,
-    // What the lines so far did that isn't committed.
+    // Records whether the lines so far did something that isn't committed.
     unsaved: Unsaved,
-    // The last line was to end it, and it asked.
+    // Whether the last line was to end the shell, and the shell asked about unsaved work.
     is_asked: bool,
 }
 
-// Writes a text for a person, if one is there.
+// Writes a text for a person if `is_there`. A failure to write is ignored.
 fn note<V: Output>(is_there: bool, text: &[u8], notes: &mut V)
     ensures { Notes is_there text.now (V.written notes.old) (V.written notes.new) }
 {
@@ -43,7 +43,8 @@ fn note<V: Output>(is_there: bool, text: &[u8], notes: &mut V)
 }
 
 impl<V: Output> Shell<V> {
-    /// A shell that served no line, and explains these topics. It greets, prompts and asks if `is_prompting`.
+    /// Returns a shell that carried out no line, with these help topics. If `is_prompting`, it greets, prompts, and
+    /// asks about unsaved work.
     pub fn new(mut notes: V, topics: &'static [Topic], is_prompting: bool) -> Shell<V>
         ensures topics { result.topics.now ≡ topics.now }
         ensures prompts { result.is_prompting ≡ is_prompting }
@@ -65,14 +66,14 @@ impl<V: Output> Shell<V> {
         }
     }
 
-    /// What the lines so far did that isn't committed.
+    /// Returns the record of whether the lines so far did something that isn't committed.
     pub fn unsaved(&self) -> Unsaved
         ensures { result ≡ self.now.unsaved }
     {
         self.unsaved
     }
 
-    // Gives a line to the machine, and says of it what there is to say.
+    // Passes a line to the machine, and then writes the remark about it, if there is one.
     fn run<D: Device, S: ObjectStore<D>, W: Output>(
         &mut self,
         line: &[u8],
@@ -96,7 +97,7 @@ impl<V: Output> Shell<V> {
         ran
     }
 
-    // Lists what is there.
+    // Lists all objects.
     fn list<D: Device, S: ObjectStore<D>, W: Output>(
         &mut self,
         kernel: &mut Kernel<D, S>,
@@ -116,7 +117,7 @@ impl<V: Output> Shell<V> {
         }
     }
 
-    // Saves all, and writes the answer.
+    // Saves the present state, and writes the answer.
     fn save<D: Device, S: ObjectStore<D>, W: Output>(
         &mut self,
         kernel: &mut Kernel<D, S>,
@@ -137,7 +138,7 @@ impl<V: Output> Shell<V> {
         }
     }
 
-    // Asks, if something isn't committed and it didn't just ask. Returns whether it asked.
+    // Asks about unsaved work, if there is some and the previous line didn't ask. Returns whether it asked.
     fn asks(&mut self) -> bool
         ensures quits { Quits self.old.is_prompting self.old.unsaved self.old.is_asked self.new.is_asked
             (V.written self.old.notes) (V.written self.new.notes) result }
@@ -155,7 +156,8 @@ impl<V: Output> Shell<V> {
         asks
     }
 
-    // Serves a line, and returns whether the shell goes on. `RunFault::Write` if an answer couldn't be written.
+    // Carries out a line, and returns whether the shell goes on. Returns `RunFault::Write` if an answer couldn't be
+    // written.
     fn serve<D: Device, S: ObjectStore<D>, W: Output>(
         &mut self,
         line: &[u8],
@@ -184,7 +186,7 @@ impl<V: Output> Shell<V> {
         }
     }
 
-    // Serves lines up to one that ends the shell, or the end of the input.
+    // Carries out lines up to one that ends the shell, or to the end of the input.
     fn serve_lines<D: Device, S: ObjectStore<D>, R: RawReader, W: Output>(
         &mut self,
         lines: &mut TypedLines<R>,
@@ -217,13 +219,15 @@ impl<V: Output> Shell<V> {
         }
     }
 
-    /// Serves lines over a kernel, each before it reads the next, up to `quit`, `exit` or the end of the input. The
-    /// answers go to `writer`. Each is passed on before the next line is read, and before what is noted of its line.
+    /// Carries out lines over a kernel, each before it reads the next, up to `quit`, `exit` or the end of the input.
+    /// The answers go to `writer`. Each is passed on before the next line is read, and before the remark about its
+    /// line is written.
     ///
-    /// Where something isn't committed, `quit` asks once if the shell prompts.
+    /// If the shell prompts and there is unsaved work, `quit` asks once about it.
     ///
-    /// `RunFault::Read` exactly if a read failed: then no line was taken. `RunFault::Write` exactly if a call of the writer
-    /// failed: then only the answer to the last line may be cut short.
+    /// Returns `RunFault::Read` exactly if a read failed: then the line that was being read isn't carried out.
+    /// Returns `RunFault::Write` exactly if a call of the writer failed: then only the answer to the last line may be
+    /// cut short.
     pub fn serve_all<D: Device, S: ObjectStore<D>, R: RawReader, W: Output>(
         &mut self,
         lines: &mut TypedLines<R>,

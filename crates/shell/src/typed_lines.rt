@@ -1,4 +1,4 @@
-// The lines that a shell is given.
+// The lines that a shell reads.
 ghost use Rattle.std.specs.Prelude.{◌≡◌, ◌+◌, ◌<◌, ◌∷◌, [], IfErr, IfOk, IsErr, IsTrue, MatchOption, OnErr, OnOk};
 ghost use Rattle.std.specs.Prelude.{◌↔◌, length};
 ghost use Rattle.runs.specs.KernelRuns.{IsCounted};
@@ -11,7 +11,7 @@ use arrayvec::ArrayVec;
 use runs::{Piece, RawReader, Script, ScriptReader};
 use script::{Output, RunFault};
 
-// Where what was read of a line ends.
+// Where the reading of a line ended.
 #[derive(Clone, Copy)]
 enum LineEnd {
     /// At its newline.
@@ -20,15 +20,15 @@ enum LineEnd {
     Input,
 }
 
-/// The lines that a shell is given.
+/// The lines that a shell reads.
 #[derive(Drop)]
 pub struct TypedLines<R> {
     reader: ScriptReader<R>,
-    // What was read of a line that isn't whole.
+    // The part of a line that was read before its end.
     line: ArrayVec<u8, MOST>,
 }
 
-// Whether the input ended before a line began.
+// Whether the input ended before another line began.
 fn is_last(end: LineEnd, line: &[u8]) -> bool
     ensures { IsTrue result ↔ ((end ≡ LineEnd.Input) × (line.now ≡ [])) }
 {
@@ -38,7 +38,7 @@ fn is_last(end: LineEnd, line: &[u8]) -> bool
     }
 }
 
-// Keeps a byte of a line, if it is one of the first 257.
+// Keeps a byte of a line if it is one of the first 257, and drops it otherwise.
 fn keep(line: &mut ArrayVec<u8, MOST>, byte: u8)
     ensures { IsKept line.old.items byte line.new.items }
 {
@@ -47,7 +47,8 @@ fn keep(line: &mut ArrayVec<u8, MOST>, byte: u8)
     }
 }
 
-// Reads the rest of a line, whose beginning was read before. `RunFault::Read` if a read fails: then no line is taken.
+// Reads the rest of a line; `line` has the part that was read before. Returns `RunFault::Read` if a read fails: then
+// no line is returned.
 #[tactic(auto, using(crate::proofs::ShellLines::none_read))]
 fn read_line<R: RawReader, W: Output>(
     reader: &mut ScriptReader<R>,
@@ -80,7 +81,7 @@ fn read_line<R: RawReader, W: Output>(
 }
 
 impl<R: RawReader> TypedLines<R> {
-    /// Reads lines from `inner`.
+    /// Returns the lines of the reader `inner`.
     pub fn new(inner: R) -> TypedLines<R>
         ensures failures { failed_reads result.reader ≡ 0 }
         ensures inner { read_from result.reader ≡ inner }
@@ -92,8 +93,8 @@ impl<R: RawReader> TypedLines<R> {
         }
     }
 
-    /// The next line, as a shell reads it, or `None` at the end of the input. `RunFault::Read` if a read fails: then no
-    /// line is taken.
+    /// Returns the next line, in the form in which a shell reads it, or `None` at the end of the input. Returns
+    /// `RunFault::Read` if a read fails: then no line is returned.
     pub(crate) fn next<W: Output>(
         &mut self,
         output: &W,

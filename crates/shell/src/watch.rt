@@ -1,4 +1,4 @@
-// What a shell sees of each line.
+// An observer of each line of a shell.
 ghost use Rattle.std.specs.Prelude.{◌≡◌, ◌≤◌, None, false, length};
 ghost use Rattle.shell.specs.Watching.{NotesRemark, Watches, remark_text};
 
@@ -6,21 +6,21 @@ use model::{Answer, Command, ResultCode};
 use runs::{Observer, Unsaved, add_code, fault_of};
 use script::{LineFault, LineText, Output};
 
-/// What a shell says of a line beside its answer.
+/// What a shell writes about a line besides its answer.
 #[derive(Clone, Copy)]
 pub(crate) enum Remark {
-    /// Why it is bad.
+    /// Why the line is bad.
     Fault(LineFault),
-    /// The result code of its order.
+    /// The result code of the line's order.
     Code(ResultCode),
 }
 
-/// Watches the lines of a shell, and lets each run go on.
+/// Observes the lines of a shell. It never ends a run.
 #[derive(Clone, Copy)]
 pub(crate) struct Watch {
-    /// What isn't committed.
+    /// Records whether something isn't committed.
     pub(crate) unsaved: Unsaved,
-    /// What is to be said of the last line.
+    /// The remark about the last line, if there is one.
     pub(crate) remark: Option<Remark>,
 }
 
@@ -44,7 +44,7 @@ impl Remark {
     }
 }
 
-/// Writes what is to be said of a line, if anything is. A text that can't be written is left out.
+/// Writes the remark about a line, if there is one. A failure to write is ignored.
 pub(crate) fn note_remark<V: Output>(remark: Option<Remark>, notes: &mut V)
     ensures { NotesRemark remark (V.written notes.old) (V.written notes.new) }
 {
@@ -54,7 +54,7 @@ pub(crate) fn note_remark<V: Output>(remark: Option<Remark>, notes: &mut V)
 }
 
 impl Watch {
-    /// Watches the line that follows one after which this isn't committed.
+    /// Returns an observer for the next line. `unsaved` is the record of the lines before it.
     pub(crate) fn new(unsaved: Unsaved) -> Watch
         ensures unsaved { result.unsaved ≡ unsaved }
         ensures remark { result.remark ≡ None }

@@ -17,7 +17,7 @@ use Rattle.space_bank.proofs.Tallies.{marks_counted}
 -- marks of the numbers from a base on
 module _ (os : List Object) (base : ℕ) (marks : List Bool) (same : (n : ℕ) → n < length marks →
     is_marked marks n ≡ is_free (content_at os (base + n))) where
-  -- what is free from a mark on
+  -- the free numbers from a mark on
   abbrev pub free_from : ℕ → List ℕ
   free_from from = are_free os (range_with_len (base + from) (length marks - from))
 
@@ -73,7 +73,7 @@ module _ (os : List Object) (marks : List Bool) (same : (n : ℕ) → n < length
       ap (λ (r : ℕ). Some (MakeProcess r m b)) (sym (zero-add n)) ∙ ap (λ (a : ℕ). Some (MakeProcess (0 + n) a b)) (sym (zero-add m))
       ∙ ap (process_at b) (sym (found_two os 0 marks same n m first second))
 
--- the marks that are read are those that are counted, so what is made of the numbers that they mark is made of those that are free
+-- the marks that the code reads are the counted ones, so a new object gets the number that the model gives it
 module _ {g : Geometry} {os : List Object} {s : BanksState} (h : AreCounted g os s) {marks : List Bool} {X : Type 0} (make : List ℕ → X)
     {x : X} where
   pub made_of_nodes : marks ≡ s.free_nodes →
@@ -100,7 +100,7 @@ pub limit_held : (p : Parts) (n : ℕ) (c : Content Cap) → n < length p.header
     limit_in c ≡ limit_in (content_at (objects_in p) n)
 limit_held p n c known is = grind (arith, nat_tests, mapped, content_there)
 
--- one number more, read after a read-only call
+-- one more number, read after a call that only reads
 pub numbers_more : (old now : Parts) (r : Role) (n one : ℕ) (kept new : List ℕ) → now ≡ old →
     one ≡ kept_number r (content_at (objects_in now) n) → kept ≡ map (λ m. kept_number r (content_at (objects_in old) m))
     (range_with_len 0 n) → new ≡ kept ++ one ∷ [] → new ≡ map (λ m. kept_number r (content_at (objects_in old) m))
@@ -118,18 +118,18 @@ pub both_kept : {p q r : Parts} {nodes : ℕ} {limits annexes : List ℕ} → q 
     AreKept (objects_in r) r.geometry.nodes limits annexes
 both_kept {p} {q} {r} {nodes} {limits} {annexes} first second size limits_are annexes_are = grind (arith, nat_tests)
 
--- numbers of nodes and pages fit, since there is a header for each
+-- the numbers of nodes and pages fit, since each has a header
 pub numbers_fit : (p : Parts) (hs : List ObjectHeader) (h : Geometry) (count : ℕ) → hs ≡ p.headers → count ≡ length hs → count < 2 ^ 64 →
     h ≡ p.geometry → length p.headers ≡ object_count p.geometry → h.nodes + h.pages < 2 ^ 64
 numbers_fit p hs h count table is fits same all = grind (arith, nat_tests)
 
--- one number more is marked
+-- one more number is marked
 pub marks_more : (os : List Object) (first n : ℕ) (marks new : List Bool) (free : Bool) → n < length marks → new ≡ slice_set marks n free →
     free ≡ is_free (content_at os (first + n)) → ((m : ℕ) → m < n → is_marked marks m ≡ is_free (content_at os (first + m))) →
     (m : ℕ) → m < n + 1 → is_marked new m ≡ is_free (content_at os (first + m))
 marks_more os first n marks new free inside is here so_far m lt = grind (arith, nat_tests, get_or-set_same, get_or-set_other)
 
--- what is counted, part by part
+-- the counts of a bank state, part by part
 module _ (g : Geometry) (os : List Object) (s : BanksState) (below : (b : ℕ) → IsTrue (is_bank (content_at os b)) → b < g.nodes)
     (process_below : (p : ℕ) → IsTrue (is_root (content_at os p)) → p < g.nodes) where
   counted_parts : AreMarked os 0 g.nodes s.free_nodes → AreMarked os g.nodes g.pages s.free_pages → length s.usages ≡ g.nodes →
@@ -142,7 +142,7 @@ module _ (g : Geometry) (os : List Object) (s : BanksState) (below : (b : ℕ) �
       AreKept os g.nodes s.limits s.annexes → object_count g + 2 ≤ s.room → AreCounted g os s
   counted_from h is nodes pages size has same given = grind (arith, nat_tests, counted_parts)
 
--- one number more
+-- appending one more number
 cond_append : (b : Bool) (x : ℕ) (ys zs : List ℕ) → cond b (x ∷ (ys ++ zs)) (ys ++ zs) ≡ cond b (x ∷ ys) ys ++ zs
 cond_append b x ys zs = grind (arith, nat_tests)
 
@@ -201,7 +201,7 @@ listed_inner os b n deep prime other is same = grind (arith, nat_tests, prime_no
 
 -- ---- what is counted of banks
 
--- it stays whatever is listed
+-- the counts hold whatever is listed
 pub counted_listed : {g : Geometry} {os : List Object} {s t : BanksState} {list : List ℕ} → t ≡ record s { listed = list } →
     AreCounted g os s → AreCounted g os t
 counted_listed {g} {os} {s} {t} {list} is h = grind (arith, nat_tests)
@@ -215,7 +215,7 @@ module _ {p : Parts} {s : BanksState} {b : ℕ} (h : MayServe p s b) where
         free = λ n inside. marks_counted h.counted n (omega (arith, inside, count, length_objects p.headers p.contents));
       })
 
-  -- also with other numbers listed
+  -- an order may still be served after other numbers were listed
   pub bank_listing : {t : BanksState} {list : List ℕ} → t ≡ record s { listed = list } → MayServe p t b
   bank_listing is = record { sound = h.sound; counted = counted_listed is h.counted; bank = h.bank }
 
@@ -256,7 +256,7 @@ used_first os t b = used_same os b 0 (not_empty os t) (elim (cases_eq 0 b) [
   | inr other ↦ grind (arith, nat_tests, chain_prime, and-false)
 ])
 
--- a number that is free, and one that isn't, whose owner's chain is raised by one
+-- the usages with one more number: nothing changes for a free one, else the chain of its owner is raised by one
 pub used_free : (os : List Object) (b n : ℕ) → n < length os → is_free (content_at os n) ≡ true →
     used_below os b (n + 1) ≡ used_below os b n
 used_free os b n inside none = used_same os b n inside (rw none (and-false (not (n == b))))

@@ -57,7 +57,7 @@ module _ (os : List Object) (i b sought : ℕ) (other : b ≡ sought → ⊥) wh
       list_any (nat_eq sought) (chain_within (16 - i) os b) ≡ list_any (nat_eq sought) (chain_within (16 - (i + 1)) os owner)
   sought_next owner inside inner is = grind (arith, nat_tests)
 
--- whether this number of further objects passes no limit: it is at most the least that is left
+-- whether so many objects pass no limit in the chain: they are at most the least number that is left
 fits_left : (count used limit : ℕ) → used ≤ limit → nat_le count (limit - used) ≡ nat_le (used + count) limit
 fits_left count used limit within = grind (arith, nat_tests)
 
@@ -112,7 +112,7 @@ module _ (os : List Object) (i b m left now : ℕ) (inside : i < 16) (here : lef
       least m (map (left_of os) (chain_within (16 - i) os b)) ≡ least now (map (left_of os) (chain_within (16 - (i + 1)) os owner))
   least_next owner inner at = grind (arith, nat_tests)
 
--- what is counted of a bank that there is
+-- the counts of a bank that exists
 module _ {p : Parts} {s : BanksState} {b : ℕ} (h : MayServe p s b) where
   pub node_of_bank : b < p.geometry.nodes
   node_of_bank = bank_number p.geometry b (content_at (objects_in p) b) (h.sound.1.sound.kinds b) h.bank
@@ -120,18 +120,18 @@ module _ {p : Parts} {s : BanksState} {b : ℕ} (h : MayServe p s b) where
   pub left_there : HasLeft s b
   left_there = grind (arith, nat_tests)
 
-  -- the limits of its chain aren't passed
+  -- the usages in the chain of the bank don't exceed their limits
   pub chain_within_limits : All (λ c. usage (objects_in p) c ≤ limit_in (content_at (objects_in p) c)) (chain (objects_in p) b)
   chain_within_limits = all_members _ (chain (objects_in p) b) (λ c member. h.sound.1.sound.limits c (chain_bank h c member))
 
   pub left_counted : slice_index s.limits b - slice_index s.usages b ≡ left_of (objects_in p) b
   left_counted = omega (arith, h.counted.usage b h.bank, h.counted.limit b h.bank)
 
-  -- its owner is one too
+  -- the owner of the bank is a bank for which the same holds
   pub owner_is_bank : {owner : ℕ} → owner ≡ owner_at (objects_in p) b → MayServe p s owner
   owner_is_bank {owner} is = grind (arith, nat_tests)
 
--- a plan that refuses, one that makes a change of a bank, and one that replies three words
+-- a plan that refuses, one that changes a bank, and one that replies with three words
 abbrev pub refusal : ResultCode → OrderPlan
 refusal why = record { reply = reply_of_code why; change = change.Nothing }
 
@@ -166,7 +166,7 @@ pub allocating_is : (g : Geometry) (os : List Object) (b : ℕ) (order : BankOrd
 unfolding on_bank
 allocating_is g os b order args kind is = grind (arith, nat_tests)
 
--- where the frame is the same, the same is made
+-- with the same frame, the same object is made
 module _ (os us : List Object) (frame : SameFrame os us) (g : Geometry) (b : ℕ) where
   pub made_alike : (kind : New) → made_for g us b kind ≡ made_for g os b kind
   made_alike kind = grind (arith, nat_tests, pages_alike, nodes_alike)
@@ -174,7 +174,7 @@ module _ (os us : List Object) (frame : SameFrame os us) (g : Geometry) (b : ℕ
   pub deep_alike : (kind : New) → is_deep us b kind ≡ is_deep os b kind
   deep_alike kind = grind (arith, nat_tests, chain_same)
 
--- by the tests that the code makes
+-- a new object, by the tests that the code makes
 pub new_is : (g : Geometry) (os : List Object) (b : ℕ) (order : BankOrder) (args : Arguments) (kind : New) → new_of order args ≡ Some kind →
     (us : List Object) → SameFrame os us → on_bank g us b order args ≡
     (if has_quota os b (count_of kind) then allocated_by us (is_deep os b kind) (made_for g os b kind) else refused us code.Limit)
@@ -223,7 +223,7 @@ module _ (g : Geometry) (os : List Object) (b : ℕ) (args : Arguments) where
   unfolding on_bank
   remaining_replying = refl
 
--- the same of later objects with the same frame, by what was read of the earlier ones
+-- the same for later objects with the same frame, with what was read from the earlier ones
 module _ (g : Geometry) (os : List Object) (b : ℕ) (args : Arguments) (us : List Object) (frame : SameFrame os us) where
   pub frees_none_there : (c : Capability) → args.capability ≡ c → freed_by os c ≡ [] →
       on_bank g us b bank.Free args ≡ refused us code.BadCapability
@@ -267,7 +267,7 @@ pub annex_kept : {p : Parts} {s : BanksState} {b : ℕ} (c : Capability) → May
     annex_among s.annexes c ≡ annex_of (objects_in p) c
 annex_kept {p} {s} {b} c h sent = grind (arith, nat_tests)
 
--- what a capability frees, where a bank owns it
+-- the objects that a capability frees, if a bank owns them
 pub freed_list : (g : Geometry) (os : List Object) (b : ℕ) (c : Capability) (list : List ℕ) → IsNow g os →
     IsTrue (is_bank (content_at os b)) → NamesItsKind os c → freed_by os c ≡ list → 0 < length list → owner_at os (slice_index list 0) ≡ b →
     MayFree os b list
@@ -299,7 +299,7 @@ module _ (os : List Object) (t : IsTree os) (b : ℕ) (is : IsTrue (is_bank (con
         | inr below ↦ grind (arith, nat_tests, no_loop)
       ])
 
--- a bank with all that is under it
+-- a bank with all objects under it
 pub destroyed_gives : (g : Geometry) (os : List Object) (b : ℕ) → IsNow g os → IsTrue (is_bank (content_at os b)) → b ≢ 0 →
     MayFree os (owner_at os b) (under os b)
 destroyed_gives g os b h is on = record {
@@ -323,7 +323,7 @@ first_free : (os : List Object) (from count n : ℕ) (ns : List ℕ) → are_fre
     IsFreeAmong os from count n
 first_free os from count n ns are = free_among os from count n (ap (λ (xs : List ℕ). is_member xs n) are ∙ member_head n n ns refl)
 
--- one new object, at the first of the free numbers
+-- one new object, at the first free number
 one_may : (g : Geometry) (os : List Object) (b from count : ℕ) (f : Fresh) (c : BankChange) → IsTrue (is_bank (content_at os b)) →
     IsTrue (has_quota os b 1) → ((n : ℕ) → IsFreeAmong os from count n → IsFreshAt g n f) → IsMadeUnder os b f → (ns : List ℕ) →
     are_free os (range_with_len from count) ≡ ns
@@ -361,7 +361,7 @@ new_may : (g : Geometry) (os : List Object) (b : ℕ) (c : BankChange) → IsTru
 unfolding free_nodes free_pages
 new_may g os b c bank kind room some short = grind (arith, nat_tests, one_may, two_may, short_chain)
 
--- what a capability names is of its kind where the frame is the same
+-- with the same frame, a capability names an object of its kind
 names_there : (os us : List Object) → SameFrame os us → (c : Capability) (n : ℕ) (ns : List ℕ) → freed_by os c ≡ n ∷ ns →
     NamesItsKind os c → NamesItsKind us c
 names_there os us frame c n ns some names = grind (arith, nat_tests)

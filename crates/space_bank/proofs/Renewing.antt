@@ -17,7 +17,7 @@ use Rattle.space_bank.proofs.Tallies.{transferred_same}
 pub unrisen : (m n : ℕ) → m ≤ n → (m < n → ⊥) → n ≡ m
 unrisen m n later stayed = ⊎_elim (λ (rose : m < n). absurd (stayed rose)) (λ (within : n ≤ m). omega arith) (cases_lt m n)
 
--- the same counts of allocations, and the same numbers free
+-- parts with the same allocation counts, and with the same free numbers
 abbrev pub SameAllocations : Parts → Parts → Type 0
 SameAllocations p q = (n : ℕ) → (header_at q.headers n).allocations ≡ (header_at p.headers n).allocations
 
@@ -32,24 +32,24 @@ given_or_kept gone member h k e is = grind (arith, nat_tests)
 stayed : (gone : Bool) (m n : ℕ) → gone ≡ false → m ≡ n → m ≡ n + (if gone then 1 else 0)
 stayed gone m n e same = grind (arith, nat_tests)
 
--- where what was there stays there
+-- if no object becomes free, no number is renewed
 pub renews_none : (p q : Parts) → SameAllocations p q
     → ((n : ℕ) → is_free (content_at (objects_in p) n) ≡ false → is_free (content_at (objects_in q) n) ≡ false) → Renews p q
 renews_none p q same stays = grind (arith, nat_tests)
 
--- where a set of objects that were there is freed
+-- if a set of objects in use is freed, its numbers are renewed
 pub renews_rescinded : (p q : Parts) (set : List ℕ) → AreGivenUp set p q → objects_in q ≡ rescind set (objects_in p)
     → ((n : ℕ) → is_member set n ≡ true → is_free (content_at (objects_in p) n) ≡ false) → Renews p q
 renews_rescinded p q set given objects used = grind (arith, nat_tests, given_or_kept, rescinded_given_up)
 
--- and after or before a change that leaves counts and free numbers as they are
+-- a change before or after that keeps allocation counts and free numbers renews nothing more
 pub renews_after : (o p q : Parts) → SameAllocations o p → SameFree o p → Renews p q → Renews o q
 renews_after o p q same free renews = grind (arith, nat_tests)
 
 pub renews_then : (o p q : Parts) → Renews o p → SameAllocations p q → SameFree p q → Renews o q
 renews_then o p q renews same free = grind (arith, nat_tests)
 
--- a new object leaves those that were there
+-- a new object leaves all others in use
 pub new_stays : (os us : List Object) (n b : ℕ) (c : Content Capability) → is_free c ≡ false → us ≡ with_new os n b c
     → (m : ℕ) → is_free (content_at os m) ≡ false → is_free (content_at us m) ≡ false
 new_stays os us n b c some is m used = ap (λ (vs : List Object). is_free (content_at vs m)) is ∙ new_used os n b c some m used
@@ -103,7 +103,7 @@ pub record IsReleased (banks : List ℕ) (count : ℕ) (s t : BanksState) (set :
   pub room : t.room ≡ s.room
   pub marks : (n : ℕ) → is_marked (marks_of t) n ≡ (if is_member set n then true else is_marked (marks_of s) n)
 
--- A set of objects that have the contents of those that are counted is freed.
+-- Freeing a set of objects, where the counted objects may differ from the present ones except in their contents.
 pub counted_gone : {g : Geometry} {os : List Object} (vs : List Object) {s t : BanksState} {set banks : List ℕ} {count : ℕ} →
     AreCounted g os s → ((n : ℕ) → content_at vs n ≡ content_at os n) → IsReleased banks count s t set
     → ((x : ℕ) → IsTrue (is_bank (content_at os x)) → is_member set x ≡ false →
@@ -143,7 +143,7 @@ module _ {p : Parts} {s : BanksState} {b : ℕ} (asks : MayServe p s b) (n : ℕ
   pub serve_calls : (header_at p.headers n).calls < 2 ^ 64 - 1
   serve_calls = omega (arith, few_calls p.geometry asks.sound.0 p asks.sound.1.keepable n known, asks.sound.1.sound.age)
 
--- what the banks of the chain account for is enough
+-- the usages in the chain of a bank are at least the number of freed objects
 pub enough_used : {p : Parts} {s : BanksState} {above : ℕ} {list : List ℕ} → MayServe p s above → MayFree (objects_in p) above list
     → (x : ℕ) → is_member (chain (objects_in p) above) x ≡ true → length list ≤ slice_index s.usages x
 enough_used {p} {s} {above} {list} asks gives x member =
@@ -151,7 +151,7 @@ enough_used {p} {s} {above} {list} asks gives x member =
     let all : (if is_member (chain (objects_in p) above) x then length list else 0) ≡ length list = rw member refl in
     omega (arith, asks.counted.usage x bank, gives.lowered x bank (gives.apart x member), all)
 
--- what lies beside the objects where a set is freed
+-- the snapshots after a set was freed
 module _ {S : Type 0} (parts : S → Parts) (Fetched Announced : S → ℕ → Type 0) (Continues : S → S → Type 0) where
   pub ended_snapshots : (old new : S) (set : List ℕ) → AreGivenUp set (parts old) (parts new) →
       objects_in (parts new) ≡ rescind set (objects_in (parts old)) → ((n : ℕ) → is_member set n ≡ true →
@@ -172,7 +172,7 @@ module _ {S : Type 0} (parts : S → Parts) (Fetched Announced : S → ℕ → T
       → KeepsObjects parts Fetched Announced Continues old new
   snapshots_alone old new a stays = grind (arith, nat_tests)
 
--- the rest of a list, as a slice of it
+-- the rest of a list as a slice
 pub rest_is : (xs ys : List ℕ) (i : ℕ) → xs ≡ ys → take (length xs - i) (drop i xs) ≡ drop i ys
 rest_is xs ys i same = take_rest xs i ∙ ap (λ (zs : List ℕ). drop i zs) same
 
@@ -203,7 +203,7 @@ pub released_then : {banks : List ℕ} {count : ℕ} {s r v : BanksState} {nodes
     → IsReleased banks count s (record v { free_nodes = nodes; free_pages = pages }) set
 released_then {banks} {count} {s} {r} {v} {nodes} {pages} set raised kept same nodes_same pages_same marks = grind (arith, nat_tests)
 
--- what is left once a list is freed
+-- the result of freeing a list
 pub ended_carried : {p q : Parts} {s t : BanksState} {above : ℕ} {list : List ℕ} → MayServe p s above → MayFree (objects_in p) above list
     → IsReleased (chain (objects_in p) above) (length list) s t list → objects_in q ≡ rescind list (objects_in p)
     → AreCurrent (frames_of q) → ((age : ℕ) → age + 1 < 2 ^ 64 → AreKeepable p.geometry age (frames_of p) →
@@ -238,13 +238,13 @@ pub mark_one : (before now : List Bool) (n : ℕ) → n < length before → now 
     → (m : ℕ) → is_marked now m ≡ (if is_member (n ∷ []) m then true else is_marked before m)
 mark_one before now n inside is m = grind (arith, nat_tests, get_or-set_same, member_head, get_or-set_other, member_tail)
 
--- a bank alone is there
+-- a bank by itself is in use
 pub only_used : (os : List Object) (b : ℕ) → IsTrue (is_bank (content_at os b)) → (n : ℕ) → is_member (b ∷ []) n ≡ true →
     is_free (content_at os n) ≡ false
 only_used os b is n member = subst (λ (k : ℕ). is_free (content_at os k) ≡ false) (sym (only_member b n member))
     (used_where is_bank refl (content_at os b) is)
 
--- what a bank owns is transferred
+-- transferring the objects that a bank owns
 pub owned_used : (os : List Object) (b : ℕ) → All (λ n. is_free (content_at os n) ≡ false) (owned_by os b)
 owned_used os b = all_members (λ n. is_free (content_at os n) ≡ false) (owned_by os b) (λ n member. (owned_found os b n member).1)
 
@@ -267,7 +267,7 @@ module _ {p : Parts} {s : BanksState} {b : ℕ} (asks : MayServe p s b) (on : b 
   abbrev before : List Object
   before = objects_in p
 
-  -- each bank above accounts for the bank
+  -- each bank above counts this bank in its usage
   pub one_enough : (x : ℕ) → is_member (chain before (owner_at before b)) x ≡ true → 1 ≤ slice_index s.usages x
   one_enough x member =
       let t = serve_tree asks in
@@ -276,7 +276,7 @@ module _ {p : Parts} {s : BanksState} {b : ℕ} (asks : MayServe p s b) (on : b 
       let all = ap {B = ℕ} (λ t. if t then 1 else 0) member in
       omega (arith, asks.counted.usage x bank, returned_fits p.geometry before b (serve_now asks) asks.bank on x differ, all)
 
-  -- what is left once the bank is gone
+  -- the result after the bank was freed
   pub returned_carried : {q : Parts} {t : BanksState} {us : List Object} → AreTransferred (owned_by before b) (owner_at before b) before us
       → IsReleased (chain before (owner_at before b)) 1 s t (b ∷ []) → objects_in q ≡ rescind (b ∷ []) us → AreCurrent (frames_of q)
       → ((age : ℕ) → age + 1 < 2 ^ 64 → AreKeepable p.geometry age (frames_of p) → AreKeepable p.geometry (age + 1) (frames_of q)) →
@@ -298,7 +298,7 @@ module _ {p : Parts} {s : BanksState} {b : ℕ} (asks : MayServe p s b) (on : b 
         keepable = keepable;
       }
 
-  -- the bank's counts can rise after what it owns is transferred
+  -- the counts of the bank can still rise after its objects were transferred
   module _ (q : Parts) (keepable : (age : ℕ) → AreKeepable p.geometry age (frames_of p) → AreKeepable p.geometry age (frames_of q))
       (known : b < length q.headers) where
     pub transferred_allocations : (header_at q.headers b).allocations < 2 ^ 64 - 1

@@ -17,7 +17,7 @@ use Rattle.model.specs.declared.object.Content.TheVariants as content
 use Rattle.model.specs.declared.object.Role.TheVariants as role
 use Rattle.capability.specs.declared.present.Fresh.TheVariants as fresh
 
--- what stands where nothing is has the role of what is free
+-- a free content has the free role
 role_free : (f : Cap → Capability) (c : Content Cap) → is_free (map_content f c) ≡ true → role_of c ≡ role.Free
 role_free f c is = grind (arith, nat_tests)
 
@@ -70,7 +70,7 @@ module _ {p : Parts} {s : BanksState} {b : ℕ} (asks : MayServe p s b) where
   pub serve_roles : HaveTheirRoles (frames_of p)
   serve_roles = keepable_roles p.geometry asks.sound.0 (frames_of p) asks.sound.1.keepable
 
-  -- the usages of a chain are below its limits, and these are numbers of 64 bits
+  -- the usages in a chain are at most its limits, and these are numbers of 64 bits
   pub chain_bank : (x : ℕ) → is_member (chain (objects_in p) b) x ≡ true → IsTrue (is_bank (content_at (objects_in p) x))
   chain_bank x member = chain_banks (objects_in p) serve_tree b x asks.bank member
 
@@ -96,11 +96,11 @@ module _ {p : Parts} {s : BanksState} {b : ℕ} (asks : MayServe p s b) where
   pub free_role : (n : ℕ) → n < length p.headers → IsTrue (is_free (content_at (objects_in p) n)) → (header_at p.headers n).role ≡ role.Free
   free_role n known is = free_header p.geometry asks.sound.0 p asks.sound.1.keepable n known is
 
--- what a bank adds to each in its chain
+-- how much a bank adds to the usage of each bank in its chain
 abbrev pub share : List Object → ℕ → ℕ → ℕ → ℕ
 share os c count x = if is_member (chain os c) x then count else 0
 
--- A walk from the bank b stands at the bank c, where i banks were passed.
+-- A walk from the bank b is at the bank c after i banks.
 pub record Climbs (os : List Object) (b i c : ℕ) : Type 0 where
   pub bank : IsTrue (is_bank (content_at os c))
   pub short : length (chain os c) + i ≤ 16
@@ -148,7 +148,7 @@ module _ {os : List Object} (t : IsTree os) {b i c : ℕ} (at : Climbs os b i c)
       inside : c < length now
       inside = omega (arith, each c at.bank, r.size)
 
-      -- the usage of a bank before its turn comes
+      -- the usage of the bank c before it is changed
       same_here : slice_index now c ≡ slice_index old c
       same_here = omega (arith, r.each c, share_here more, share_here less, share_first more, share_first less)
 
@@ -195,14 +195,14 @@ module _ {banks : List ℕ} {count : ℕ} {old new : List ℕ} where
   pub lowered_of : IsShifted banks 0 count old new → IsRaised banks count new old
   lowered_of s = record { size = sym s.size; each = λ b. omega (arith, s.each b, nothing (is_member banks b)) }
 
--- an object with another owner, where it is transferred
+-- an object that gets another owner if it is transferred
 abbrev pub transferred : Bool → ℕ → Object → Object
 transferred goes b o = if goes then record { owner = b; content = o.content } else o
 
 pub transferred_content : (goes : Bool) (b : ℕ) (o : Object) → (transferred goes b o).content ≡ o.content
 transferred_content goes b o = grind (arith, nat_tests)
 
--- objects that are transferred hold what they held
+-- transferred objects keep their contents
 pub transferred_same : (list : List ℕ) (b : ℕ) (os us : List Object) → AreTransferred list b os us → (n : ℕ) →
     content_at us n ≡ content_at os n
 transferred_same list b os us are n = ap (λ (o : Object). o.content) (are.each n)
@@ -212,7 +212,7 @@ pub transferred_used : (list : List ℕ) (b : ℕ) (os us : List Object) → Are
     is_free (content_at os n) ≡ false → is_free (content_at us n) ≡ false
 transferred_used list b os us are n used = ap (λ (c : Content Capability). is_free c) (transferred_same list b os us are n) ∙ used
 
--- one more of a list
+-- one more number of a list
 taken : (list : List ℕ) (i n : ℕ) → i < length list → is_member (take (i + 1) list) n
     ≡ (is_member (take i list) n || (n == slice_index list i))
 taken list i n inside = list_any_more (nat_eq n) list i 0 inside
@@ -224,21 +224,21 @@ pub transferred_more : (list : List ℕ) (i b : ℕ) (os us vs : List Object) �
 transferred_more list i b os us vs inside known are is =
     grind (arith, nat_tests, length-set, get_or-set_same, transferred_same, taken, get_or-set_other)
 
--- one more of a list was marked as free
+-- one more number of a list was marked as free
 pub marked_more : (before now next : List Bool) (list : List ℕ) (i : ℕ) → i < length list → slice_index list i < length now
     → next ≡ slice_set now (slice_index list i) true
     → ((n : ℕ) → slice_index_or now n false ≡ (if is_member (take i list) n then true else slice_index_or before n false))
     → (n : ℕ) → slice_index_or next n false ≡ (if is_member (take (i + 1) list) n then true else slice_index_or before n false)
 marked_more before now next list i inside known is marks n = grind (arith, nat_tests, taken, get_or-set_same, get_or-set_other)
 
--- each number is marked as what it is
+-- each number is marked as free exactly if it is
 abbrev pub AreMarked : Geometry → List Object → List Bool → Type 0
 AreMarked g os marks = (n : ℕ) → n < object_count g → is_marked marks n ≡ is_free (content_at os n)
 
 pub marks_counted : {g : Geometry} {os : List Object} {s : BanksState} → AreCounted g os s → AreMarked g os (marks_of s)
 marks_counted {g} {os} {s} counted n known = grind (arith, nat_tests, inside, get_or_append_left, get_or-append_right)
 
--- how many there are of each, and the capacity of the list, stay as they were
+-- the lengths of the lists, and the memory for the list of an order, stay
 pub record IsAsWide (s t : BanksState) : Type 0 where
   pub nodes : length t.free_nodes ≡ length s.free_nodes
   pub pages : length t.free_pages ≡ length s.free_pages
@@ -267,7 +267,7 @@ marked_new : (g : Geometry) (os : List Object) (marks : List Bool) (n b : ℕ) (
     is_free c ≡ false → AreMarked g os marks → AreMarked g (with_new os n b c) (slice_set marks n false)
 marked_new g os marks n b c inside known used is m within = grind (arith, nat_tests, get_or-set_same, at_new, get_or-set_other, at_other)
 
--- More is raised along the chain of a bank, and these marks are set.
+-- Usages are raised along the chain of a bank, and these marks are set.
 pub record IsTaken (banks : List ℕ) (count : ℕ) (s t : BanksState) (marks : List Bool) : Type 0 where
   pub usages : IsRaised banks count s.usages t.usages
   pub nodes : length t.free_nodes ≡ length s.free_nodes
@@ -288,14 +288,14 @@ module _ (os : List Object) (n b : ℕ) (inside : n < length os) (c : Content Ca
   new_content = ap (λ (o : Object). o.content) (at_new os n b c inside)
 
   module _ (passes : Content Capability → Bool) where
-    -- what passes a test after a new object that fails it did before
+    -- an object that passes a test which the new one fails is an old one
     old_one : passes c ≡ false → (x : ℕ) → IsTrue (passes (content_at (with_new os n b c) x)) → x ≢ n
     old_one plain x is e = grind (arith, nat_tests, new_content)
 
     other_one : (x : ℕ) → x ≢ n → IsTrue (passes (content_at (with_new os n b c) x)) → IsTrue (passes (content_at os x))
     other_one x differ is = sym (ap passes (other_content x differ)) ∙ is
 
-    -- the numbers of what passes it stay, or the new one has its own
+    -- the kept numbers of objects that pass the test stay, or the new object has its own
     module _ (number : Content Capability → ℕ) (xs : List ℕ) (each : HasEach passes number os xs) where
       each_kept : passes c ≡ false → HasEach passes number (with_new os n b c) xs
       each_kept plain x is = grind (arith, nat_tests, old_one, other_one, other_content)
@@ -312,7 +312,7 @@ module _ {g : Geometry} {os : List Object} (size : length os ≡ object_count g)
   known_mark : n < length (marks_of s)
   known_mark = omega (arith, marks_length counted, size)
 
-  -- one object that is neither a bank nor a process
+  -- one new object that is neither a bank nor a process
   pub counted_alone : (c : Content Capability) {u : BanksState} → is_free c ≡ false → is_bank c ≡ false → is_root c ≡ false
       → IsTaken (chain os b) 1 s u (slice_set (marks_of s) n false) → AreCounted g (with_new os n b c) u
   counted_alone c {u} used plain other taken =
@@ -410,17 +410,17 @@ module _ {g : Geometry} {os : List Object} (size : length os ≡ object_count g)
       twice : (is : Bool) → (if is then 2 else 0) ≡ (if is then 1 else 0) + (if is then 1 else 0)
       twice is = grind (arith, nat_tests)
 
--- more is accounted for, and then a number taken
+-- raising usages, then taking a number
 pub taken_one : {banks : List ℕ} {count n : ℕ} {s r t : BanksState} → IsRaised banks count s.usages r.usages →
     r ≡ record s { usages = r.usages } → IsMade r t n → IsTaken banks count s t (slice_set (marks_of s) n false)
 taken_one {banks} {count} {n} {s} {r} {t} raised kept made = grind (arith, nat_tests)
 
--- and one more
+-- taking one more number
 pub taken_two : {banks : List ℕ} {count n : ℕ} {s r t : BanksState} {marks : List Bool} → IsTaken banks count s r marks → IsMade r t n →
     IsTaken banks count s t (slice_set marks n false)
 taken_two {banks} {count} {n} {s} {r} {t} {marks} taken made = grind (arith, nat_tests)
 
--- what is free beside a new object has the role of what is free
+-- a number that stays free beside a new object keeps the free role
 pub still_free : (g : Geometry) (age : ℕ) (p q : Parts) (n m b : ℕ) (c : Content Capability) → AreKeepable g age (frames_of q) →
     length q.headers ≡ length p.headers → objects_in q ≡ with_new (objects_in p) n b c → m < length p.headers → m ≢ n
     → IsTrue (is_free (content_at (objects_in p) m)) → (header_at q.headers m).role ≡ role.Free
@@ -429,7 +429,7 @@ still_free g age p q n m b c k count objects known two unused =
     (ap (λ (os : List Object). is_free (content_at os m)) objects ∙ (ap (λ (o : Object). is_free o.content)
     (at_other (objects_in p) n b c m two) ∙ unused))
 
--- what is new isn't free
+-- a new object isn't free
 pub fresh_used : (f : Fresh) → is_free (fresh_content Void f) ≡ false
 fresh_used f = grind (arith, nat_tests)
 

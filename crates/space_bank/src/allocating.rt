@@ -14,8 +14,9 @@ use capability::{Fresh, PresentFrames};
 use model::{Capability, Content, Role};
 
 impl Banks {
-    // Makes a free number, fetched and announced, a page, a node or a bank that `bank` owns. No
-    // limit in the chain of `bank` may be reached, and a new bank needs fewer than 16 banks in it.
+    // Turns a free number, which is fetched and announced, into a page, a node or a bank that `bank` owns. No limit
+    // in the chain of `bank` may be reached already, and if the new object is a bank, the chain must have fewer than
+    // 16 banks.
     pub(crate) fn allocate<F: PresentFrames>(
         &mut self,
         store: &mut F,
@@ -42,7 +43,7 @@ impl Banks {
         }
     }
 
-    // Keeps the limit of a new bank, whose usage is 0.
+    // Records the limit of a new bank, whose usage is 0.
     fn keep_limit(&mut self, number: u64, limit: u64)
         requires usage { number < length self.old.usages }
         requires limit { number < length self.old.limits }
@@ -56,7 +57,7 @@ impl Banks {
         self.limits[number as usize] = limit;
     }
 
-    // Makes two free numbers, fetched and announced, the root and the annex of a process of a bank.
+    // Turns two free numbers, which are fetched and announced, into the root and the annex of a process of a bank.
     pub(crate) fn new_process<F: PresentFrames>(
         &mut self,
         store: &mut F,
@@ -84,7 +85,7 @@ impl Banks {
         self.annexes[root as usize] = annex;
     }
 
-    // Makes a free number a new object, and marks it as taken. What banks account for stays.
+    // Turns a free number into a new object, and marks it as taken. The usages of banks don't change.
     #[tactic(auto, unfolding(model::specs::Banking::with_new))]
     fn make<F: PresentFrames>(&mut self, store: &mut F, number: u64, fresh: Fresh, bank: u64)
         requires nodes { length self.old.limits ≡ length self.old.free_nodes }

@@ -1,4 +1,4 @@
-// What is counted of banks, beside the objects.
+// Counts about banks that are kept beside the objects.
 ghost use Rattle.std.specs.Prelude.{◌≡◌, slice_index};
 
 use collections::NumberSet;
@@ -6,8 +6,7 @@ use std::marker::Model;
 
 /// Which numbers are free; for each bank its limit and usage; and for each process its annex.
 ///
-/// Counted once from the objects, then kept up to date by every order of a bank. Only the counting
-/// takes memory.
+/// These are counted once from the objects, then every order of a bank updates them. Only the counting takes memory.
 #[derive(Drop)]
 pub struct Banks {
     pub(crate) nodes: NumberSet,
@@ -36,7 +35,8 @@ impl Model for Banks {
 }
 
 impl Banks {
-    /// The usage of a bank: how many other objects have it in their owner's chain.
+    /// Returns the usage of a bank: how many other objects have it in the chain of their owner. 0 for any other
+    /// number.
     pub fn usage(&self, bank: u64) -> u64
         ensures { result ≡ slice_index self.now.usages bank }
     {
@@ -46,7 +46,7 @@ impl Banks {
         }
     }
 
-    /// The annex of a process, 0 for any other number.
+    /// Returns the annex of a process; 0 for any other number.
     pub fn annex(&self, process: u64) -> u64
         ensures { result ≡ slice_index self.now.annexes process }
     {
@@ -56,7 +56,7 @@ impl Banks {
         }
     }
 
-    /// The numbers listed for the order that was planned last.
+    /// Returns the numbers listed for the order that was planned last.
     pub fn listed(&self) -> &[u64]
         ensures { result.now ≡ self.now.listed }
     {

@@ -1,4 +1,4 @@
-// A change of a bank is made.
+// Carrying out the change that an order of a bank planned.
 ghost use Rattle.std.specs.Prelude.{◌≡◌, ◌≤◌, drop, length};
 ghost use Rattle.std.specs.List.{All};
 ghost use Rattle.capability.specs.Changes.{bank_changed};
@@ -11,7 +11,7 @@ use crate::banks::Banks;
 use capability::{BankChange, PresentFrames};
 
 impl Banks {
-    /// Makes a change that was planned, whose order's numbers are listed from `skip` on. They are
+    /// Carries out a planned change. The numbers that its order writes are listed from index `skip` on. They must be
     /// announced, and those of new objects fetched.
     ///
     /// Takes no memory, and can't fail. If objects are freed or transferred, it goes over the listed

@@ -1,4 +1,4 @@
-// What the banks of a chain account for.
+// The usages of the banks in a chain.
 ghost use Rattle.std.specs.Prelude.{◌≡◌, ℕ, ◌<◌, ◌≤◌, true, length, slice_index, IsTrue};
 ghost use Rattle.model.specs.Bank.{chain};
 ghost use Rattle.model.specs.Banking.{has_quota};
@@ -16,7 +16,7 @@ use capability::Frames;
 
 /// Adds `more` to the usage of each bank in a chain, and subtracts `less`.
 ///
-/// Goes over at most 16 banks, in the table alone.
+/// Goes over at most 16 banks, and reads only the table.
 #[tactic(auto, using(crate::proofs::Tallies::climb_ended))]
 pub(crate) fn shift<F: Frames>(usages: &mut [u64], store: &F, bank: u64, more: u64, less: u64)
     requires tree { IsTree (objects_in (F.parts store.now)) }
@@ -41,8 +41,7 @@ pub(crate) fn shift<F: Frames>(usages: &mut [u64], store: &F, bank: u64, more: u
 }
 
 impl Banks {
-    /// Adds `count` to what each bank in the chain of `bank` accounts for, where none of their
-    /// limits is passed.
+    /// Adds `count` to the usage of each bank in the chain of `bank`. No usage may then exceed its limit.
     #[tactic(auto, using(crate::proofs::Tallies::room_fits))]
     pub(crate) fn account<F: Frames>(&mut self, store: &F, bank: u64, count: u64)
         requires asks { MayServe (F.parts store.now) self.old bank }
@@ -54,7 +53,7 @@ impl Banks {
         shift(&mut self.usages, store, bank, count, 0);
     }
 
-    /// Subtracts `count` from what each bank in the chain of `bank` accounts for.
+    /// Subtracts `count` from the usage of each bank in the chain of `bank`.
     pub(crate) fn release<F: Frames>(&mut self, store: &F, bank: u64, count: u64)
         requires asks { MayServe (F.parts store.now) self.old bank }
         requires enough { (b : ℕ)

@@ -1,4 +1,4 @@
-// What there is, counted from the objects.
+// Counting usages, limits, annexes and free numbers from the objects.
 ghost use Rattle.std.specs.Prelude.{◌≡◌, ◌↔◌, ℕ, ◌+◌, ◌<◌, ◌≤◌, ◌^◌, false, length, map, slice_index, IfOk};
 ghost use Rattle.std.specs.Prelude.{IsTrue};
 ghost use Rattle.std.specs.List.{range_with_len};
@@ -19,7 +19,7 @@ use device::Failed;
 use model::{ContentRef, Refusal, Role};
 use std::alloc::{AllocError, Global};
 
-// The limit of a bank that is fetched, 0 where it is no bank.
+// Returns the limit of a fetched bank, or 0 for another object.
 fn limit_there<F: Frames>(store: &F, number: u64) -> u64
     requires { F.IsFetched store.now number }
     ensures { result
@@ -31,7 +31,7 @@ fn limit_there<F: Frames>(store: &F, number: u64) -> u64
     }
 }
 
-// The number that is kept of an object with a role, which is fetched.
+// Returns the number that is kept for a fetched object of this role: a bank's limit or a process's annex.
 fn number_there<F: Frames>(store: &F, number: u64, role: Role) -> u64
     requires { F.IsFetched store.now number }
     ensures { result ≡ kept_number role (content_at (objects_in (F.parts store.now)) number) }
@@ -43,7 +43,7 @@ fn number_there<F: Frames>(store: &F, number: u64, role: Role) -> u64
     }
 }
 
-// The number that is kept of an object with a role, which is fetched for it; 0 in another role.
+// If an object has this role, fetches it and returns the number that is kept for it; else returns 0.
 fn read_number<F: Frames>(store: &mut F, number: u64, role: Role) -> Result<u64, Failed>
     requires known { number < length (F.parts store.old).headers }
     requires may { MayFetch F.IsUsable F.parts store.old }
@@ -58,11 +58,10 @@ fn read_number<F: Frames>(store: &mut F, number: u64, role: Role) -> Result<u64,
     Ok(number_there(store, number, role))
 }
 
-/// The numbers that are kept of the objects below a count, by number: the limits of banks, or the
-/// annexes of processes, and 0 in another role. Each object with the role is fetched, one at a time;
-/// nothing else is.
+/// Returns the numbers that are kept for the objects below `count`, by number: the limits of banks, or the annexes of
+/// processes, and 0 for objects of another role. Fetches each object of this role, one at a time, and no other.
 ///
-/// `NoMemory` if memory ran out, and `Fault` exactly if the device failed. No object changes.
+/// Returns `NoMemory` if memory ran out, and `Fault` exactly if the device failed. No object changes.
 pub fn read_numbers<F: Frames>(
     alloc: Global,
     store: &mut F,
@@ -83,10 +82,10 @@ pub fn read_numbers<F: Frames>(
     Ok(kept)
 }
 
-/// The limits of all banks below a count by number, 0 for what is no bank. Each bank is fetched,
-/// one at a time; nothing else is.
+/// Returns the limits of all banks below `count`, by number, and 0 for other objects. Fetches each bank, one at a
+/// time, and no other object.
 ///
-/// `NoMemory` if memory ran out, and `Fault` exactly if the device failed. No object changes.
+/// Returns `NoMemory` if memory ran out, and `Fault` exactly if the device failed. No object changes.
 pub fn read_limits<F: Frames>(alloc: Global, store: &mut F, count: u64) -> Result<Vec<u64>, Refusal>
     requires known { count ≤ length (F.parts store.old).headers }
     requires may { MayFetch F.IsUsable F.parts store.old }
@@ -98,7 +97,7 @@ pub fn read_limits<F: Frames>(alloc: Global, store: &mut F, count: u64) -> Resul
     read_numbers(alloc, store, count, Role::Bank)
 }
 
-// Which of `count` numbers from `first` on are free.
+// Returns which of the `count` numbers from `first` on are free.
 fn free_numbers<F: Frames>(
     alloc: Global,
     store: &F,
@@ -117,7 +116,7 @@ fn free_numbers<F: Frames>(
     Ok(numbers)
 }
 
-// Adds up how many objects each bank accounts for, from nothing.
+// Computes the usages of all banks. `usages` must be all 0.
 fn add_usages<F: Frames>(store: &F, usages: &mut [u64])
     requires roles { HaveTheirRoles (frames_of (F.parts store.now)) }
     requires tree { IsTree (objects_in (F.parts store.now)) }
@@ -137,8 +136,8 @@ fn add_usages<F: Frames>(store: &F, usages: &mut [u64])
     }
 }
 
-/// How many objects each bank accounts for, by number, from the table alone. The banks are a tree.
-/// Fails only where memory runs out.
+/// Returns the usages of all banks, by number, from the table alone. The banks must be a tree. Fails only if memory
+/// runs out.
 pub fn count_usages<F: Frames>(alloc: Global, store: &F, count: u64) -> Result<Vec<u64>, AllocError>
     requires roles { HaveTheirRoles (frames_of (F.parts store.now)) }
     requires tree { IsTree (objects_in (F.parts store.now)) }
@@ -157,11 +156,11 @@ pub fn count_usages<F: Frames>(alloc: Global, store: &F, count: u64) -> Result<V
 }
 
 impl Banks {
-    /// Counts what there is. Each bank is fetched for its limit and each process for its annex, one at a
-    /// time; nothing else is.
+    /// Counts the free numbers, usages, limits and annexes. Fetches each bank for its limit and each process for its
+    /// annex, one at a time, and no other object.
     ///
-    /// Takes all the memory that any order will need; no other call takes any. `NoMemory` if memory
-    /// ran out, and `Fault` exactly if the device failed. No object changes.
+    /// Takes all the memory that any order will need; no other call takes any. Returns `NoMemory` if memory ran out,
+    /// and `Fault` exactly if the device failed. No object changes.
     pub fn count<F: Frames>(alloc: Global, store: &mut F) -> Result<Banks, Refusal>
         requires usable { F.IsUsable store.old }
         requires sound { AreSound (F.parts store.old) }
@@ -175,7 +174,7 @@ impl Banks {
         Ok(Banks::with_numbers(alloc, store, limits, annexes)?)
     }
 
-    // Counts what there is beside the limits and the annexes.
+    // Counts the free numbers and the usages, beside these limits and annexes.
     fn with_numbers<F: Frames>(
         alloc: Global,
         store: &F,

@@ -1,4 +1,4 @@
-// The end of a bank's objects.
+// Freeing and transferring the objects of a bank.
 ghost use Rattle.std.specs.Prelude.{◌≡◌, ◌≢◌, ℕ, ◌≤◌, ◌∷◌, [], drop, false, length};
 ghost use Rattle.std.specs.List.{All};
 ghost use Rattle.model.specs.Banking.{inherited, owned_by};
@@ -16,7 +16,7 @@ use crate::walking::owner;
 use capability::PresentFrames;
 use capability::objects::{rescind, set_owner};
 
-// Gives objects, announced, to a bank.
+// Makes a bank the owner of these objects, which are announced.
 fn transfer<F: PresentFrames>(store: &mut F, numbers: &[u64], bank: u64)
     requires announced { All (F.IsAnnounced store.old) numbers.now }
     requires used { All
@@ -37,8 +37,8 @@ fn transfer<F: PresentFrames>(store: &mut F, numbers: &[u64], bank: u64)
 }
 
 impl Banks {
-    // Frees a bank other than the prime bank, and transfers what it owns to its own bank. The bank
-    // and what it owns are announced, and listed from `skip` on.
+    // Frees a bank other than the prime bank, and transfers the objects that it owns to its owner. The bank and these
+    // objects must be announced, and listed from index `skip` on.
     pub(crate) fn return_to_parent<F: PresentFrames>(
         &mut self,
         store: &mut F,
@@ -65,7 +65,7 @@ impl Banks {
         mark(&mut self.nodes, &mut self.pages, first_page, bank, true);
     }
 
-    // Frees `listed[skip..]`, and subtracts its count from the usages of `above` and its ancestors.
+    // Frees `listed[skip..]`, and subtracts their count from the usages of `above` and its ancestors.
     pub(crate) fn free_listed<F: PresentFrames>(&mut self, store: &mut F, skip: usize, above: u64)
         requires asks { MayServe (F.parts store.old) self.old above }
         requires may { MayFree (objects_in (F.parts store.old)) above

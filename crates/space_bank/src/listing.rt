@@ -1,5 +1,5 @@
-// Lists of the numbers that an order writes. No push takes memory, since the list has its full
-// capacity.
+// Lists of the numbers that an order writes. Each list has memory for all numbers from the start, so adding to it
+// takes none.
 ghost use Rattle.std.specs.Prelude.{◌≡◌, ◌≢◌, ◌+◌, ◌<◌, ◌≤◌, ◌++◌, [], ◌∷◌, false, length, vec_len};
 ghost use Rattle.std.specs.Vec.{vec_capacity};
 ghost use Rattle.model.specs.Object.{is_free as counts_as_free};
@@ -15,8 +15,8 @@ use capability::{Caller, Frames};
 use collections::NumberSet;
 use model::Operation;
 
-// Whether a number is listed: all of a bank's if it is deep, itself and what is under it, else what
-// the bank itself owns.
+// Whether a number is to be listed for a bank. If `deep`, these are the bank and all objects below it; else the
+// objects that it owns itself.
 fn is_listed<F: Frames>(store: &F, bank: u64, deep: bool, number: u64) -> bool
     requires { HaveTheirRoles (frames_of (F.parts store.now)) }
     ensures { result ≡ is_listed (objects_in (F.parts store.now)) bank deep number }
@@ -28,8 +28,8 @@ fn is_listed<F: Frames>(store: &F, bank: u64, deep: bool, number: u64) -> bool
     }
 }
 
-// Lists the numbers of a bank other than the prime bank, least first. Number 0 isn't among them.
-// Goes over the numbers that aren't free.
+// Lists the numbers of a bank other than the prime bank, in rising order. Number 0 isn't among them. Goes over all
+// numbers that aren't free.
 #[tactic(auto, using(capability::proofs::FrameLists::length_objects, crate::proofs::Missing::listed_inner))]
 fn list_all<F: Frames>(
     store: &F,
@@ -62,8 +62,8 @@ fn list_all<F: Frames>(
 }
 
 impl Banks {
-    /// Lists the numbers that an invocation of a kernel object writes itself, and these alone: with a
-    /// call the process and its annex, with a return the process.
+    /// Replaces the list by the numbers that an invocation of a kernel object writes itself: for a call the process
+    /// and its annex, for a return the process.
     pub fn list_writers(&mut self, caller: Caller)
         requires { 2 ≤ self.old.room }
         ensures { self.new ≡ record self.old {
@@ -81,7 +81,7 @@ impl Banks {
         }
     }
 
-    /// Lists a number after those that are listed.
+    /// Appends a number to the list.
     pub fn list(&mut self, number: u64)
         requires { length self.old.listed < self.old.room }
         ensures { self.new ≡ record self.old { listed = self.old.listed ++ number ∷ [] } }
@@ -89,7 +89,7 @@ impl Banks {
         self.listed.push_reserved(number);
     }
 
-    // Lists the numbers of a bank after those that are listed.
+    // Appends the numbers of a bank to the list.
     #[tactic(auto, using(crate::proofs::Tallies::serve_roles, crate::proofs::Missing::bank_free))]
     pub(crate) fn list_all<F: Frames>(&mut self, store: &F, bank: u64, deep: bool)
         requires bank { MayServe (F.parts store.now) self.old bank }

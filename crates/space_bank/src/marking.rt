@@ -1,4 +1,4 @@
-// Which numbers are free: nodes come first, and pages after them.
+// Sets of free numbers. Nodes have the lower numbers, and pages those after them.
 ghost use Rattle.std.specs.Prelude.{◌≡◌, ℕ, List, ◌+◌, ◌<◌, ◌^◌, ◌++◌, None, IfSome, true, false, if◌then◌else◌};
 ghost use Rattle.std.specs.Prelude.{length, slice_index_or, slice_set};
 ghost use Rattle.std.specs.List.{All};
@@ -8,7 +8,7 @@ ghost use Rattle.space_bank.specs.Planning.{AreFree, HasNoneUsed, IsNextUsed};
 
 use collections::NumberSet;
 
-/// Makes a number free, or takes it. `first_page` is the least number of a page.
+/// Marks a number as free or as taken. `first_page` is the least number of a page.
 pub(crate) fn mark(
     nodes: &mut NumberSet,
     pages: &mut NumberSet,
@@ -30,7 +30,7 @@ pub(crate) fn mark(
     }
 }
 
-/// Makes numbers free.
+/// Marks numbers as free.
 #[tactic(auto, using(crate::proofs::Tallies::marked_more))]
 pub(crate) fn mark_free(
     nodes: &mut NumberSet,
@@ -50,7 +50,7 @@ pub(crate) fn mark_free(
     }
 }
 
-/// The least number from a number on that isn't free.
+/// Returns the least number that isn't below `from` and isn't free, or `None`.
 pub(crate) fn next_used(
     nodes: &NumberSet,
     pages: &NumberSet,

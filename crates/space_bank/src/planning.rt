@@ -1,4 +1,4 @@
-// Plans of the orders of banks. They change nothing but the list.
+// Plans of the orders of banks. Planning changes only the list of numbers.
 ghost use Rattle.std.specs.Prelude.{◌≡◌, ℕ, ◌<◌, ◌≤◌, ◌++◌, List, [], ◌∷◌, length, MatchOption};
 ghost use Rattle.model.specs.declared.object.Object.{Object};
 ghost use Rattle.model.specs.declared.order.Arguments.{Arguments};
@@ -18,7 +18,7 @@ use crate::walking::owner;
 use capability::{BankChange, Change, Frames, OrderPlan};
 use model::{Access, Arguments, BankOrder, Capability, ResultCode};
 
-// The object that a capability frees, the root of a process: none where it frees nothing.
+// Returns the object that freeing a capability frees (of a process, its root), or `None` if it frees none.
 fn freed_object(capability: Capability) -> Option<u64>
     ensures { (os : List Object) → MatchOption result (freed_by os capability ≡ [])
         (λ n. freed_by os capability ≡ n ∷ annex_of os capability) }
@@ -37,10 +37,10 @@ fn freed_object(capability: Capability) -> Option<u64>
 }
 
 impl Banks {
-    /// Plans an order. Appends the numbers that it writes to the list, which has two at most.
+    /// Plans an order. Appends the numbers that it writes to the list, which may have at most two before.
     ///
-    /// Changes nothing else and takes no memory. A new object is planned at the least number that
-    /// is free. If more than one code applies, the plan has the least.
+    /// Changes nothing else and takes no memory. A new object is planned at the least free number. If more than one
+    /// result code applies, the plan has the least.
     pub fn plan<F: Frames>(
         &mut self,
         store: &F,
@@ -69,8 +69,8 @@ impl Banks {
         }
     }
 
-    /// How many more objects a bank may account for, by its own limit and all above it; how many it
-    /// accounts for; and its own limit.
+    /// Returns how many more objects a bank may own under the limits of its whole chain, its usage, and its own
+    /// limit.
     pub fn remaining<F: Frames>(&self, store: &F, bank: u64) -> [u64; 3]
         requires { MayServe (F.parts store.now) self.now bank }
         ensures { let objects = objects_in (F.parts store.now) in result
@@ -85,7 +85,7 @@ impl Banks {
         ]
     }
 
-    // What a capability frees, where the bank owns it.
+    // Plans to free the object of a capability. The bank must own it.
     fn plan_free<F: Frames>(&mut self, store: &F, bank: u64, capability: Capability) -> OrderPlan
         requires bank { MayServe (F.parts store.now) self.old bank }
         requires few { length self.old.listed ≤ 2 }
@@ -108,7 +108,7 @@ impl Banks {
         }
     }
 
-    // Lists the annex of the process that a capability names, if it names one.
+    // If a capability names a process, lists its annex.
     fn list_annex(&mut self, capability: Capability)
         requires { (p : ℕ) → capability ≡ Capability.Process p
             → length self.old.listed < self.old.room }
@@ -121,7 +121,7 @@ impl Banks {
         }
     }
 
-    // A bank and all that is under it are destroyed.
+    // Plans to destroy a bank and all objects below it.
     #[tactic(auto, using(crate::proofs::Plans::bank_room))]
     fn plan_destroy<F: Frames>(&mut self, store: &F, bank: u64) -> OrderPlan
         requires bank { MayServe (F.parts store.now) self.old bank }
@@ -138,7 +138,7 @@ impl Banks {
         OrderPlan::changed(Change::Bank(BankChange::GiveUp { above }))
     }
 
-    // A bank is destroyed, and what it owns goes to its own owner.
+    // Plans to destroy a bank, and to transfer the objects that it owns to its owner.
     fn plan_return<F: Frames>(&mut self, store: &F, bank: u64) -> OrderPlan
         requires bank { MayServe (F.parts store.now) self.old bank }
         requires few { length self.old.listed ≤ 2 }

@@ -1,4 +1,4 @@
-// Plans of the orders that allocate. They change nothing but the list.
+// Plans of the orders that allocate. Planning changes only the list of numbers.
 ghost use Rattle.std.specs.Prelude.{◌≡◌, ◌+◌, ◌<◌, ◌≤◌, ◌^◌, ◌++◌, IfSome, List, Some, length};
 ghost use Rattle.std.specs.List.{range_with_len};
 ghost use Rattle.model.specs.declared.object.Object.{Object};
@@ -19,7 +19,7 @@ use capability::{BankChange, Change, Frames, Fresh, OrderPlan};
 use collections::NumberSet;
 use model::{Access, Capability, ResultCode};
 
-/// What a bank makes.
+/// A kind of object that a bank can make.
 #[derive(Clone, Copy)]
 pub enum New {
     Page,
@@ -29,7 +29,7 @@ pub enum New {
 }
 
 impl New {
-    // How many numbers it takes.
+    // Returns how many numbers the object takes.
     fn count(self) -> u64
         ensures { result ≡ count_of self }
     {
@@ -40,7 +40,7 @@ impl New {
     }
 }
 
-// What is made of the least number in a set, whose numbers are counted from a first one.
+// Plans a new object at the least number in a set. Index 0 of the set stands for number `first`.
 #[tactic(auto, using(crate::proofs::Missing::found_none))]
 fn next_one(numbers: &NumberSet, first: u64, fresh: Fresh, bank: u64) -> Option<BankChange>
     requires { first + length numbers.now < 2 ^ 64 }
@@ -58,7 +58,7 @@ fn next_one(numbers: &NumberSet, first: u64, fresh: Fresh, bank: u64) -> Option<
     }
 }
 
-// The process that is made of the two least numbers in a set.
+// Plans a new process at the two least numbers in a set.
 #[tactic(auto, using(crate::proofs::Missing::found_none, crate::proofs::Missing::process_missing))]
 fn next_process(numbers: &NumberSet, bank: u64) -> Option<BankChange>
     ensures made { (os : List Object) → AreMarked os 0 (length numbers.now) numbers.now
@@ -78,7 +78,7 @@ fn next_process(numbers: &NumberSet, bank: u64) -> Option<BankChange>
     }
 }
 
-// The capability to what is made.
+// Returns the capability to the object that a change makes.
 fn given_by(change: BankChange) -> Capability
     ensures { result ≡ given_by change }
 {
@@ -89,7 +89,7 @@ fn given_by(change: BankChange) -> Capability
     }
 }
 
-// The capability to a new object.
+// Returns the capability to a new object.
 fn given_for(number: u64, fresh: Fresh) -> Capability
     ensures { result ≡ given_for number fresh }
 {
@@ -103,7 +103,7 @@ fn given_for(number: u64, fresh: Fresh) -> Capability
     }
 }
 
-// Whether a new object is a bank, under a chain that is as long as it may be.
+// Whether the new object is a bank, and the chain above it is as long as allowed already.
 fn is_deep<F: Frames>(store: &F, bank: u64, new: New) -> bool
     ensures { result ≡ is_deep (objects_in (F.parts store.now)) bank new }
 {
@@ -114,7 +114,7 @@ fn is_deep<F: Frames>(store: &F, bank: u64, new: New) -> bool
 }
 
 impl Banks {
-    // What is made of the least free numbers, if enough are free.
+    // Plans a new object at the least free numbers. Returns `None` if too few are free.
     fn next_free<F: Frames>(&self, store: &F, bank: u64, new: New) -> Option<BankChange>
         requires { MayServe (F.parts store.now) self.now bank }
         ensures made { result ≡ made_for (F.parts store.now).geometry
@@ -130,7 +130,7 @@ impl Banks {
         }
     }
 
-    // Lists the numbers of what is made.
+    // Lists the numbers of the objects that a change makes.
     fn list_new(&mut self, change: BankChange)
         requires { length self.old.listed + length (numbers_of change) ≤ self.old.room }
         ensures { self.new ≡ record self.old { listed = self.old.listed ++ numbers_of change } }
@@ -145,8 +145,8 @@ impl Banks {
         }
     }
 
-    // A new object, at the least free number of its kind. A process takes two, its root and its
-    // annex, and a bank a chain that isn't as long as it may be.
+    // Plans a new object at the least free number of its kind. A process takes two numbers, for its root and its
+    // annex. A bank is refused if its chain would be too long.
     pub(crate) fn plan_new<F: Frames>(&mut self, store: &F, bank: u64, new: New) -> OrderPlan
         requires bank { MayServe (F.parts store.now) self.old bank }
         requires few { length self.old.listed ≤ 2 }

@@ -13,17 +13,17 @@ use crate::banks::Banks;
 use capability::Frames;
 use model::Role;
 
-/// How many banks a chain has at most.
+/// The most banks that a chain may have.
 pub(crate) const MAX_CHAIN: usize = 16;
 
-// The owner of what stands at a number.
+// Returns the owner of an object.
 pub(crate) fn owner<F: Frames>(store: &F, number: u64) -> u64
     ensures { result ≡ owner_at (objects_in (F.parts store.now)) number }
 {
     store.table().header(number).owner
 }
 
-// Whether a number is free. What is no number is.
+// Whether a number is free. A number that doesn't exist counts as free.
 pub(crate) fn is_free<F: Frames>(store: &F, number: u64) -> bool
     requires { HaveTheirRoles (frames_of (F.parts store.now)) }
     ensures { result
@@ -32,8 +32,8 @@ pub(crate) fn is_free<F: Frames>(store: &F, number: u64) -> bool
     matches!(store.table().header(number).role, Role::Free)
 }
 
-/// Whether a bank is in the chain that begins with another, which has at most 16 banks (KeyKOS,
-/// EROS: banks form a tree). Goes from owner to owner in the table alone.
+/// Whether a bank is in the chain that begins with `first`, of at most 16 banks (KeyKOS, EROS: banks form a tree).
+/// Reads only the table.
 #[tactic(auto, using(crate::proofs::Plans::chain_begun, crate::proofs::Plans::chain_here))]
 pub fn is_in_chain<F: Frames>(store: &F, first: u64, bank: u64) -> bool
     ensures { result
@@ -52,7 +52,7 @@ pub fn is_in_chain<F: Frames>(store: &F, first: u64, bank: u64) -> bool
     false
 }
 
-// Whether the chain of what stands at a number passes through a bank.
+// Whether a bank is in the chain of an object's owner.
 pub(crate) fn is_under<F: Frames>(store: &F, bank: u64, number: u64) -> bool
     requires { HaveTheirRoles (frames_of (F.parts store.now)) }
     ensures { let objects = objects_in (F.parts store.now) in
@@ -61,7 +61,7 @@ pub(crate) fn is_under<F: Frames>(store: &F, bank: u64, number: u64) -> bool
     !is_free(store, number) && is_in_chain(store, owner(store, number), bank)
 }
 
-// How many banks the chain of a bank has.
+// Returns how many banks the chain of a bank has.
 #[tactic(auto, using(crate::proofs::Plans::chain_begun, crate::proofs::Plans::chain_last))]
 pub(crate) fn chain_length<F: Frames>(store: &F, bank: u64) -> usize
     ensures { result ≡ length (chain (objects_in (F.parts store.now)) bank) }
@@ -77,7 +77,7 @@ pub(crate) fn chain_length<F: Frames>(store: &F, bank: u64) -> usize
 }
 
 impl Banks {
-    // How many more objects a bank may account for.
+    // Returns how many more objects the limit of a bank itself allows.
     fn left(&self, bank: u64) -> u64
         requires { HasLeft self.now bank }
         ensures { result ≡ slice_index self.now.limits bank - slice_index self.now.usages bank }
@@ -85,7 +85,7 @@ impl Banks {
         self.limits[bank as usize] - self.usages[bank as usize]
     }
 
-    // Whether `count` more objects of a bank pass the limit of no bank in its chain.
+    // Whether the limits of all banks in the chain of a bank allow `count` more objects.
     #[tactic(auto, using(crate::proofs::Plans::quota_is, crate::proofs::Plans::chain_within_limits))]
     pub(crate) fn has_quota<F: Frames>(&self, store: &F, bank: u64, count: u64) -> bool
         requires { MayServe (F.parts store.now) self.now bank }
@@ -94,7 +94,7 @@ impl Banks {
         count <= self.least_left(store, bank)
     }
 
-    // How many more objects of a bank pass the limit of no bank in its chain.
+    // Returns how many more objects the limits of all banks in the chain of a bank allow.
     #[tactic(auto, using(crate::proofs::Plans::left_there))]
     pub(crate) fn least_left<F: Frames>(&self, store: &F, bank: u64) -> u64
         requires { MayServe (F.parts store.now) self.now bank }

@@ -1,4 +1,4 @@
-// What is done again and again, over devices that stop after more and more calls.
+// Repeating a deed over devices that stop after more and more calls.
 use crate::task::{Deed, Task, outcome_of};
 use device::Device;
 use devices::Outcome;
@@ -7,7 +7,8 @@ use object_cache::{BoundedCache, PlainStore};
 use std::io::Write;
 
 impl Task<'_> {
-    // Writes the image of a device to a device that holds the sectors in `script` and passes some calls.
+    // Upgrades or copies the image of a device to a new device that holds the sectors in `script` and stops after
+    // `calls` calls.
     fn upgrade_to<D: Device>(
         &self,
         old: D,
@@ -27,8 +28,8 @@ impl Task<'_> {
         )?)
     }
 
-    // Does a deed once, over a device with the image, and answers whether a device stopped. A new device
-    // passes some calls if it is the one that stops.
+    // Does a deed once, over a device with the image, and returns whether a device stopped. If the deed is about a
+    // new device that stops, that one stops after `calls` calls.
     fn do_over<D: Device>(
         &self,
         deed: &Deed,
@@ -59,7 +60,7 @@ impl Task<'_> {
         }
     }
 
-    // Does a deed once, over devices that pass some calls, and answers whether one stopped.
+    // Does a deed once, over devices that stop after `calls` calls, and returns whether one stopped.
     fn do_once(
         &self,
         deed: &Deed,
@@ -76,7 +77,7 @@ impl Task<'_> {
         self.do_over(deed, device, calls, outcome, reported)
     }
 
-    // Does a deed once, writes its result, and answers whether a device stopped.
+    // Does a deed once, writes its result, and returns whether a device stopped.
     fn write_once<W: Write>(
         &self,
         deed: &Deed,
@@ -90,7 +91,7 @@ impl Task<'_> {
         Ok(is_stopped)
     }
 
-    /// Does a deed with a stop at each call of a device in turn, until none is left.
+    /// Does a deed with a stop at each call of a device in turn, until it ends without a stop.
     pub(crate) fn stop_at_each<W: Write>(
         &self,
         deed: &Deed,
@@ -105,7 +106,7 @@ impl Task<'_> {
         Ok(())
     }
 
-    /// Does so with each of these outcomes of a power cut.
+    /// Does a deed with a stop at each call, for each of these outcomes of a power cut.
     pub(crate) fn try_outcomes<W: Write>(
         &self,
         deed: &Deed,
@@ -122,7 +123,7 @@ impl Task<'_> {
         Ok(())
     }
 
-    /// Does a deed over devices that don't stop.
+    /// Does a deed once, over devices that don't stop.
     pub(crate) fn do_whole<W: Write>(&self, deed: &Deed, writer: &mut W) -> anyhow::Result<()> {
         self.write_once(deed, u64::MAX, Outcome::Drop, writer)?;
         Ok(())

@@ -1,12 +1,13 @@
-// Devices that hold an image.
+// Making devices that hold an image.
 use crate::task::Task;
 use device::{Device, MAX_SECTORS, SECTOR_SIZE};
 use devices::{Fuse, Memory, Outcome};
 
-// How many sectors may be written and syncs made, with those of the image.
+// How many sector writes and syncs a device in memory can record, including those of the image.
 const ROOM: usize = 10_000;
 
-// Writes these sectors durably to a device, and returns whether it has as many and they are.
+// Writes these sectors to a device, durably. Returns whether that succeeded; the device must have exactly as many
+// sectors.
 fn is_filled<D: Device>(device: &mut D, image: &[u8]) -> bool {
     if image.len() % SECTOR_SIZE != 0 || (image.len() / SECTOR_SIZE) as u64 != device.sectors() {
         return false;
@@ -14,7 +15,7 @@ fn is_filled<D: Device>(device: &mut D, image: &[u8]) -> bool {
     device.write(0, image).is_ok() && device.sync().is_ok()
 }
 
-// A device with these sectors that passes `calls` calls.
+// Writes these sectors to a device, and makes it stop after `calls` calls.
 fn fused<D: Device>(device: D, image: &[u8], calls: u64) -> anyhow::Result<Fuse<D>> {
     let mut device = device;
     if !is_filled(&mut device, image) {
@@ -24,7 +25,7 @@ fn fused<D: Device>(device: D, image: &[u8], calls: u64) -> anyhow::Result<Fuse<
 }
 
 impl Task<'_> {
-    /// A device in memory with these sectors that passes `calls` calls.
+    /// Returns a device in memory with these sectors that stops after `calls` calls.
     pub(crate) fn device_with(
         &self,
         image: &[u8],

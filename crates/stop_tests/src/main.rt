@@ -1,6 +1,6 @@
-//! Runs a script over an image in memory, whole, or again and again with a device that stops at
-//! each of its calls in turn, and prints what was answered and what a power cut then leaves. Upgrades
-//! or copies an image in the same way. It expects nothing: `checks/stops` and `checks/upgrades` do.
+//! Runs a script over an image in memory: once, or again and again with a device that stops at each of its calls in
+//! turn. Prints the answers, and what a power cut then leaves. Upgrades or copies an image in the same way. It checks
+//! nothing itself: `checks/stops` and `checks/upgrades` do.
 #![tactic(auto)]
 
 mod deeds;
@@ -20,7 +20,7 @@ use task::{Deed, Task};
 const USAGE: &str =
     "usage: stop_tests IMAGE SCRIPT TAIL LAST CAPACITY [OUTCOME ..], or upgrade|copy OLD NEW LAST [OUTCOME ..]";
 
-// The layout that a command writes, or `None` if the word names no such command.
+// Returns the layout that `upgrade` or `copy` writes, or `None` for another word.
 fn layout_of(word: &str) -> Option<NewLayout> {
     match word {
         "upgrade" => Some(NewLayout::Of(Version::NEWEST)),
@@ -29,7 +29,7 @@ fn layout_of(word: &str) -> Option<NewLayout> {
     }
 }
 
-// What these files have.
+// Returns the bytes of these files.
 fn read_all(rt: &HostRuntime, files: &[String]) -> anyhow::Result<Vec<Vec<u8>>> {
     let mut texts = Vec::new(rt.alloc());
     for file in files {
@@ -38,7 +38,7 @@ fn read_all(rt: &HostRuntime, files: &[String]) -> anyhow::Result<Vec<Vec<u8>>> 
     Ok(texts)
 }
 
-// The task that these files are, of a script or of an upgrade.
+// Returns the task with the bytes of these files: four for a script, three for an upgrade or a copy.
 fn task_of<'a>(rt: &HostRuntime, texts: &'a [Vec<u8>]) -> anyhow::Result<Task<'a>> {
     match texts {
         [image, script, tail, last] => Ok(Task {
@@ -59,7 +59,7 @@ fn task_of<'a>(rt: &HostRuntime, texts: &'a [Vec<u8>]) -> anyhow::Result<Task<'a
     }
 }
 
-// Runs the script that words name, with each outcome, or whole where there is none.
+// Runs a script over an image, with each outcome of a power cut; if none is given, without stops.
 fn run_script<W: Write>(
     rt: &HostRuntime,
     files: &[String],
@@ -78,8 +78,8 @@ fn run_script<W: Write>(
     task.try_outcomes(&deed, outcomes, writer)
 }
 
-// Writes the image that words name to a new device, with a stop at each call of the old device, and with each
-// outcome at each of the new one.
+// Upgrades or copies an image to a new device: with a stop at each call of the old device, and for each outcome with
+// a stop at each call of the new one.
 fn run_upgrades<W: Write>(
     rt: &HostRuntime,
     layout: NewLayout,
@@ -94,7 +94,7 @@ fn run_upgrades<W: Write>(
     task.try_outcomes(&Deed::StopNew(layout), outcomes, writer)
 }
 
-// Does what words ask. The first four may be files.
+// Does what the words ask for. `files` are the first four words.
 fn work(rt: &HostRuntime, files: &[String], settings: &[String]) -> anyhow::Result<()> {
     let mut writer = rt.stdout();
     let Some((first, others)) = files.split_first() else {
@@ -106,7 +106,7 @@ fn work(rt: &HostRuntime, files: &[String], settings: &[String]) -> anyhow::Resu
     }
 }
 
-// Does what the words request. With too few it prints which are wanted.
+// Does what the words ask for. If there are too few, prints the usage.
 fn main(rt: HostRuntime) -> anyhow::Result<()> {
     let words: Vec<String> = std::env::args(&rt)?.collect(rt.alloc())?;
     match (words.get(1..5), words.get(5..)) {

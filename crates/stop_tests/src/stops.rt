@@ -1,4 +1,4 @@
-// Runs of a script over a device that stops.
+// Running a script over a device that stops.
 use crate::task::Task;
 use checkpoint::{Checkpoint, ObjectStore, OpenFault};
 use device::Device;
@@ -9,7 +9,7 @@ use std::io::Write;
 
 const FAULT: &[u8] = b"fault\n";
 
-// Reports where a kernel stands.
+// Writes the saved state at which a kernel stands, or that it is down.
 fn tell_saved(saved: Option<Checkpoint>, reported: &mut Vec<u8>) -> Result<(), RunFault> {
     let Some(saved) = saved else {
         return writeln!(reported, "= down").or(Err(RunFault::Write));
@@ -18,7 +18,7 @@ fn tell_saved(saved: Option<Checkpoint>, reported: &mut Vec<u8>) -> Result<(), R
     writeln!(reported, "= left {generation} {age} {entries}").or(Err(RunFault::Write))
 }
 
-// Reports in which line of a script there was a fault.
+// Writes at which line of a script a fault was answered, if at any.
 fn tell_stop(stop: Option<usize>, reported: &mut Vec<u8>) -> Result<(), RunFault> {
     let Some(line) = stop else {
         return writeln!(reported, "= whole").or(Err(RunFault::Write));
@@ -26,7 +26,7 @@ fn tell_stop(stop: Option<usize>, reported: &mut Vec<u8>) -> Result<(), RunFault
     writeln!(reported, "= stopped {line}").or(Err(RunFault::Write))
 }
 
-// Reports the answers to some lines, and returns whether they are a single `fault`.
+// Writes the answers to some lines, and returns whether they are a single `fault`.
 fn tell_run<D: Device, S: ObjectStore<D>>(
     kernel: &mut Kernel<D, S>,
     lines: &[u8],
@@ -39,7 +39,7 @@ fn tell_run<D: Device, S: ObjectStore<D>>(
     Ok(reported.get(before..) == Some(FAULT))
 }
 
-// Reports where a kernel stands, and what it answers to some lines.
+// Writes the saved state at which a kernel stands, and its answers to some lines.
 fn tell_standing<D: Device, S: ObjectStore<D>>(
     kernel: &mut Kernel<D, S>,
     lines: &[u8],
@@ -51,7 +51,7 @@ fn tell_standing<D: Device, S: ObjectStore<D>>(
 }
 
 impl Task<'_> {
-    // Reports what is answered to the script up to the first fault, and gives the number of its line.
+    // Writes the answers to the script up to the first fault, and returns the number of the faulty line.
     fn tell_to_fault<D: Device, S: ObjectStore<D>>(
         &self,
         kernel: &mut Kernel<D, S>,
@@ -69,7 +69,8 @@ impl Task<'_> {
         Ok(None)
     }
 
-    // Reports whether a kernel opens a device, where it then stands, and what it answers.
+    // Writes whether a kernel opens a device, the saved state at which it then stands, and its answers to the last
+    // lines.
     fn tell_opened<D: Device, S: ObjectStore<D>>(
         &self,
         device: D,
@@ -88,7 +89,7 @@ impl Task<'_> {
         }
     }
 
-    /// Reports what a power cut leaves of a device, and what a kernel that opens it answers.
+    /// Writes what a power cut leaves of a device: what a kernel that opens it answers.
     pub(crate) fn tell_left<D: Device, P: ObjectStore<D>>(
         &self,
         device: D,
@@ -100,8 +101,8 @@ impl Task<'_> {
         self.tell_opened::<D, P>(device, setting, reported)
     }
 
-    // Runs the script over a kernel, reports what it answers and what its device then holds, and
-    // returns whether the device stopped.
+    // Runs the script over a kernel; writes the answers, and what its device then holds. Returns whether the device
+    // stopped.
     fn tell_all<D: Device, S: ObjectStore<D>, P: ObjectStore<D>>(
         &self,
         kernel: Kernel<D, S>,
@@ -116,8 +117,8 @@ impl Task<'_> {
         Ok(stop.is_some())
     }
 
-    /// Runs the script over a device that passes some calls, and returns whether it stopped. If it
-    /// stopped before it was opened, nothing is printed. The last kernel has a store of the second kind.
+    /// Runs the script over a device that stops after `calls` calls, and returns whether it stopped. If it stopped
+    /// while it was being opened, nothing is written. The last kernel has a store of type `P`.
     pub(crate) fn run_script<D: Device, S: ObjectStore<D>, P: ObjectStore<D>>(
         &self,
         device: D,

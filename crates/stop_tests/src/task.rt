@@ -1,4 +1,4 @@
-// What a run of the program is to do.
+// The task of one run of this program.
 use devices::Outcome;
 use image_builder::NewLayout;
 use object_cache::Capacity;
@@ -11,25 +11,25 @@ pub(crate) enum Deed {
     Run(Option<Capacity>),
     /// The image is written to a new device, and the old one stops.
     StopOld(NewLayout),
-    /// The same, and the new device stops.
+    /// The image is written to a new device, and this new device stops.
     StopNew(NewLayout),
 }
 
-/// What it is done with.
+/// The inputs of a deed.
 #[derive(Clone, Copy)]
 pub(crate) struct Task<'a> {
     pub(crate) alloc: Global,
-    /// The sectors that the device has at first.
+    /// The sectors of the device at first.
     pub(crate) image: &'a [u8],
-    /// The script that the device stops in, or the sectors that the new device of an upgrade has.
+    /// The script during which the device stops; for an upgrade or a copy, the first sectors of the new device.
     pub(crate) script: &'a [u8],
     /// The lines for the same kernel after the stop.
     pub(crate) tail: &'a [u8],
-    /// The lines for a last kernel, over the device as the others left it, with all objects in memory.
+    /// The lines for a last kernel, which opens the device as the others left it, with all objects in memory.
     pub(crate) last: &'a [u8],
 }
 
-/// What a word says that a power cut leaves: `keep`, `drop`, or a byte.
+/// Returns the outcome of a power cut that a word names: `keep`, `drop`, or a byte; or `None`.
 pub(crate) fn outcome_of(word: &str) -> Option<Outcome> {
     match word {
         "keep" => Some(Outcome::Keep),

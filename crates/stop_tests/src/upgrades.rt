@@ -1,4 +1,4 @@
-// Upgrades and copies of an image over devices that stop.
+// Upgrading and copying an image over devices that stop.
 use crate::task::Task;
 use checkpoint::ObjectStore;
 use device::Device;
@@ -7,7 +7,7 @@ use migrator::WholeStore;
 use script::RunFault;
 use std::io::Write;
 
-// Reports the outcome of an upgrade or a copy.
+// Writes how an upgrade or a copy ended.
 fn tell_outcome(outcome: Result<(), UpgradeFault>, reported: &mut Vec<u8>) -> Result<(), RunFault> {
     let Err(fault) = outcome else {
         return writeln!(reported, "= written").or(Err(RunFault::Write));
@@ -16,8 +16,8 @@ fn tell_outcome(outcome: Result<(), UpgradeFault>, reported: &mut Vec<u8>) -> Re
 }
 
 impl Task<'_> {
-    /// Writes the image of one device to another one. Reports its outcome and what a power cut
-    /// leaves of the new one, and answers whether a device stopped.
+    /// Upgrades or copies the image of one device to another one. Writes how that ended and what a power cut leaves
+    /// of the new device, and returns whether a device stopped.
     pub(crate) fn run_upgrade<D: Device, E: Device, S: WholeStore<D>, P: ObjectStore<E>>(
         &self,
         old: D,

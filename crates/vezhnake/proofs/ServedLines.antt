@@ -54,13 +54,13 @@ numbered_on g [] us (c ∷ cs) ds rs qs first next = absurd first
 numbered_on g (t ∷ ts) us [] ds rs qs first next = absurd first
 numbered_on g (t ∷ ts) us (c ∷ cs) ds [] qs first next = absurd first
 
--- what is after the replies written
+-- the rows after the replies that were written
 pub behind_next : (rs before : List RawReply) (i : ℕ) (r : RawReply) → drop i rs ≡ drop i before →
     drop (i + 1) (slice_set rs i r) ≡ drop (i + 1) before
 behind_next rs before i r same =
     drop-set-lt (i + 1) rs i r (omega arith) ∙ sym (drop-drop 1 i rs) ∙ ap (λ (xs : List RawReply). drop 1 xs) same ∙ drop-drop 1 i before
 
--- a reply that doesn't end a batch is no refusal, if a refusal would end it
+-- if refusals end a batch, a reply that doesn't end it is no refusal
 pub still_accepted : (stops ends : Bool) (rs : List RawReply) (i : ℕ) (r : RawReply) → i < length rs → ends ≡ (stops && is_refused r) →
     ends ≡ false → (stops ≡ true → (k : ℕ) → k < i → refuses_at rs k ≡ false) → stops ≡ true → (k : ℕ) → k < i + 1 →
     refuses_at (slice_set rs i r) k ≡ false
@@ -119,7 +119,7 @@ module _ {S : Type 0} (view : S → View HostDevice) (parts : S → Parts) where
     survives = runs_survive view parts all p p;
   }
 
-  -- and more of them
+  -- carrying out more commands
   pub more_served : CrashesInRunsAreSurvived host_disk view parts → (a b c : Power HostDevice S) (cs ds : List (Option Command))
       (rs qs : List RawReply) → ServesEach view parts a b cs rs → ServesEach view parts b c ds qs →
       ServesEach view parts a c (cs ++ ds) (rs ++ qs)
@@ -137,7 +137,7 @@ module _ {S : Type 0} (view : S → View HostDevice) (parts : S → Parts) where
     survives = runs_survive view parts all a c;
   }
 
-  -- one more of a list, whose reply is written after those before
+  -- carrying out one more command of a list, whose reply is written after the others
   pub served_next : CrashesInRunsAreSurvived host_disk view parts → (start now next : Power HostDevice S) (cs : List (Option Command))
       (rs : List RawReply) (i : ℕ) (c : Command) (r : RawReply) → i < length cs → i < length rs → slice_index_or cs i None ≡ Some c →
       ServesEach view parts start now (take i cs) (take i rs) → ServesEach view parts now next (Some c ∷ []) (r ∷ [])

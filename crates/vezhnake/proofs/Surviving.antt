@@ -23,7 +23,7 @@ first_events k calls lost =
     ap (take (length (events_of (take k calls)))) (front_of k calls lost) ∙ take-append_seam (events_of (take k calls))
     (events_of (drop k calls) ++ lost)
 
--- what storage may leave after the first k calls, the device might have left since an earlier moment
+-- what the storage may leave after the first k calls, a crash of the device since an earlier moment could have left
 at_calls : (d : HostDevice) (t k : ℕ) (c : Image) → t ≤ length (events_of (take k d.file.history.calls))
     → StorageLeaves d.sectors d.file.history.first (take k d.file.history.calls) c → (host_disk d).left_since t c
 at_calls d t k c later leaves =
@@ -83,7 +83,7 @@ start_is view parts (power.Up l) d is = ap (λ (e : HostDevice). e.file.pending.
 start_is view parts (power.Down e) d is = ap (λ (f : HostDevice). f.file.pending.start) is
 start_is view parts power.Between d is = absurd is
 
--- a run in which no read fails, and whose observer doesn't end it, fails only to write
+-- a run in which no read fails, and which its observer doesn't end, can only fail to write
 pub only_to_write : (r : Result (Unit {0}) RunFault) (n : ℕ) → IfErr r (λ e. e ≢ fault.Stopped) → IsCounted (IsErrOf r fault.Read) n n
     → IfErr r (λ e. e ≡ fault.Write)
 only_to_write (Ok a) n goes_on counted = tt

@@ -1,11 +1,11 @@
-// A whole script in one call.
+// Running a whole script in one call.
 ghost use Rattle.vezhnake.specs.Sessions.{IsFirstFault, RunsBatch, RunsScript};
 
 use crate::session::Session;
 use crate::status::Status;
 use std::alloc::Global;
 
-/// How many bytes the answers and the calls of a batch have.
+/// The sizes of the answers and of the calls of a batch, in bytes.
 #[repr(C)]
 #[derive(Drop)]
 pub struct Batch {
@@ -32,7 +32,7 @@ fn first_fault(first: Status, second: Status) -> Status
     }
 }
 
-// Runs a script, and copies the answers and the calls.
+// Runs a script in a session, and copies the answers and the calls.
 fn run_script(
     session: &mut Session,
     script: &[u8],
@@ -48,10 +48,10 @@ fn run_script(
     first_fault(answered, taken)
 }
 
-/// Opens a session on storage that holds these bytes, as `HostKernel::open` does, runs a script in
-/// it, and copies the answers and the calls.
+/// Opens a session on storage that holds these bytes, as `HostKernel::open` does, runs a script in it, and copies the
+/// answers and the calls.
 ///
-/// An error of the session, or the first one of `Session::step` and `Session::take_calls`.
+/// Returns the error of opening, or the first error of `Session::step` and `Session::take_calls`.
 pub fn run_batch(
     alloc: Global,
     image: &[u8],

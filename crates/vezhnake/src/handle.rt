@@ -1,4 +1,4 @@
-// What C holds.
+// The handle of a session, which a C program holds.
 ghost use Rattle.std.specs.Prelude.{◌≡◌, ◌↔◌, true, Some, None, IsSome, option_map};
 ghost use Rattle.vezhnake.specs.TypedCalls.{SavesSession, ServesBatch, ShowsObject, ShowsPage};
 ghost use Rattle.vezhnake.specs.Sessions.{ClosesHandle, CopiesAnswer, OnSession, OpensHandle, StepsSession, TakesCalls};
@@ -12,7 +12,7 @@ use crate::status::Status;
 use std::alloc::Global;
 use std::mem;
 
-/// A session that C holds, or none. C begins with all bytes 0, which holds none.
+/// A handle that a C program holds, with a session or without. At first all its bytes are 0, and it has none.
 #[repr(C)]
 pub struct Handle {
     pointer: SessionPointer,
@@ -28,7 +28,7 @@ impl Drop for Handle {
 }
 
 impl Handle {
-    // Drops the session, if there is one, and holds this one.
+    // Drops the session of the handle, if there is one, and puts another into it.
     fn put(&mut self, session: Box<Session>)
         ensures { self.new.pointer.session ≡ Some session.value }
     {
@@ -40,7 +40,7 @@ impl Handle {
         };
     }
 
-    // The session, if there is one.
+    // Returns the session of the handle, if there is one.
     fn into_session(self) -> Option<Box<Session>>
         ensures { self.pointer.session ≡ option_map (λ session. session.value) result }
     {
@@ -56,7 +56,7 @@ impl Handle {
         }
     }
 
-    // Takes the session out, and closes the handle.
+    // Returns the session of the handle, if there is one, and closes the handle.
     fn take(&mut self) -> Option<Box<Session>>
         ensures taken { self.old.pointer.session ≡ option_map (λ session. session.value) result }
         ensures left { self.new.pointer.session ≡ None }
@@ -70,7 +70,7 @@ impl Handle {
         mem::replace(self, closed).into_session()
     }
 
-    // Opens a session in a handle that holds none. An error changes nothing.
+    // Opens a session in a handle that has none. An error changes nothing.
     #[tactic(auto, using(crate::proofs::Handles::opens_new, crate::proofs::Handles::opens_none))]
     fn open_closed(&mut self, image: &[u8], cache: u64) -> Status
         requires { self.old.pointer.session ≡ None }
@@ -89,8 +89,8 @@ impl Handle {
         }
     }
 
-    /// Opens a session on storage that holds these bytes, as `HostKernel::open` does.
-    /// `AlreadyOpen` if the handle is open. An error changes nothing.
+    /// Opens a session on storage that holds these bytes, as `HostKernel::open` does. Returns `AlreadyOpen` if the
+    /// handle is open. An error changes nothing.
     #[tactic(auto, using(crate::proofs::Handles::without, crate::proofs::Handles::opens_again))]
     pub fn open(&mut self, image: &[u8], cache: u64) -> Status
         ensures { OpensHandle self.old.pointer.session self.new.pointer.session image.now cache result }
@@ -101,7 +101,7 @@ impl Handle {
         self.open_closed(image, cache)
     }
 
-    /// Runs a text as a script, as `Session::step` does. `NotOpen` if the handle is not open.
+    /// Runs a text as a script, as `Session::step` does. Returns `NotOpen` if the handle is not open.
     #[tactic(auto, using(crate::proofs::Handles::on_none, crate::proofs::Handles::on_some))]
     pub fn step(&mut self, text: &[u8], buffer: &mut [u8], size: &mut usize) -> Status
         ensures { OnSession self.old.pointer.session self.new.pointer.session result
@@ -116,7 +116,7 @@ impl Handle {
         status
     }
 
-    /// Copies the last answers, as `Session::copy_answer` does. `NotOpen` if the handle is not open.
+    /// Copies the last answers, as `Session::copy_answer` does. Returns `NotOpen` if the handle is not open.
     #[tactic(auto, using(crate::proofs::Handles::on_none, crate::proofs::Handles::on_some))]
     pub fn copy_answer(&mut self, buffer: &mut [u8], size: &mut usize) -> Status
         ensures { OnSession self.old.pointer.session self.new.pointer.session result
@@ -131,7 +131,7 @@ impl Handle {
         status
     }
 
-    /// Copies the next calls, as `Session::take_calls` does. `NotOpen` if the handle is not open.
+    /// Copies the next calls, as `Session::take_calls` does. Returns `NotOpen` if the handle is not open.
     #[tactic(auto, using(crate::proofs::Handles::on_none, crate::proofs::Handles::on_some))]
     pub fn take_calls(&mut self, buffer: &mut [u8], size: &mut usize) -> Status
         ensures { OnSession self.old.pointer.session self.new.pointer.session result
@@ -146,7 +146,7 @@ impl Handle {
         status
     }
 
-    /// Serves commands, as `Session::serve` does. `NotOpen` if the handle is not open.
+    /// Carries out commands, as `Session::serve` does. Returns `NotOpen` if the handle is not open.
     #[tactic(auto, using(crate::proofs::Handles::on_none, crate::proofs::Handles::on_some))]
     pub fn serve(
         &mut self,
@@ -166,7 +166,7 @@ impl Handle {
         status
     }
 
-    /// Saves the state, as `Session::save` does. `NotOpen` if the handle is not open.
+    /// Saves the present state, as `Session::save` does. Returns `NotOpen` if the handle is not open.
     #[tactic(auto, using(crate::proofs::Handles::on_none, crate::proofs::Handles::on_some))]
     pub fn save(&mut self, replies: &mut [RawReply], served: &mut usize) -> Status
         ensures { OnSession self.old.pointer.session self.new.pointer.session result
@@ -181,7 +181,7 @@ impl Handle {
         status
     }
 
-    /// Shows a page, as `Session::page` does. `NotOpen` if the handle is not open.
+    /// Shows a page, as `Session::page` does. Returns `NotOpen` if the handle is not open.
     #[tactic(auto, using(crate::proofs::Handles::on_none, crate::proofs::Handles::on_some))]
     pub fn page(&mut self, number: u64, page: &mut RawPage, reply: &mut RawReply) -> Status
         ensures { OnSession self.old.pointer.session self.new.pointer.session result
@@ -196,7 +196,7 @@ impl Handle {
         status
     }
 
-    /// Shows an object, as `Session::show` does. `NotOpen` if the handle is not open.
+    /// Shows an object, as `Session::show` does. Returns `NotOpen` if the handle is not open.
     #[tactic(auto, using(crate::proofs::Handles::on_none, crate::proofs::Handles::on_some))]
     pub fn show(&mut self, number: u64, object: &mut RawObject, reply: &mut RawReply) -> Status
         ensures { OnSession self.old.pointer.session self.new.pointer.session result

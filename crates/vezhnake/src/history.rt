@@ -1,4 +1,4 @@
-// What has happened to the host's storage. Only clauses read it.
+// The history of the host's storage, which only contracts read.
 ghost use Rattle.std.specs.Prelude.{◌≡◌, ℕ, List};
 ghost use Rattle.std.specs.Borrow.{ftrue};
 ghost use Rattle.std.specs.Coded.{coded_list};
@@ -9,8 +9,8 @@ ghost use Rattle.vezhnake.specs.Codes.{coded_call};
 
 use std::marker::Model;
 
-/// What the storage held when the image was opened, the calls recorded since, the events that were
-/// not recorded because a call failed, and how many calls have failed. It has no bytes.
+/// The history of the host's storage: its bytes when the image was opened, the calls recorded since, the events that
+/// were not recorded because a call failed, and how many calls have failed. It takes no memory at run time.
 #[derive(Drop)]
 pub struct History {
     pub ghost first: { List ℕ },
@@ -23,34 +23,34 @@ impl Model for History {
     ghost also_owns = { λ _. ftrue };
 }
 
-/// What happens to the storage.
+/// An event of the host's storage.
 #[derive(Clone, Copy, Drop)]
 pub enum Step<'a> {
-    /// A write of these sectors from `at` on is recorded.
+    /// The write of these sectors from `at` on was recorded.
     Write { at: u64, bytes: &'a [u8] },
-    /// A sync is recorded.
+    /// A sync was recorded.
     Sync,
-    /// A power cut is recorded.
+    /// A power cut was recorded.
     Cut,
-    /// A write of these sectors from `at` on fails.
+    /// The write of these sectors from `at` on failed.
     LostWrite { at: u64, bytes: &'a [u8] },
-    /// A sync fails.
+    /// A sync failed.
     LostSync,
-    /// A power cut is not recorded.
+    /// A power cut was not recorded.
     LostCut,
 }
 
 impl History {
     ghost use Rattle.vezhnake.specs.Steps.{fresh, stepped};
 
-    /// The storage holds these bytes, and nothing has happened to it.
+    /// Returns the history of storage that holds these bytes and had no event.
     pub fn new(_bytes: &[u8]) -> History
         ensures { result ≡ fresh _bytes.now }
     {
         History {}
     }
 
-    /// The history after one more step.
+    /// Returns the history with one more event.
     pub fn then(&self, _step: &Step<'_>) -> History
         ensures { result ≡ stepped self.now _step.now }
     {

@@ -33,13 +33,13 @@ pub type HostDevice = CopiedFile<Recorder>;
 /// A kernel over the host's storage, with one of the two object stores.
 #[derive(Drop)]
 pub enum HostKernel {
-    /// All objects are in memory.
+    /// With all objects in memory.
     Plain(Kernel<HostDevice, PlainStore<HostDevice>>),
-    /// A cache holds some objects.
+    /// With a cache for some of the objects.
     Bounded(Kernel<HostDevice, BoundedCache<HostDevice>>),
 }
 
-// A device over storage that holds these bytes.
+// Returns a device over storage that holds these bytes. Fails only if memory runs out.
 #[tactic(auto, using(crate::proofs::Opening::fresh_of))]
 fn device_over(alloc: Global, image: &[u8]) -> Result<HostDevice, AllocError>
     requires whole { length image.now % 512 ≡ 0 }
@@ -51,7 +51,7 @@ fn device_over(alloc: Global, image: &[u8]) -> Result<HostDevice, AllocError>
     Ok(CopiedFile::new(copy, recorder))
 }
 
-// Opens a kernel with an object store.
+// Opens a kernel over a device, with an object store of type `S`.
 #[tactic(auto, using(crate::proofs::Opening::refused_from))]
 fn open_kernel<S: ObjectStore<HostDevice>>(
     alloc: Global,
@@ -67,7 +67,7 @@ fn open_kernel<S: ObjectStore<HostDevice>>(
     }
 }
 
-// The capacity of a cache, or `None` if it is 0. `BadCache` if a cache can't have this capacity.
+// Returns the capacity of a cache, or `None` if `cache` is 0. Returns `BadCache` if a cache can't have this capacity.
 fn capacity_of(cache: u64) -> Result<Option<Capacity>, Status>
     ensures ok { IfOk result (λ capacity. IsCapacity cache capacity) }
     ensures err { IsErr result → (result ≡ Err Status.BadCache) × (cache ≢ 0) × ((cache < 8) ⊎ (8192 < cache)) }
@@ -81,7 +81,7 @@ fn capacity_of(cache: u64) -> Result<Option<Capacity>, Status>
     }
 }
 
-// Runs a text as a script.
+// Runs a text as a script, and appends the answers.
 fn run_lines<S: ObjectStore<HostDevice>>(
     alloc: Global,
     kernel: &mut Kernel<HostDevice, S>,
@@ -100,12 +100,12 @@ fn run_lines<S: ObjectStore<HostDevice>>(
 }
 
 impl HostKernel {
-    /// Opens a kernel on storage that holds these bytes. If `cache` is 0, all objects are in
-    /// memory. Otherwise it is the capacity of a cache.
+    /// Opens a kernel on storage that holds these bytes. If `cache` is 0, all objects are kept in memory. Otherwise
+    /// it is the capacity of a cache.
     ///
-    /// `BadSize` or `BadCache` if an argument is out of range; `Bad` with the least reason to
-    /// refuse the image; `NoMemory` if memory runs out; `Failed` if it runs out for the record of the
-    /// sync with which opening begins.
+    /// Returns `BadSize` or `BadCache` if an argument is out of range; `Bad` with the least reason to refuse the
+    /// image; `NoMemory` if memory runs out; `Failed` if memory runs out for recording the sync with which opening
+    /// begins.
     #[tactic(auto, using(crate::proofs::Opening::refused_by))]
     pub fn open(alloc: Global, image: &[u8], cache: u64) -> Result<HostKernel, Status>
         ensures { OpensKernel image.now cache result }
@@ -136,7 +136,7 @@ impl HostKernel {
 
     /// Runs a text as a script, as `runs::run` does, and appends the answers.
     ///
-    /// `RunFault::Write` if memory for the answers runs out.
+    /// Returns `RunFault::Write` if memory for the answers runs out.
     pub fn run_text(
         &mut self,
         alloc: Global,
@@ -152,7 +152,7 @@ impl HostKernel {
         }
     }
 
-    /// Serves a command, as a run serves the line that spells it.
+    /// Carries out a command, as a run does for the script line with the same meaning.
     pub fn serve(&mut self, command: &Command) -> Served
         ensures { ServesLineOver self.old self.new command.now result }
     {
@@ -162,7 +162,7 @@ impl HostKernel {
         }
     }
 
-    /// Serves commands one after another, as `serving::serve_each` does.
+    /// Carries out commands one after another, as `serving::serve_each` does.
     pub fn serve_each(
         &mut self,
         commands: &[RawCommand],
@@ -181,7 +181,7 @@ impl HostKernel {
         }
     }
 
-    // The recorder beneath.
+    // Returns the recorder beneath.
     #[tactic(auto, using(crate::proofs::Surviving::calls_are, crate::proofs::Surviving::start_is))]
     fn recorder(&self) -> &Recorder
         ensures calls { result.now.history.calls ≡ calls_in self.now }
@@ -193,8 +193,8 @@ impl HostKernel {
         }
     }
 
-    /// The encoded calls after the first `taken`. `None` if the bytes kept don't begin there, and
-    /// `taken` is not the number of all calls.
+    /// Returns the encoded calls after the first `taken`. Returns `None` if these are no longer kept. Then `taken` is
+    /// neither where the kept bytes begin nor the number of all calls.
     pub fn since(&self, taken: u64) -> Option<&[u8]>
         ensures some { IfSome result (λ bytes. bytes.now ≡ encoded (drop taken (calls_in self.now))) }
         ensures none { IfNone result ((taken ≢ kept_from self.now) × (taken ≢ length (calls_in self.now))) }

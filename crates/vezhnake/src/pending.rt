@@ -10,13 +10,13 @@ use std::alloc::{AllocError, Global};
 #[derive(Drop)]
 pub struct Pending {
     pub bytes: Vec<u8>,
-    /// The number of calls before these.
+    /// How many calls were made before those in `bytes`.
     pub start: u64,
-    /// The number of all calls.
+    /// How many calls were made in all.
     pub count: u64,
 }
 
-// Appends the eight bytes of a number. `Err` leaves the bytes unchanged.
+// Appends the eight bytes of a number. If it fails, the bytes are unchanged.
 #[tactic(auto, unfolding(crate::specs::HostCalls::number_bytes))]
 fn append_number(bytes: &mut Vec<u8>, number: u64) -> Result<(), AllocError>
     ensures ok { OnOk result (bytes.new.items ≡ bytes.old.items ++ number_bytes number) }
@@ -25,7 +25,7 @@ fn append_number(bytes: &mut Vec<u8>, number: u64) -> Result<(), AllocError>
     bytes.extend_from_slice(&number.to_le_bytes())
 }
 
-// Appends a header and these bytes. `Err` may leave a part after the old bytes.
+// Appends a header and these bytes. If it fails, a part of them may have been appended.
 fn append_parts(bytes: &mut Vec<u8>, byte: u64, from: &[u8]) -> Result<(), AllocError>
     ensures ok { OnOk result (bytes.new.items ≡ bytes.old.items ++ (header_of byte (length from.now) ++ from.now)) }
     ensures kept { take (length bytes.old.items) bytes.new.items ≡ bytes.old.items }
@@ -35,7 +35,7 @@ fn append_parts(bytes: &mut Vec<u8>, byte: u64, from: &[u8]) -> Result<(), Alloc
     bytes.extend_from_slice(from)
 }
 
-// Appends a header and these bytes. `Err` leaves the bytes unchanged.
+// Appends a header and these bytes. If it fails, the bytes are unchanged.
 fn append_call(bytes: &mut Vec<u8>, byte: u64, from: &[u8]) -> Result<(), AllocError>
     ensures ok { OnOk result (bytes.new.items ≡ bytes.old.items ++ (header_of byte (length from.now) ++ from.now)) }
     ensures err { OnErr result (bytes.new.items ≡ bytes.old.items) }
@@ -51,7 +51,7 @@ fn append_call(bytes: &mut Vec<u8>, byte: u64, from: &[u8]) -> Result<(), AllocE
 }
 
 impl Pending {
-    /// No calls.
+    /// Returns a value without calls.
     pub fn new(alloc: Global) -> Pending
         ensures { Keeps result [] }
     {
@@ -76,7 +76,7 @@ impl Pending {
     /// Adds a call after the others: a header with this byte, and `from`. The first `taken` calls were
     /// taken: if these are all, their bytes are dropped before.
     ///
-    /// `Failed` if memory runs out: then no call is added.
+    /// Returns `Failed` if memory runs out: then no call is added.
     pub fn add(&mut self, taken: u64, byte: u64, from: &[u8]) -> Result<(), Failed>
         ensures ok { OnOk result ((calls : List HostCall) (call : HostCall)
             → encoding call ≡ header_of byte (length from.now) ++ from.now
@@ -97,8 +97,8 @@ impl Pending {
         }
     }
 
-    /// The encoded calls after the first `taken`. `None` if the bytes don't begin there, and `taken`
-    /// is not the number of all calls.
+    /// Returns the encoded calls after the first `taken`. Returns `None` if these are no longer kept. Then `taken` is
+    /// neither where the bytes begin nor the number of all calls.
     pub fn since(&self, taken: u64) -> Option<&[u8]>
         ensures some { IfSome result (λ bytes. (calls : List HostCall) → Keeps self.now calls
             → bytes.now ≡ encoded (drop taken calls)) }

@@ -1,4 +1,4 @@
-// A `Box<Session>` in a form that C can hold.
+// A `Box<Session>` in a form that a C program can hold.
 ghost use Rattle.std.specs.Prelude.{◌≡◌, Option, Some, None, IsSome};
 ghost use Rattle.vezhnake.specs.declared.session.Session.{Session};
 ghost use Rattle.vezhnake.specs.Owned.{pointer_owns, session_coded};
@@ -24,14 +24,14 @@ impl Model for SessionPointer {
 }
 
 impl SessionPointer {
-    /// A pointer that owns this session.
+    /// Returns a pointer that owns this session.
     pub fn new(session: Box<Session>) -> SessionPointer
         ensures { result.session ≡ Some session.value }
     {
         SessionPointer::from_parts(BoxParts::of(session))
     }
 
-    /// The null pointer, which owns nothing.
+    /// Returns the null pointer, which owns nothing.
     pub fn null(alloc: Global) -> SessionPointer
         ensures { result.session ≡ None }
     {
@@ -39,7 +39,7 @@ impl SessionPointer {
         SessionPointer { ptr, alloc }
     }
 
-    /// The session that it owns.
+    /// Returns the session that the pointer owns.
     pub fn into_box(self) -> Box<Session>
         requires { IsSome self.session }
         ensures { self.session ≡ Some result.value }

@@ -1,28 +1,28 @@
-// A command as numbers.
+// A command in the form of numbers.
 ghost use Rattle.std.specs.Prelude.{◌≡◌, map};
 ghost use Rattle.vezhnake.specs.RawCommands.{save_stages};
 ghost use Rattle.vezhnake.specs.RawCommands.{command_of, invocation_of, registers_of, stage_of};
 
 use model::{Command, Invocation, Operation, Register};
 
-/// A command as numbers. Fields that its kind doesn't use are ignored.
+/// A command in the form of numbers. Fields that a kind doesn't use are ignored.
 #[repr(C)]
 #[derive(Clone, Copy)]
 pub struct RawCommand {
-    /// From 0: call, return, send, load, store, evict, checkpoint, stabilize, commit, migrate, journal,
+    /// The kind, from 0 on: call, return, send, load, store, evict, checkpoint, stabilize, commit, migrate, journal,
     /// restart, cut.
     pub kind: u32,
     /// The register of the capability that an invocation invokes, below 32.
     pub register: u8,
     /// The registers whose capabilities an invocation sends, each below 32.
     pub sent: [u8; 4],
-    /// The process, the object, or the count of objects.
+    /// The number of the process or the object; for a stage of saving, how many objects.
     pub number: u64,
-    /// The words that an invocation sends; or the address, and the value to store.
+    /// The words that an invocation sends. For a load and a store, the address first, then the value to store.
     pub words: [u64; 4],
 }
 
-// The registers with these numbers, or `None` if one is out of range.
+// Returns the registers with these numbers, or `None` if one is out of range.
 fn registers_of(numbers: [u8; 4]) -> Option<[Register; 4]>
     ensures { result ≡ registers_of numbers }
 {
@@ -34,7 +34,7 @@ fn registers_of(numbers: [u8; 4]) -> Option<[Register; 4]>
     ])
 }
 
-// An invocation with the fields of a command, or `None` if a register is out of range.
+// Returns an invocation with the fields of a command, or `None` if a register is out of range.
 fn invocation_of(operation: Operation, raw: &RawCommand) -> Option<Command>
     ensures { result ≡ invocation_of operation raw.now }
 {
@@ -50,7 +50,7 @@ fn invocation_of(operation: Operation, raw: &RawCommand) -> Option<Command>
 }
 
 impl RawCommand {
-    /// The command that the numbers are, or `None` if the kind or a register is out of range.
+    /// Returns the command that these numbers encode, or `None` if the kind or a register is out of range.
     pub fn command(&self) -> Option<Command>
         ensures { result ≡ command_of self.now }
     {
@@ -82,7 +82,7 @@ impl RawCommand {
     }
 }
 
-// A command without registers, of all objects.
+// Returns the command for a stage of saving, for all objects.
 fn stage(kind: u32) -> RawCommand
     ensures { result ≡ stage_of kind }
 {
@@ -95,7 +95,7 @@ fn stage(kind: u32) -> RawCommand
     }
 }
 
-/// The stages of a save: migrate, checkpoint, stabilize, commit, migrate, each of all objects.
+/// Returns the stages of a save: migrate, checkpoint, stabilize, commit, migrate, each for all objects.
 pub fn save_stages() -> [RawCommand; 5]
     ensures { map command_of result ≡ save_stages }
 {

@@ -1,4 +1,4 @@
-// An object as numbers.
+// An object in the form of numbers.
 ghost use Rattle.std.specs.Prelude.{◌≡◌, length, map, option_map, Some};
 ghost use Rattle.vezhnake.specs.RawObjects.{object_of, plain_object, raw_capability, raw_registers, shown_object};
 ghost use Rattle.vezhnake.specs.RawObjects.{shown_words};
@@ -6,19 +6,19 @@ ghost use Rattle.vezhnake.specs.RawObjects.{shown_words};
 use bitflags::Flags;
 use model::{Answer, Capability, Content, Description, SLOTS, Slots, WORDS};
 
-/// A capability as numbers. Fields that its kind hasn't are 0.
+/// A capability in the form of numbers. Fields that a kind doesn't have are 0.
 #[repr(C)]
 #[derive(Clone, Copy)]
 pub struct RawCapability {
-    /// From 0: void, number, page, node, space, process, start, resume, bank, discrim.
+    /// The kind, from 0 on: void, number, page, node, space, process, start, resume, bank, discrim.
     pub kind: u8,
     /// 0 for full access, 1 for read-only, 3 for weak.
     pub access: u8,
     /// How many levels of nodes an address space has.
     pub height: u8,
-    /// What a process sees that is started by the capability.
+    /// The key that a process gets when it is started by this capability.
     pub key: u16,
-    /// The object that it names, or the number.
+    /// The number of the object that it names, or the data of a number capability.
     pub object: u64,
 }
 
@@ -28,25 +28,25 @@ pub struct RawPage {
     pub words: [u64; WORDS],
 }
 
-/// An object as numbers. Fields that its kind hasn't are 0, and capabilities void.
+/// An object in the form of numbers. Numbers that a kind doesn't have are 0, and capabilities void.
 #[repr(C)]
 #[derive(Clone, Copy)]
 pub struct RawObject {
-    /// From 0: free, page, node, process, annex, bank.
+    /// The kind, from 0 on: free, page, node, process, annex, bank.
     pub kind: u32,
     /// The state of a process: 0 available, 1 running, 2 waiting.
     pub state: u16,
-    /// The key that a process was sent last.
+    /// The key of the message that the process was sent last.
     pub key: u16,
-    /// The bank that owns it.
+    /// The number of the bank that owns the object.
     pub owner: u64,
-    /// The annex of a process.
+    /// The number of a process's annex.
     pub annex: u64,
-    /// The words that a process was sent last.
+    /// The words of the message that the process was sent last.
     pub words: [u64; 4],
-    /// How many objects a bank may own.
+    /// The limit of a bank.
     pub limit: u64,
-    /// How many it owns, and those that it owns own.
+    /// The usage of a bank: how many objects it and the banks below it own.
     pub used: u64,
     /// The address space of a process.
     pub space: RawCapability,
@@ -55,7 +55,7 @@ pub struct RawObject {
 }
 
 impl RawCapability {
-    // A capability with these fields.
+    // Returns a capability with these fields, and 0 in the others.
     fn new(kind: u8, object: u64) -> RawCapability
         ensures { result ≡ record { kind = kind; access = 0; height = 0; key = 0; object = object } }
     {
@@ -68,7 +68,7 @@ impl RawCapability {
         }
     }
 
-    /// The numbers of a capability.
+    /// Returns a capability in the form of numbers.
     pub fn of(capability: Capability) -> RawCapability
         ensures { result ≡ raw_capability capability }
     {
@@ -104,7 +104,7 @@ impl RawCapability {
     }
 }
 
-// The numbers of 32 capabilities.
+// Returns 32 capabilities in the form of numbers.
 fn raw_slots(slots: &[Capability]) -> [RawCapability; SLOTS]
     requires { length slots.now ≡ 32 }
     ensures { result ≡ map raw_capability slots.now }
@@ -116,7 +116,7 @@ fn raw_slots(slots: &[Capability]) -> [RawCapability; SLOTS]
     raw
 }
 
-// The numbers of the registers of a process, if they are known.
+// Returns the registers of a process in the form of numbers; void ones if they aren't known.
 fn raw_registers(registers: &Option<Slots<Capability>>) -> [RawCapability; SLOTS]
     ensures { result ≡ raw_registers registers.now }
 {
@@ -126,7 +126,7 @@ fn raw_registers(registers: &Option<Slots<Capability>>) -> [RawCapability; SLOTS
     }
 }
 
-// An object of a kind that has nothing but an owner.
+// Returns an object of a kind that has only an owner.
 fn plain_object(kind: u32, owner: u64) -> RawObject
     ensures { result ≡ plain_object kind owner }
 {
@@ -145,7 +145,7 @@ fn plain_object(kind: u32, owner: u64) -> RawObject
 }
 
 impl RawObject {
-    /// The numbers of an object.
+    /// Returns an object in the form of numbers.
     pub fn of(shown: &Description) -> RawObject
         ensures { result ≡ object_of shown.now }
     {
@@ -187,7 +187,7 @@ impl RawObject {
     }
 }
 
-/// Copies the words of a page that is shown.
+/// Copies the words of the page in an answer to `show`. For any other answer it changes nothing.
 pub fn copy_words(answer: &Answer, page: &mut RawPage)
     ensures { page.new.words ≡ shown_words answer.now page.old.words }
 {
@@ -199,7 +199,7 @@ pub fn copy_words(answer: &Answer, page: &mut RawPage)
     }
 }
 
-/// Writes the numbers of an object that is shown.
+/// Copies the object in an answer to `show`, in the form of numbers. For any other answer it changes nothing.
 pub fn copy_object(answer: &Answer, object: &mut RawObject)
     ensures { object.new ≡ shown_object answer.now object.old }
 {

@@ -1,4 +1,4 @@
-// An answer as numbers.
+// An answer in the form of numbers.
 ghost use Rattle.std.specs.Prelude.{◌≡◌, ◌<◌, ◌≤◌, Some, IsTrue, ◌↔◌, Option};
 ghost use Rattle.model.specs.declared.answer.Answer.{Answer};
 ghost use Rattle.model.specs.declared.order.ResultCode.{ResultCode};
@@ -7,13 +7,13 @@ ghost use Rattle.vezhnake.specs.RawReplies.{is_refused};
 
 use model::{Answer, Refusal, ResultCode};
 
-/// The answer to a command as numbers.
+/// The answer to a command in the form of numbers.
 #[repr(C)]
 #[derive(Clone, Copy)]
 pub struct RawReply {
-    /// Which answer; from 32 on a refusal.
+    /// The kind of the answer; from 32 on a refusal.
     pub kind: u32,
-    /// The result code of an order, or 2^32 - 1.
+    /// The result code of an order, or 2^32 - 1 if there is none.
     pub code: u32,
     /// The first number of the answer, or 0.
     pub first: u64,
@@ -21,7 +21,7 @@ pub struct RawReply {
     pub second: u64,
 }
 
-// The number of a refusal, and the number in it.
+// Returns the kind of a refusal, and its number or 0.
 fn refusal_numbers(refusal: Refusal) -> (u32, u64)
     ensures { result ≡ refusal_numbers refusal }
 {
@@ -43,7 +43,7 @@ fn refusal_numbers(refusal: Refusal) -> (u32, u64)
     }
 }
 
-// The number of a result code, or 2^32 - 1.
+// Returns the number of a result code, or 2^32 - 1 if there is none.
 fn code_in(code: Option<ResultCode>) -> u32
     ensures { result ≡ code_in code }
 {
@@ -53,7 +53,7 @@ fn code_in(code: Option<ResultCode>) -> u32
     }
 }
 
-// The number of an answer, and the numbers in it.
+// Returns the kind of an answer, and its numbers or 0.
 fn answer_numbers(answer: &Answer) -> (u32, u64, u64)
     ensures { result ≡ answer_numbers answer.now }
 {
@@ -78,7 +78,7 @@ fn answer_numbers(answer: &Answer) -> (u32, u64, u64)
 }
 
 impl RawReply {
-    /// The numbers of an answer, and of the result code beside it.
+    /// Returns an answer and the result code beside it in the form of numbers.
     pub fn of(answer: &Answer, code: Option<ResultCode>) -> RawReply
         ensures { result ≡ reply_of answer.now code }
     {
@@ -99,8 +99,8 @@ impl RawReply {
     }
 }
 
-/// The numbers of an answer tell it, but for what an object holds. This does nothing; its contract is
-/// the fact.
+/// The numbers of an answer determine it, except the content of an object that is shown. The function does nothing;
+/// its contract is this fact.
 #[tactic(auto, using(crate::proofs::RawReplies::replies_tell))]
 pub fn replies_tell_answers()
     ensures { RepliesTellAnswers }

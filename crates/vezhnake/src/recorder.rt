@@ -20,7 +20,7 @@ pub struct Recorder {
     pending: Pending,
     // The number of calls that were taken from here. No contract sees what a cell holds.
     taken: Cell<u64>,
-    // A call was not recorded.
+    // Whether a call could not be recorded.
     is_broken: bool,
     history: History,
     ghost kept: { Keeps pending history.calls },
@@ -29,7 +29,7 @@ pub struct Recorder {
 }
 
 impl Recorder {
-    /// Storage that holds these bytes, and to which nothing has happened.
+    /// Returns storage that holds these bytes and had no event.
     pub fn new(alloc: Global, bytes: &[u8]) -> Recorder
         ensures { result.history ≡ fresh bytes.now }
     {
@@ -41,8 +41,8 @@ impl Recorder {
         }
     }
 
-    /// The encoded calls after the first `taken`. `None` if the bytes kept don't begin there, and
-    /// `taken` is not the number of all calls.
+    /// Returns the encoded calls after the first `taken`. Returns `None` if these are no longer kept. Then `taken` is
+    /// neither where the kept bytes begin nor the number of all calls.
     pub fn since(&self, taken: u64) -> Option<&[u8]>
         ensures some { IfSome result (λ bytes. bytes.now ≡ encoded (drop taken self.now.history.calls)) }
         ensures none { IfNone result ((taken ≢ self.now.pending.start) × (taken ≢ length self.now.history.calls)) }
@@ -107,7 +107,7 @@ impl SectorFile for Recorder {
         Err(Failed)
     }
 
-    /// The host gets a sync, which makes every byte durable.
+    /// A power cut is recorded for the host as a sync, which makes every byte durable.
     fn power_cut(&mut self) {
         let taken = self.taken.get();
         let recorded = self.history.then(&Step::Cut);

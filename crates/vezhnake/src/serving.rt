@@ -1,4 +1,4 @@
-// Commands that a kernel serves.
+// Carrying out commands over a kernel.
 ghost use Rattle.std.specs.Prelude.{◌≡◌, ◌<◌, ◌≤◌, ◌&&◌, [], ◌∷◌, length, map, take, drop, None, Some, slice_index_or};
 ghost use Rattle.vezhnake.specs.Serving.{EndsAt, ServesEach, ServesLine};
 ghost use Rattle.vezhnake.specs.RawCommands.{command_of};
@@ -12,7 +12,7 @@ use kernel::{Kernel, Served};
 use model::Command;
 use runs::laws::crashes_in_runs_are_survived;
 
-/// Serves a command, as a run serves the line that spells it.
+/// Carries out a command, as a run does for the script line with the same meaning.
 #[inline(always)]
 pub fn serve<S: ObjectStore<HostDevice>>(
     kernel: &mut Kernel<HostDevice, S>,
@@ -25,7 +25,7 @@ pub fn serve<S: ObjectStore<HostDevice>>(
     kernel.step_with_code(command)
 }
 
-// Serves a command, and returns the numbers of its answer.
+// Carries out a command, and returns its answer in the form of numbers.
 fn reply_to<S: ObjectStore<HostDevice>>(
     kernel: &mut Kernel<HostDevice, S>,
     command: &Command,
@@ -38,7 +38,7 @@ fn reply_to<S: ObjectStore<HostDevice>>(
     reply
 }
 
-// The command at an index, or `None` if the numbers there are none.
+// Returns the command at an index, or `None` if the numbers there encode none.
 fn command_at(commands: &[RawCommand], index: usize) -> Option<Command>
     requires { index < length commands.now }
     ensures { result ≡ slice_index_or (map command_of commands.now) index None }
@@ -53,8 +53,8 @@ fn is_last(stops: bool, reply: &RawReply) -> bool
     stops && reply.is_refused()
 }
 
-/// Serves commands one after another, up to the first whose numbers are no command, and writes the
-/// numbers of their answers. With `stops` the first refusal ends it too. Returns how many it served.
+/// Carries out commands one after another, up to the first whose numbers encode no command, and writes their answers
+/// as numbers. If `stops`, it also ends after the first refusal. Returns how many commands it carried out.
 pub fn serve_each<S: ObjectStore<HostDevice>>(
     kernel: &mut Kernel<HostDevice, S>,
     commands: &[RawCommand],

@@ -1,4 +1,4 @@
-// What an open handle owns.
+// A session, which an open handle owns.
 ghost use Rattle.std.specs.Prelude.{◌≡◌, IfOk, IfErr, IfSome, Err};
 ghost use Rattle.vezhnake.specs.TypedCalls.{SavesSession, ServesBatch, ShowsObject, ShowsPage};
 ghost use Rattle.vezhnake.specs.Sessions.{CollectsCalls, CopiesAnswer, CopiesOut, OpensKernel, OpensSession};
@@ -19,7 +19,7 @@ use std::alloc::Global;
 pub struct Session {
     alloc: Global,
     kernel: HostKernel,
-    // The answers to the last text.
+    // The answers to the last text that was run.
     answer: Vec<u8>,
     // The encoded calls that the host has not taken.
     waiting: Vec<u8>,
@@ -46,8 +46,8 @@ fn status_of(kept: Result<(), CallsFault>) -> Status
     }
 }
 
-/// Copies the bytes to the front of the buffer, if they fit, and returns whether they do. Sets `size` to their number in
-/// any case.
+/// Copies the bytes to the front of the buffer if they fit, and returns whether they do. In any case sets `size` to
+/// how many bytes there are.
 pub fn copy_out(bytes: &[u8], buffer: &mut [u8], size: &mut usize) -> bool
     ensures { CopiesOut bytes.now buffer.old buffer.new size.new result }
 {
@@ -59,8 +59,8 @@ pub fn copy_out(bytes: &[u8], buffer: &mut [u8], size: &mut usize) -> bool
     true
 }
 
-// Moves a value to the heap, or drops it if memory runs out. Any type has a short proof: a session's
-// own has all that it drops.
+// Moves a value to the heap, or drops it if memory runs out. It is generic because its proof is then short: for a
+// session the proof would go through all that a session drops.
 fn boxed<T: Drop>(alloc: Global, value: T) -> Option<Box<T>>
     ensures { IfSome result (λ boxed. boxed.value ≡ value) }
 {
@@ -149,7 +149,7 @@ impl Session {
         }
     }
 
-    /// Copies the answers to the last text. `SmallBuffer` if they don't fit.
+    /// Copies the answers to the last text. Returns `SmallBuffer` if they don't fit.
     pub fn copy_answer(&self, buffer: &mut [u8], size: &mut usize) -> Status
         ensures { CopiesAnswer self.now self.now buffer.old buffer.new size.new result }
     {
@@ -160,8 +160,8 @@ impl Session {
         }
     }
 
-    /// Serves commands one after another, each as the line that spells it, and writes the numbers of
-    /// their answers. `served` is how many it served.
+    /// Carries out commands one after another, each as the script line with the same meaning, and writes their
+    /// answers as numbers. Sets `served` to how many it carried out.
     ///
     /// `BadCommand` if the next one's numbers are no command: those before it were served.
     /// `SmallBuffer` if there are fewer replies than commands: none was served. `NoMemory` and
@@ -190,8 +190,8 @@ impl Session {
         }
     }
 
-    /// Saves the state: migrates what an earlier save left, freezes, stabilizes, commits and migrates,
-    /// each as its line. The first of these five stages that is refused is the last one served.
+    /// Saves the present state: migrates what an earlier save left, then freezes, stabilizes, commits and migrates,
+    /// each as its script line. If one of these five stages is refused, it is the last one.
     ///
     /// `SmallBuffer` if there are fewer than five replies: none was served. `NoMemory` and `CallsLost` as
     /// for `collect`.

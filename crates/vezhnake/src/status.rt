@@ -5,10 +5,10 @@ use crate::session::CallsFault;
 use checkpoint::OpenFault;
 use layout::BadImage;
 
-/// What a call of the library returns. C gets its number.
+/// The result of a call of the library. A C caller gets its number.
 #[derive(Clone, Copy)]
 pub enum Status {
-    /// The call did its work.
+    /// The call succeeded.
     Done,
     /// The bytes are not an image, for this reason.
     Bad(BadImage),
@@ -16,7 +16,7 @@ pub enum Status {
     NoMemory,
     /// The image is not a whole number of sectors, or is longer than 64 MiB.
     BadSize,
-    /// A cache has 8 to 8192 entries.
+    /// The capacity of the cache isn't 0 or from 8 to 8192.
     BadCache,
     /// The handle is already open.
     AlreadyOpen,
@@ -26,16 +26,16 @@ pub enum Status {
     SmallBuffer,
     /// The device no longer keeps the calls that it made.
     CallsLost,
-    /// Memory ran out for the record of the sync with which opening begins.
+    /// Memory ran out for recording the sync with which opening begins.
     Failed,
-    /// The numbers are no command: the kind or a register is out of range.
+    /// The numbers encode no command: the kind or a register is out of range.
     BadCommand,
 }
 
 impl Status {
     ghost use Rattle.vezhnake.specs.Statuses.{number_of};
 
-    /// The number that C gets.
+    /// Returns the number that a C caller gets.
     pub fn number(self) -> u32
         ensures { result ≡ number_of self }
     {

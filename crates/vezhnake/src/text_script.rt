@@ -11,7 +11,7 @@ pub struct TextScript<'a> {
 }
 
 impl TextScript<'_> {
-    /// Reads this text.
+    /// Returns a script with this text.
     pub fn new(text: &[u8]) -> TextScript<'_>
         ensures { result.rest.now ≡ text.now }
     {

@@ -1,5 +1,5 @@
-//! The C interface of `vezhnake`. include/vezhnake.h declares these functions, and docs/LIBRARY.md has
-//! an example. Nothing checks that a C caller passes what the types of the arguments say.
+//! The C interface of `vezhnake`. include/vezhnake.h declares these functions, and docs/LIBRARY.md has an example.
+//! Nothing checks that the arguments of a C caller are as their Rust types demand.
 #![tactic(auto)]
 
 ghost use Rattle.std.specs.Prelude.{◌≡◌};
@@ -20,8 +20,8 @@ use vezhnake_images::{
     RawInfo, build_bytes, check_bytes, describe_bytes, explain_bytes, explain_text,
 };
 
-/// Opens the image in these bytes. If `cache` is 0, all objects are in memory. Otherwise it is the
-/// capacity of a cache.
+/// Opens the image in these bytes. If `cache` is 0, all objects are kept in memory. Otherwise it is the capacity of a
+/// cache.
 #[unsafe(no_mangle)]
 pub extern "C" fn vezhnake_open(image: &[u8], cache: u64, handle: &mut Handle) -> u32
     ensures { (status : Status) × (result ≡ number_of status)
@@ -57,7 +57,7 @@ pub extern "C" fn vezhnake_answer(handle: &mut Handle, answer: &mut [u8], size: 
     handle.copy_answer(answer, size).number()
 }
 
-/// Copies the calls of the device since the last ones that were copied. The host carries them out in
+/// Copies the device calls that were recorded since the last call of this function. The host must carry them out in
 /// order before it trusts the answers.
 #[unsafe(no_mangle)]
 pub extern "C" fn vezhnake_calls(handle: &mut Handle, calls: &mut [u8], size: &mut usize) -> u32
@@ -69,8 +69,8 @@ pub extern "C" fn vezhnake_calls(handle: &mut Handle, calls: &mut [u8], size: &m
     handle.take_calls(calls, size).number()
 }
 
-/// Serves commands one after another, each as the line that spells it, and writes the numbers of their
-/// answers.
+/// Carries out commands one after another, each as the script line with the same meaning, and writes their answers as
+/// numbers.
 #[unsafe(no_mangle)]
 pub extern "C" fn vezhnake_serve(
     handle: &mut Handle,
@@ -86,7 +86,7 @@ pub extern "C" fn vezhnake_serve(
     handle.serve(commands, replies, served).number()
 }
 
-/// Migrates what an earlier save left, freezes the state, stabilizes, commits and migrates it.
+/// Saves the present state: migrates what an earlier save left, then freezes, stabilizes, commits and migrates.
 #[unsafe(no_mangle)]
 pub extern "C" fn vezhnake_save(
     handle: &mut Handle,
@@ -101,7 +101,7 @@ pub extern "C" fn vezhnake_save(
     handle.save(replies, served).number()
 }
 
-/// Shows an object as its line does. If it is a page, copies its words.
+/// Shows an object, as the line `show` does. If it is a page, copies its words.
 #[unsafe(no_mangle)]
 pub extern "C" fn vezhnake_page(
     handle: &mut Handle,
@@ -117,7 +117,7 @@ pub extern "C" fn vezhnake_page(
     handle.page(number, page, reply).number()
 }
 
-/// Shows an object as its line does, and returns it as numbers.
+/// Shows an object, as the line `show` does, and returns it as numbers.
 #[unsafe(no_mangle)]
 pub extern "C" fn vezhnake_show(
     handle: &mut Handle,
@@ -142,8 +142,7 @@ pub extern "C" fn vezhnake_close(handle: &mut Handle) -> u32
     handle.close().number()
 }
 
-/// Opens the image in these bytes, runs a script, and copies the answers and the calls of the
-/// device.
+/// Opens the image in these bytes, runs a script, and copies the answers and the calls of the device.
 #[unsafe(no_mangle)]
 pub extern "C" fn vezhnake_run(
     alloc: Global,
@@ -161,7 +160,7 @@ pub extern "C" fn vezhnake_run(
     run_batch(alloc, image, cache, script, answers, calls, batch).number()
 }
 
-/// Builds the image of a description's text, as `eros build` does, and copies it.
+/// Builds the image of the description in a text, as `eros build` does, and copies it.
 #[unsafe(no_mangle)]
 pub extern "C" fn vezhnake_build(
     alloc: Global,
@@ -175,7 +174,7 @@ pub extern "C" fn vezhnake_build(
     build_bytes(alloc, text, image, size).number()
 }
 
-/// Opens the image in these bytes, as `eros check` does, and returns what it has.
+/// Opens the image in these bytes, as `eros check` does, and returns its sizes and counts.
 #[unsafe(no_mangle)]
 pub extern "C" fn vezhnake_check(alloc: Global, image: &[u8], info: &mut RawInfo) -> u32
     ensures { (status : ImageStatus) × (result ≡ image_number status)
@@ -184,7 +183,7 @@ pub extern "C" fn vezhnake_check(alloc: Global, image: &[u8], info: &mut RawInfo
     check_bytes(alloc, image, info).number()
 }
 
-/// Copies the description of all that an image saves, as `eros describe` prints it.
+/// Copies a description of the saved state of an image, as `eros describe` prints it.
 #[unsafe(no_mangle)]
 pub extern "C" fn vezhnake_describe(
     alloc: Global,
@@ -198,7 +197,7 @@ pub extern "C" fn vezhnake_describe(
     describe_bytes(alloc, image, text, size).number()
 }
 
-/// Copies the line of `eros explain` about an image.
+/// Copies the line that `eros explain` prints about an image.
 #[unsafe(no_mangle)]
 pub extern "C" fn vezhnake_explain(
     alloc: Global,
@@ -212,7 +211,7 @@ pub extern "C" fn vezhnake_explain(
     explain_bytes(alloc, image, line, size).number()
 }
 
-/// Copies the line of `eros explain` about a description.
+/// Copies the line that `eros explain` prints about a description.
 #[unsafe(no_mangle)]
 pub extern "C" fn vezhnake_explain_text(
     alloc: Global,

@@ -18,13 +18,13 @@ sizeless table build.Owner told = absurd told
 sizeless table build.Small told = absurd told
 sizeless table build.Failed told = absurd told
 
--- descriptions of one table have one plan
+-- descriptions of the same table have the same plan
 same_plan : (table : Members) (d e : Description) → IsDescription table d → IsDescription table e → plan_for d ≡ plan_for e
 same_plan table d e first second =
     let same : IsSame d e = description_once table d e first second in
     rw (same.layout, same.geometry, same.ranges) refl
 
--- an image isn't built on a device of the size that it needs, and that doesn't fail
+-- why an image isn't built on a device of the right size that doesn't fail
 pub unbuilt : (table : Members) (b : Description) (old new : ImageDevice) (fault : BuildFault) → IsDescription table b
     → (image_disk old).sectors ≡ (plan_for b).total → Refuses table (image_disk old).sectors fault
     → (fault ≡ build.Failed → (image_disk old).failures < (image_disk new).failures) → RefusesTable table (built_by fault)

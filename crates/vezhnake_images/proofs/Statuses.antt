@@ -6,7 +6,7 @@ use Rattle.std.proofs.Common.{◌≡◌}
 unfoldable use Rattle.toml.specs.Parse.{parse_document}
 use Rattle.vezhnake_images.specs.declared.image_status.ImageStatus.TheVariants as status
 
--- a reason that is none of a call that did its work, or whose buffer is too small
+-- a status that is neither success nor a buffer that is too small
 refused : (Fits : Bool → Type 0) (Refuses : ImageStatus → Type 0) → (Refuses status.Done → ⊥) → (Refuses status.SmallBuffer → ⊥) →
     (s : ImageStatus) → Refuses s → Answered Fits Refuses s
 refused Fits Refuses done small status.Done is = absurd (done is)
@@ -31,7 +31,7 @@ pub unbuilt_text : (text old : List ℕ) (size : ℕ) (s : ImageStatus) → Refu
 unbuilt_text text old size s is = refused (PutsImage text old old size) (λ r. RefusesText text r × (old ≡ old) × (size ≡ size))
     (λ both. both.0.2) (λ both. both.0.2) s (is, refl, refl)
 
--- a text is refused as its table is
+-- a text is refused for the reason for which its table is
 pub refused_table : (text : List ℕ) (table : Members) (s : ImageStatus) → parse_document text ≡ Some table → RefusesTable table s →
     RefusesText text s
 refused_table text table status.Done read is = absurd is

@@ -1,4 +1,4 @@
-// Images from their descriptions.
+// Building images from the text of their descriptions.
 ghost use Rattle.std.specs.Prelude.{◌≡◌, ◌*◌, ◌%◌, ◌≤◌, length, IfErr, IfOk, Some};
 ghost use Rattle.toml.specs.Data.{Members};
 ghost use Rattle.toml.specs.Parse.{parse_document};
@@ -19,7 +19,7 @@ use image_builder::Blueprint;
 use std::alloc::Global;
 use toml::Table;
 
-// The table of a text.
+// Returns the TOML table in a text.
 fn table_of(alloc: Global, text: &[u8]) -> Result<Table, ImageStatus>
     ensures ok { IfOk result (λ table. parse_document text.now ≡ Some (table_view table)) }
     ensures err { IfErr result (RefusesText text.now) }
@@ -39,7 +39,7 @@ fn table_of(alloc: Global, text: &[u8]) -> Result<Table, ImageStatus>
     }
 }
 
-// The status for the reason that no image was built.
+// Returns the status for an image that was not built.
 fn status_of(fault: BuildFault) -> ImageStatus
     ensures { result ≡ built_by fault }
 {
@@ -56,7 +56,7 @@ fn status_of(fault: BuildFault) -> ImageStatus
     }
 }
 
-// The description in a text.
+// Returns the blueprint of the description in a text.
 #[tactic(auto, using(crate::proofs::Built::unread))]
 fn blueprint_of(alloc: Global, text: &[u8]) -> Result<Blueprint, ImageStatus>
     ensures ok { IfOk result (IsRead text.now) }
@@ -72,7 +72,7 @@ fn blueprint_of(alloc: Global, text: &[u8]) -> Result<Blueprint, ImageStatus>
     }
 }
 
-// A device with the image of a description, and nothing after it.
+// Returns a device with exactly the image of a description.
 #[tactic(auto, using(crate::proofs::Built::unbuilt))]
 fn build_device(alloc: Global, blueprint: &Blueprint) -> Result<ImageDevice, ImageStatus>
     ensures ok { (table : Members) → IsDescription table blueprint.now
@@ -88,7 +88,7 @@ fn build_device(alloc: Global, blueprint: &Blueprint) -> Result<ImageDevice, Ima
     }
 }
 
-// Copies the sectors of a device.
+// Copies all sectors of a device into `bytes`.
 fn read_all(device: &mut ImageDevice, bytes: &mut [u8])
     requires { length bytes.old ≡ 512 * (image_disk device.old).sectors }
     ensures bytes { AreSectors (image_disk device.old).seen 0 bytes.new }
@@ -100,10 +100,10 @@ fn read_all(device: &mut ImageDevice, bytes: &mut [u8])
     }
 }
 
-/// Builds the image of a description's text, and copies it to the buffer. Sets `size` to its length.
+/// Builds the image of the description in a text, and copies it to the buffer. Sets `size` to its length.
 ///
-/// `NotToml`, or `BadDescription` with the least rule that the description breaks. `SmallBuffer` if the image doesn't
-/// fit. After an error the buffer is unchanged.
+/// Returns `NotToml`, or `BadDescription` with the least rule that the description breaks. Returns `SmallBuffer` if
+/// the image doesn't fit. After an error the buffer is unchanged.
 #[tactic(auto, using(crate::proofs::Statuses::unbuilt_text))]
 pub fn build_bytes(alloc: Global, text: &[u8], image: &mut [u8], size: &mut usize) -> ImageStatus
     ensures { BuildsBytes text.now image.old image.new size.old size.new result }

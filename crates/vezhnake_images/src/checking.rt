@@ -1,4 +1,4 @@
-// Images that are checked.
+// Checking images.
 ghost use Rattle.std.specs.Prelude.{IfErr, IfOk};
 ghost use Rattle.vezhnake_images.specs.ImageBytes.{RefusesBytes};
 ghost use Rattle.vezhnake_images.specs.ReadBytes.{ChecksBytes, IsInfoOf};
@@ -10,7 +10,7 @@ use object_cache::PlainStore;
 use queries::read_saved;
 use std::alloc::Global;
 
-// What an image has.
+// Opens the image in these bytes, and returns its sizes and counts.
 #[tactic(auto, using(crate::proofs::Devices::refused_by))]
 fn info_in(alloc: Global, image: &[u8]) -> Result<RawInfo, ImageStatus>
     ensures ok { IfOk result (IsInfoOf image.now) }
@@ -26,9 +26,10 @@ fn info_in(alloc: Global, image: &[u8]) -> Result<RawInfo, ImageStatus>
     }
 }
 
-/// Opens the image in these bytes as a run does, and returns in `info` what it has.
+/// Opens the image in these bytes as a run does, and puts its sizes and counts into `info`.
 ///
-/// `BadSize`, or `Bad` with the least of the ten reasons to refuse an image. An error leaves `info` alone.
+/// Returns `BadSize`, or `Bad` with the least of the ten reasons to refuse an image. After an error `info` is
+/// unchanged.
 #[tactic(auto, using(crate::proofs::Statuses::unchecked))]
 pub fn check_bytes(alloc: Global, image: &[u8], info: &mut RawInfo) -> ImageStatus
     ensures { ChecksBytes image.now info.old info.new result }

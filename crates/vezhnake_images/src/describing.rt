@@ -1,4 +1,4 @@
-// The descriptions of images.
+// Describing images.
 ghost use Rattle.std.specs.Prelude.{◌≡◌, IfErr, IfOk, string_bytes};
 ghost use Rattle.vezhnake_images.specs.ImageBytes.{RefusesBytes};
 ghost use Rattle.vezhnake_images.specs.ReadBytes.{DescribesBytes, IsTextFor};
@@ -12,7 +12,7 @@ use queries::read_saved;
 use std::alloc::Global;
 use vezhnake::copy_out;
 
-// The text that describes all objects of an image.
+// Returns the text of a description of all objects of an image.
 #[tactic(auto, using(crate::proofs::Devices::refused_by, crate::proofs::Texts::text_for))]
 fn text_for(alloc: Global, image: &[u8]) -> Result<String, ImageStatus>
     ensures ok { IfOk result (λ text. IsTextFor image.now (string_bytes text)) }
@@ -36,9 +36,10 @@ fn text_for(alloc: Global, image: &[u8]) -> Result<String, ImageStatus>
     }
 }
 
-/// Copies the text of a description of all that an image saves to the buffer, and sets `size` to its length.
+/// Copies a description of the saved state of an image to the buffer, as text, and sets `size` to its length.
 ///
-/// `SmallBuffer` if it doesn't fit; `BadSize` or `Bad` as for `check_bytes`. After an error the buffer is unchanged.
+/// Returns `SmallBuffer` if the text doesn't fit; `BadSize` or `Bad` as `check_bytes` does. After an error the buffer
+/// is unchanged.
 #[tactic(auto, using(crate::proofs::Statuses::undescribed))]
 pub fn describe_bytes(alloc: Global, image: &[u8], text: &mut [u8], size: &mut usize) -> ImageStatus
     ensures { DescribesBytes image.now text.old text.new size.old size.new result }

@@ -1,4 +1,4 @@
-// Why images and descriptions are refused.
+// Explaining why images and descriptions are refused.
 ghost use Rattle.std.specs.Prelude.{◌≡◌, Bool, Option, IfErr, IfOk, string_bytes};
 ghost use Rattle.image_explainer.specs.declared.fault.ImageFault.{ImageFault};
 ghost use Rattle.queries.specs.Explained.{TellsOf};
@@ -15,7 +15,7 @@ use queries::{explained, explanation_line};
 use std::alloc::Global;
 use vezhnake::copy_out;
 
-// Why an image is refused, if it is.
+// Returns why an image is refused, or `None` if it isn't.
 #[tactic(auto, using(crate::proofs::Devices::refused_by, crate::proofs::Texts::found_in))]
 fn find_in(alloc: Global, image: &[u8]) -> Result<Option<ImageFault>, ImageStatus>
     ensures ok { IfOk result (IsFound image.now) }
@@ -32,7 +32,7 @@ fn find_in(alloc: Global, image: &[u8]) -> Result<Option<ImageFault>, ImageStatu
     }
 }
 
-// Copies a line to the buffer.
+// Copies a line to the buffer, and sets `size` to its length. Returns `SmallBuffer` if it doesn't fit.
 fn copy_line(line: &[u8], buffer: &mut [u8], size: &mut usize) -> ImageStatus
     ensures { Answered (λ fits. CopiesOut line.now buffer.old buffer.new size.new fits) (λ _. ⊥) result }
 {
@@ -43,10 +43,12 @@ fn copy_line(line: &[u8], buffer: &mut [u8], size: &mut usize) -> ImageStatus
     }
 }
 
-/// Copies the line of `eros explain` about an image to the buffer, without its newline, and sets `size` to its length:
-/// `ok`, or the place that breaks a rule, what is wrong there, and the reason of `check_bytes`.
+/// Copies the line that `eros explain` prints about an image to the buffer, without its newline, and sets `size` to
+/// its length. The line is `ok`, or has the place that breaks a rule, what is wrong there, and the reason of
+/// `check_bytes`.
 ///
-/// `SmallBuffer` if it doesn't fit; `BadSize` as for `check_bytes`. After an error the buffer is unchanged.
+/// Returns `SmallBuffer` if the line doesn't fit; `BadSize` as `check_bytes` does. After an error the buffer is
+/// unchanged.
 #[tactic(auto, using(crate::proofs::Statuses::unexplained, crate::proofs::Statuses::explained_by))]
 pub fn explain_bytes(
     alloc: Global,
@@ -62,10 +64,12 @@ pub fn explain_bytes(
     }
 }
 
-/// Copies the line of `eros explain` about a description to the buffer, without its newline, and sets `size` to its
-/// length: `ok`, or the place of the first mistake, what is wrong there, and the fault of `build_bytes`.
+/// Copies the line that `eros explain` prints about a description to the buffer, without its newline, and sets `size`
+/// to its length. The line is `ok`, or has the place of the first mistake, what is wrong there, and the fault of
+/// `build_bytes`.
 ///
-/// `NotToml` if the text is no UTF-8; `SmallBuffer` if the line doesn't fit. After an error the buffer is unchanged.
+/// Returns `NotToml` if the text isn't UTF-8; `SmallBuffer` if the line doesn't fit. After an error the buffer is
+/// unchanged.
 pub fn explain_text(alloc: Global, text: &[u8], buffer: &mut [u8], size: &mut usize) -> ImageStatus
     ensures { ExplainsText text.now buffer.old buffer.new size.old size.new result }
 {

@@ -1,4 +1,4 @@
-// A device in memory.
+// Devices in memory.
 ghost use Rattle.std.specs.Prelude.{◌≡◌, ◌≤◌, ◌*◌, ◌%◌, length, IfErr, IfOk};
 ghost use Rattle.vezhnake_images.specs.ImageBytes.{IsOver, RefusesBytes, image_disk};
 
@@ -8,10 +8,10 @@ use device::{MAX_SECTORS, SECTOR_SIZE};
 use devices::{CopiedFile, SectorCopy};
 use std::alloc::{AllocError, Global};
 
-/// A device in memory. No call fails.
+/// A device in memory, of which no call fails.
 pub type ImageDevice = CopiedFile<NoFile>;
 
-// A device with a copy of these bytes.
+// Returns a device with a copy of these bytes. Fails only if memory runs out.
 #[tactic(auto, using(crate::proofs::Devices::over))]
 fn device_of(alloc: Global, bytes: &[u8]) -> Result<ImageDevice, AllocError>
     requires whole { length bytes.now % 512 ≡ 0 }
@@ -23,7 +23,8 @@ fn device_of(alloc: Global, bytes: &[u8]) -> Result<ImageDevice, AllocError>
     Ok(CopiedFile::new(copy, file))
 }
 
-/// A device with a copy of an image. `BadSize` if the bytes are no whole number of sectors, or too many.
+/// Returns a device with a copy of an image. Returns `BadSize` if the bytes aren't a whole number of sectors, or are
+/// too many.
 pub(crate) fn device_over(alloc: Global, image: &[u8]) -> Result<ImageDevice, ImageStatus>
     ensures ok { IfOk result (IsOver image.now) }
     ensures err { IfErr result (RefusesBytes image.now) }
@@ -37,7 +38,7 @@ pub(crate) fn device_over(alloc: Global, image: &[u8]) -> Result<ImageDevice, Im
     }
 }
 
-/// A device of zeros.
+/// Returns a device of zeros. Fails only if memory runs out.
 #[tactic(auto, using(crate::proofs::Devices::blank))]
 pub(crate) fn blank_device(alloc: Global, sectors: u64) -> Result<ImageDevice, AllocError>
     requires { sectors ≤ 131072 }

@@ -6,10 +6,10 @@ use checkpoint::OpenFault;
 use description::BuildFault;
 use layout::BadImage;
 
-/// What a call over images returns. C gets its number.
+/// The result of a call over images. A C caller gets its number.
 #[derive(Clone, Copy)]
 pub enum ImageStatus {
-    /// The call did its work.
+    /// The call succeeded.
     Done,
     /// The bytes are not an image, for this reason.
     Bad(BadImage),
@@ -21,14 +21,14 @@ pub enum ImageStatus {
     SmallBuffer,
     /// The device failed. No call returns this.
     Failed,
-    /// The text is no UTF-8, or no TOML.
+    /// The text isn't UTF-8, or isn't TOML.
     NotToml,
     /// The description breaks a rule.
     BadDescription(BuildFault),
 }
 
 impl ImageStatus {
-    /// The number that C gets.
+    /// Returns the number that a C caller gets.
     pub fn number(self) -> u32
         ensures { result ≡ image_number self }
     {
@@ -44,7 +44,7 @@ impl ImageStatus {
         }
     }
 
-    /// The status for the reason that no device was opened.
+    /// Returns the status for a device that could not be opened.
     pub(crate) fn of_opening(fault: OpenFault) -> ImageStatus
         ensures { result ≡ status_by fault }
     {

@@ -1,5 +1,5 @@
-//! What `eros build`, `check`, `info`, `describe` and `explain` answer, over the bytes of images and texts. No file is
-//! touched. `vezhnake_c` offers this to C.
+//! The answers of `eros build`, `check`, `info`, `describe` and `explain`, over the bytes of images and texts instead
+//! of files. `vezhnake_c` offers these functions to C.
 #![tactic(auto)]
 
 mod building;

@@ -1,4 +1,4 @@
-// The file beneath a device that is only in memory.
+// The file beneath a device that is in memory only.
 ghost use Rattle.std.specs.Prelude.{◌≡◌};
 ghost use Rattle.vezhnake.specs.Steps.{fresh};
 
@@ -6,7 +6,7 @@ use device::Failed;
 use devices::SectorFile;
 use vezhnake::{History, Step};
 
-/// The file beneath a device that is only in memory. It keeps nothing, and no call fails.
+/// The file beneath a device that is in memory only. It stores nothing, and no call of it fails.
 #[derive(Drop)]
 pub struct NoFile {
     history: History,
@@ -14,7 +14,7 @@ pub struct NoFile {
 }
 
 impl NoFile {
-    /// The file of a device that holds these bytes, on which no call was made.
+    /// Returns the file of a device that holds these bytes, on which no call was made yet.
     pub fn new(bytes: &[u8]) -> NoFile
         ensures { result.history ≡ fresh bytes.now }
     {

@@ -1,4 +1,4 @@
-// What an image has, as numbers.
+// The sizes and counts of an image, as numbers.
 ghost use Rattle.std.specs.Prelude.{◌≡◌, ◌≤◌, length};
 ghost use Rattle.queries.specs.Info.{headers_with};
 ghost use Rattle.vezhnake_images.specs.RawInfos.{info_with, raw_ranges};
@@ -19,22 +19,22 @@ pub struct RawRange {
     pub count: u64,
 }
 
-/// What an image has, as `eros info` prints it.
+/// The sizes and counts of an image, as `eros info` prints them.
 #[repr(C)]
 #[derive(Clone, Copy)]
 pub struct RawInfo {
     /// The version of the layout.
     pub layout: u64,
-    /// How many numbers nodes and pages have, and how many slots each half of the log.
+    /// The number of nodes, of pages, and of slots in a half of the log; the sectors of the image.
     pub nodes: u64,
     pub pages: u64,
     pub log: u64,
     pub sectors: u64,
-    /// The checkpoint that it saves.
+    /// The saved checkpoint: its generation, its age, and the entries of its directory.
     pub generation: u64,
     pub age: u64,
     pub entries: u64,
-    /// How many numbers are free, and how many objects there are of each kind.
+    /// How many numbers are free, and how many objects of each kind there are.
     pub free: u64,
     pub page_objects: u64,
     pub node_objects: u64,
@@ -42,11 +42,11 @@ pub struct RawInfo {
     pub banks: u64,
     /// How many home ranges there are.
     pub ranges_count: u64,
-    /// The home ranges. The others are 0.
+    /// The home ranges; the unused rows are 0.
     pub ranges: [RawRange; MAX_RANGES],
 }
 
-// The numbers of home ranges.
+// Returns the numbers of home ranges.
 fn raw_ranges(ranges: &[HomeRange]) -> [RawRange; MAX_RANGES]
     requires { length ranges.now ≤ 8 }
     ensures { result ≡ raw_ranges ranges.now }
@@ -62,7 +62,7 @@ fn raw_ranges(ranges: &[HomeRange]) -> [RawRange; MAX_RANGES]
     raw
 }
 
-// What an image has with this superblock, this checkpoint and these headers of its objects.
+// Returns the sizes and counts of an image with this superblock, this checkpoint and these object headers.
 fn info_about(superblock: &Superblock, saved: Checkpoint, headers: &[ObjectHeader]) -> RawInfo
     ensures { result ≡ info_with superblock.now saved (λ r. headers_with r headers.now) }
 {

@@ -1,4 +1,4 @@
-// What is wrong with a directory.
+// Finding what is wrong with a directory.
 ghost use Rattle.std.specs.Prelude.{◌≡◌, ℕ, ◌+◌, ◌*◌, ◌<◌, ◌≤◌, length, IfNone, IfSome};
 ghost use Rattle.layout.specs.Directory.{AllFitting, IsDirectory, directory_bytes, entry_at};
 ghost use Rattle.image_explainer.specs.SectorBreaking.{BreaksDirectory, IsAmong, IsFirstEntry, entry_of};
@@ -8,7 +8,7 @@ use crate::sectors::reading::number_at;
 use layout::{ENTRY_BYTES, Entry};
 use model::Geometry;
 
-/// Reads the entries of a directory, whatever their numbers are.
+/// Reads the entries of a directory, and doesn't check them.
 pub(crate) fn read_entries(bytes: &[u8], into: &mut [Entry])
     requires { length bytes.now ≡ 16 * length into.old }
     ensures bytes { bytes.now ≡ directory_bytes into.new }
@@ -24,7 +24,7 @@ pub(crate) fn read_entries(bytes: &[u8], into: &mut [Entry])
     }
 }
 
-// The first of the entries before an index that has the slot.
+// Returns the first entry before `index` with this slot, or `None`.
 fn slot_before(entries: &[Entry], index: usize, slot: u64) -> Option<usize>
     requires { index ≤ length entries.now }
     ensures some { IfSome result (λ j. (j < index) × ((entry_at entries.now j).slot ≡ slot)) }
@@ -38,7 +38,7 @@ fn slot_before(entries: &[Entry], index: usize, slot: u64) -> Option<usize>
     None
 }
 
-// What is wrong with an entry, by itself or after those before it.
+// Returns what is wrong with an entry, in itself or compared with those before it; or `None`.
 fn entry_part(geometry: Geometry, entries: &[Entry], index: usize) -> Option<DirectoryPart>
     requires index { index < length entries.now }
     requires fits { AllFitting entries.now }
@@ -72,7 +72,7 @@ fn entry_part(geometry: Geometry, entries: &[Entry], index: usize) -> Option<Dir
     }
 }
 
-/// What is wrong with the first entry of a directory with which something is.
+/// Returns what is wrong with the first faulty entry of a directory, or `None`.
 pub(crate) fn find_entry(geometry: Geometry, entries: &[Entry]) -> Option<DirectoryPart>
     requires fits { AllFitting entries.now }
     requires few { geometry.nodes + geometry.pages ≤ 8192 }

@@ -1,6 +1,6 @@
-// What is wrong in the sectors of an image, and where.
+// The faults in the sectors of an image, and their places.
 
-/// What is wrong in the sectors of an image, by the least of the reasons 1 to 7 that holds, and where.
+/// What is wrong in the sectors of an image: the least of the reasons 1 to 7 that holds, and the place.
 #[derive(Clone, Copy)]
 pub enum SectorFault {
     /// There are fewer sectors than the image needs.
@@ -10,21 +10,21 @@ pub enum SectorFault {
     },
     /// Sector 0 isn't a superblock.
     Superblock(SuperblockPart),
-    /// The superblock has something outside its limits.
+    /// A field of the superblock is outside its limits.
     Geometry(GeometryPart),
-    /// Why neither header counts.
+    /// No header counts. For each of the two slots, why its header doesn't.
     NoHeader(NotCounted, NotCounted),
-    /// The committed header, which lies in this sector.
+    /// The committed header is malformed; it lies in this sector.
     Header {
         sector: u64,
         part: HeaderPart,
     },
-    /// The directory of the committed header, which begins in this sector.
+    /// The directory of the committed header is malformed; it begins in this sector.
     Directory {
         sector: u64,
         part: DirectoryPart,
     },
-    /// The frame of an object.
+    /// The saved frame of an object is malformed.
     Frame {
         number: u64,
         is_page: bool,
@@ -32,23 +32,23 @@ pub enum SectorFault {
     },
 }
 
-/// What makes sector 0 no superblock.
+/// Why sector 0 isn't a superblock.
 #[derive(Clone, Copy)]
 pub enum SuperblockPart {
     Magic,
     Version,
-    /// A byte from 256 on isn't 0.
+    /// A byte after the ranges, from byte 256 on, isn't 0.
     Tail,
 }
 
-/// What a superblock has outside its limits.
+/// A field of a superblock that is outside its limits.
 #[derive(Clone, Copy)]
 pub enum GeometryPart {
     Nodes(u64),
     Pages(u64),
     Log(u64),
     Total(u64),
-    /// The home ranges or the halves of the log: the numbers above are within their limits.
+    /// The home ranges or the halves of the log. All numbers above are within their limits.
     Places,
 }
 
@@ -64,18 +64,18 @@ pub enum NotCounted {
 /// What is wrong with the committed header.
 #[derive(Clone, Copy)]
 pub enum HeaderPart {
-    /// The entries are above the slots of a half of the log.
+    /// There are more entries than a half of the log has slots.
     Entries { entries: u64, slots: u64 },
     Age(u64),
-    /// The generation is above twice the age.
+    /// The generation is greater than twice the age.
     Generation { generation: u64, age: u64 },
-    /// The sequence number is above its limit at the age.
+    /// The sequence number is greater than its limit at this age.
     Sequence { sequence: u64, age: u64 },
-    /// The magic, or a byte that must be 0.
+    /// The magic is wrong, or a byte that must be 0 isn't.
     Bytes,
 }
 
-/// What is wrong with a directory. Entries count from 0.
+/// What is wrong with a directory. Entries are numbered from 0.
 #[derive(Clone, Copy)]
 pub enum DirectoryPart {
     /// There is no object with the number of this entry.
@@ -88,13 +88,13 @@ pub enum DirectoryPart {
         entry: u64,
         slot: u64,
     },
-    /// The object of this entry isn't above the object of the entry before it.
+    /// The object of this entry isn't greater than the object of the entry before it.
     Order {
         entry: u64,
         object: u64,
         before: u64,
     },
-    /// Two entries have one slot.
+    /// Two entries have the same slot.
     Shared {
         first: u64,
         second: u64,
@@ -105,13 +105,13 @@ pub enum DirectoryPart {
 /// What is wrong with a frame.
 #[derive(Clone, Copy)]
 pub enum FramePart {
-    /// The allocation count is above the age.
+    /// The allocation count is greater than the age.
     Allocations { count: u64, age: u64 },
-    /// The call count is above the age.
+    /// The call count is greater than the age.
     Calls { count: u64, age: u64 },
-    /// The count of the capability in a slot is above the age.
+    /// The count of the capability in a slot is greater than the age.
     Count { slot: u64, count: u64, age: u64 },
-    /// A slot has no capability that can be kept.
+    /// The bytes of a slot don't encode a capability that an image may hold.
     Slot(u64),
     /// The role, the owner and the body don't fit together, or a byte that must be 0 isn't.
     Body,

@@ -1,4 +1,4 @@
-// What is wrong with the sectors of an image: reasons 1 to 7, in a copy of all of them.
+// Finding what is wrong with the sectors of an image, in a copy of all of them: reasons 1 to 7.
 ghost use Rattle.std.specs.Prelude.{◌≡◌, ◌+◌, ◌*◌, ◌<◌, ◌≤◌, ℕ, ⊤, length};
 ghost use Rattle.std.specs.ControlFlow.{MatchControlFlow};
 ghost use Rattle.device.specs.Disk.{Image};
@@ -26,7 +26,7 @@ use layout::{
 use model::Geometry;
 use std::ops::ControlFlow;
 
-// Goes on with the superblock, or breaks with why there is none.
+// Continues with the superblock, or breaks with the reason why there is none.
 fn find_superblock(bytes: &[u8], size: u64) -> ControlFlow<SectorFault, Superblock>
     requires { length bytes.now ≡ 512 * size }
     ensures found { (image : Image) → IsCopy image bytes.now
@@ -50,7 +50,7 @@ fn find_superblock(bytes: &[u8], size: u64) -> ControlFlow<SectorFault, Superblo
     superblock_in(sector)
 }
 
-// Goes on with the committed header, or breaks with why there is none.
+// Continues with the committed header, or breaks with the reason why there is none.
 fn find_header(
     bytes: &[u8],
     size: u64,
@@ -71,8 +71,8 @@ fn find_header(
     )
 }
 
-// Reads the directory of the committed header into as many entries as that says. Breaks with what
-// is wrong with it.
+// Reads the directory of the committed header into `entries`, which must have as many as the header says. Breaks with
+// what is wrong with the directory.
 fn find_directory(
     bytes: &[u8],
     size: u64,
@@ -103,7 +103,7 @@ fn find_directory(
     }
 }
 
-// Which part of the frame of an object that lies at a sector is wrong, if one is.
+// Returns which part of the frame of an object is malformed, or `None`. `sector` is where the frame's block begins.
 fn find_at(
     bytes: &[u8],
     sector: u64,
@@ -129,8 +129,8 @@ fn find_at(
     }
 }
 
-// Breaks with what is wrong with the saved frame of an object, if anything is. It is the image's fault if no frame
-// before it is wrong.
+// If the saved frame of an object is malformed, breaks with what is wrong with it. This is the image's fault if all
+// frames before it are valid.
 fn find_frame(
     bytes: &[u8],
     size: u64,
@@ -164,7 +164,7 @@ fn find_frame(
     }
 }
 
-// Breaks with what is wrong with the first frame that can't be kept, if one can't.
+// Breaks with what is wrong with the first malformed frame, if there is one.
 fn find_frames(
     bytes: &[u8],
     size: u64,
@@ -190,8 +190,8 @@ fn find_frames(
     ControlFlow::Continue(())
 }
 
-/// Breaks with what is wrong with the sectors of the image that `bytes` is a copy of: the least of
-/// the reasons 1 to 7 that holds. The entries are memory for as many as a directory may have.
+/// Breaks with what is wrong with the sectors of an image, by the least of the reasons 1 to 7 that holds. `bytes` is
+/// a copy of all sectors; `entries` must have space for the largest directory.
 pub fn find_in_sectors(
     bytes: &[u8],
     size: u64,

@@ -1,4 +1,4 @@
-// Which part of a frame is wrong.
+// Finding which part of a frame is malformed.
 ghost use Rattle.std.specs.Prelude.{◌≡◌, ℕ, ◌+◌, ◌*◌, ◌<◌, ◌≤◌, length, drop, take, IfNone, IfSome};
 ghost use Rattle.model.specs.declared.capability.Cap.{Cap};
 ghost use Rattle.model.specs.declared.frame.Frame.{Frame};
@@ -16,7 +16,7 @@ use model::Geometry;
 // Where the first slot of a node's frame begins.
 const SLOTS_AT: usize = 32;
 
-// The first slot of the frame of a node's number that has no capability which can be kept.
+// Returns the first slot of a node's frame that doesn't encode a capability which an image may hold, or `None`.
 fn find_slot(bytes: &[u8], geometry: Geometry, age: u64) -> Option<u64>
     requires { length bytes.now ≡ 1024 }
     ensures some { IfSome result (IsBadSlot geometry age bytes.now) }
@@ -32,7 +32,7 @@ fn find_slot(bytes: &[u8], geometry: Geometry, age: u64) -> Option<u64>
     None
 }
 
-// What a node's number adds: the first slot without a capability, or the body.
+// Returns the malformed part of a node's frame after its header: the first bad slot, else the body.
 fn slots_part(bytes: &[u8], geometry: Geometry, age: u64) -> FramePart
     requires { length bytes.now ≡ 1024 }
     ensures { BreaksSlots geometry age bytes.now result }
@@ -48,7 +48,7 @@ fn slots_part(bytes: &[u8], geometry: Geometry, age: u64) -> FramePart
     }
 }
 
-// Which part of a frame that can't be kept is wrong: its counts come first, then its slots.
+// Returns the malformed part of a frame that an image may not hold: first its counts, then its slots.
 fn frame_part(bytes: &[u8], geometry: Geometry, number: u64, age: u64) -> FramePart
     requires { length bytes.now ≡ 512 * frame_length geometry number }
     ensures { BreaksFrame geometry age number bytes.now result }
@@ -69,7 +69,7 @@ fn frame_part(bytes: &[u8], geometry: Geometry, number: u64, age: u64) -> FrameP
     }
 }
 
-/// Which part of the frame of an object is wrong, where it can't be kept at an age.
+/// Returns the malformed part of the frame of an object, or `None` if an image of this age may hold the frame.
 pub(crate) fn find_part(
     bytes: &[u8],
     geometry: Geometry,

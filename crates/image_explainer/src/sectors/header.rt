@@ -1,4 +1,4 @@
-// Why no header is committed, or the committed one is none.
+// Finding why no header is committed, or what is wrong with the committed one.
 ghost use Rattle.std.specs.Prelude.{◌≡◌, ◌↔◌, ◌<◌, true, false, length, IfNone, IfSome, Some};
 ghost use Rattle.std.specs.ControlFlow.{MatchControlFlow};
 ghost use Rattle.layout.specs.declared.header.CheckpointHeader.{CheckpointHeader};
@@ -13,7 +13,7 @@ use layout::{CheckpointHeader, Gate, decode_gate, decode_header, sequence_in};
 use model::MAX_AGE;
 use std::ops::ControlFlow;
 
-// Why a header in a slot doesn't count, if it doesn't.
+// Returns why the header in a slot doesn't count, or `None` if it does.
 fn why_not(header: &[u8], gate: &[u8], slot: u64) -> Option<NotCounted>
     requires header { length header.now ≡ 512 }
     requires gate { length gate.now ≡ 512 }
@@ -31,7 +31,7 @@ fn why_not(header: &[u8], gate: &[u8], slot: u64) -> Option<NotCounted>
     None
 }
 
-// Which part of a header is outside its limits, where a half of the log has `log` slots.
+// Returns which part of a header is outside its limits, if a half of the log has `log` slots.
 fn header_part(bytes: &[u8], log: u64) -> HeaderPart
     requires size { length bytes.now ≡ 512 }
     requires refused { (h : CheckpointHeader) → IsHeader log h → bytes.now ≡ header_bytes h → ⊥ }
@@ -60,7 +60,7 @@ fn header_part(bytes: &[u8], log: u64) -> HeaderPart
     }
 }
 
-// Goes on with the header in a sector, or breaks with what is wrong with it.
+// Continues with the header in a sector, or breaks with what is wrong with it.
 fn header_at(sector: u64, bytes: &[u8], log: u64) -> ControlFlow<SectorFault, CheckpointHeader>
     requires { length bytes.now ≡ 512 }
     ensures { MatchControlFlow result (λ h. IsHeader log h × (bytes.now ≡ header_bytes h))
@@ -75,8 +75,8 @@ fn header_at(sector: u64, bytes: &[u8], log: u64) -> ControlFlow<SectorFault, Ch
     }
 }
 
-/// Goes on with the committed one of two headers, each with its gate, or breaks with why there is
-/// none. A half of the log has `log` slots.
+/// Continues with the committed one of two headers, each with its gate, or breaks with the reason why there is none.
+/// A half of the log has `log` slots.
 pub(crate) fn choose(
     first: &[u8],
     first_gate: &[u8],

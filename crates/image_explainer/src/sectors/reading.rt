@@ -1,4 +1,4 @@
-// Sectors of a copy of an image, and numbers in them.
+// Reading sectors and numbers from a copy of an image.
 ghost use Rattle.std.specs.Prelude.{◌≡◌, ◌+◌, ◌*◌, ◌++◌, ◌≤◌, drop, length};
 ghost use Rattle.device.specs.Disk.{Image};
 ghost use Rattle.layout.specs.Bytes.{number, number_from};
@@ -8,7 +8,7 @@ ghost use Rattle.image_explainer.specs.SectorFinding.{IsCopy};
 use byteorder::{ByteOrder, LittleEndian};
 use device::SECTOR_SIZE;
 
-/// The number in the eight bytes from a place on.
+/// Returns the little-endian number in the eight bytes from `at` on.
 #[tactic(auto, unfolding(layout::specs::Bytes::number_from))]
 pub(crate) fn number_at(bytes: &[u8], at: usize) -> u64
     requires { at + 8 ≤ length bytes.now }
@@ -18,7 +18,7 @@ pub(crate) fn number_at(bytes: &[u8], at: usize) -> u64
     LittleEndian::read_u64(&bytes[at..])
 }
 
-/// The bytes of `count` sectors of an image from sector `at` on, from its copy `bytes`.
+/// Returns the bytes of `count` sectors from sector `at` on. `bytes` is a copy of all sectors.
 #[tactic(auto, using(crate::proofs::SectorCopies::sectors_in))]
 pub(crate) fn sectors(bytes: &[u8], at: u64, count: usize) -> &[u8]
     requires inside { 512 * (at + count) ≤ length bytes.now }

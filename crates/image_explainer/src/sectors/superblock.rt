@@ -1,4 +1,4 @@
-// Why sector 0 is no superblock.
+// Finding why sector 0 isn't a superblock.
 ghost use Rattle.std.specs.Prelude.{◌≡◌, ◌↔◌, drop, length, take, IsTrue};
 ghost use Rattle.std.specs.ControlFlow.{MatchControlFlow};
 ghost use Rattle.layout.specs.declared.version.Version.{Version};
@@ -15,7 +15,7 @@ use layout::{
 };
 use std::ops::ControlFlow;
 
-// Whether a superblock's sector has a version that there is.
+// Whether the sector of a superblock has version 1 or 2.
 #[tactic(auto, unfolding(layout::specs::Bytes::half_number))]
 fn has_version(bytes: &[u8]) -> bool
     requires { length bytes.now ≡ 512 }
@@ -25,7 +25,7 @@ fn has_version(bytes: &[u8]) -> bool
     version == [1, 0, 0, 0].as_slice() || version == [2, 0, 0, 0].as_slice()
 }
 
-// Which part of the mark isn't a superblock's.
+// Returns why a sector isn't marked as a superblock: its magic, its version, or a byte after the ranges.
 fn mark_part(bytes: &[u8]) -> SuperblockPart
     requires size { length bytes.now ≡ 512 }
     requires refused { HasMark bytes.now → ⊥ }
@@ -40,7 +40,7 @@ fn mark_part(bytes: &[u8]) -> SuperblockPart
     }
 }
 
-// Which number of a superblock is outside its limits.
+// Returns the field of a superblock that is outside its limits.
 fn geometry_part(bytes: &[u8]) -> GeometryPart
     requires size { length bytes.now ≡ 512 }
     requires refused { (p : Plan) → IsPlan p → bytes.now ≡ superblock_bytes p → ⊥ }
@@ -63,7 +63,7 @@ fn geometry_part(bytes: &[u8]) -> GeometryPart
     }
 }
 
-/// Goes on with the superblock in a sector, or breaks with why it is none.
+/// Continues with the superblock in a sector, or breaks with the reason why there is none.
 pub(crate) fn superblock_in(bytes: &[u8]) -> ControlFlow<SectorFault, Superblock>
     requires { length bytes.now ≡ 512 }
     ensures { MatchControlFlow result (λ s. IsPlan s × (bytes.now ≡ superblock_bytes s))

@@ -22,8 +22,8 @@ use model::{Cap, ContentRef, Geometry, ObjectHeader};
 /// Reads the frame of an object of this shape from the sectors from `at` on. It puts the slots of a
 /// node or an annex and the words of a page into `scratch`, and allocates nothing.
 ///
-/// Returns `Failed` exactly if the device failed. Returns `BadFrame` exactly if the sectors spell no
-/// frame that an image of this age may hold. After either, `scratch` may hold any slots and words.
+/// Returns `Failed` exactly if the device failed. Returns `BadFrame` exactly if the sectors encode no frame that an
+/// image of this age may hold. After either, `scratch` may hold any slots and words.
 pub fn read_frame<D: Device>(
     device: &mut D,
     at: u64,
@@ -50,8 +50,8 @@ pub fn read_frame<D: Device>(
     Ok(read)
 }
 
-/// Returns the header of the frame of this shape in the sectors from `at` on. It checks no other byte,
-/// and allocates nothing.
+/// Returns the header of the frame of this shape in the sectors from `at` on. It checks no other byte, and allocates
+/// nothing.
 ///
 /// Returns `Failed` exactly if the device failed.
 pub fn read_header<D: Device>(device: &mut D, at: u64, shape: Shape) -> Result<ObjectHeader, Failed>
@@ -69,8 +69,8 @@ pub fn read_header<D: Device>(device: &mut D, at: u64, shape: Shape) -> Result<O
     Ok(header_in(&run[shape.offset as usize..]))
 }
 
-/// Writes the frame of a page with these words into the 9 sectors from `at` on, and allocates nothing.
-/// For all other sectors it keeps their bytes and adds nothing to what a crash may leave in them.
+/// Writes the frame of a page with these words into the 9 sectors from `at` on, and allocates nothing. All other
+/// sectors keep their bytes, and a crash may leave nothing new in them.
 ///
 /// Returns `Failed` exactly if the device failed; then the 9 sectors may hold any bytes.
 pub fn write_page<D: Device>(
@@ -91,9 +91,8 @@ pub fn write_page<D: Device>(
     write_sectors(device, at, 9, &bytes)
 }
 
-/// Writes the frame of an object of this shape into the sectors from `at` on, and allocates nothing.
-/// It sets all bytes beside the frame in its block to 0. For all other sectors it keeps
-/// their bytes and adds nothing to what a crash may leave in them.
+/// Writes the frame of an object of this shape into the sectors from `at` on, and allocates nothing. All bytes beside
+/// the frame in its block become 0. All other sectors keep their bytes, and a crash may leave nothing new in them.
 ///
 /// Returns `Failed` exactly if the device failed; then the sectors of the shape may hold any bytes.
 pub fn write_frame<D: Device>(

@@ -1,4 +1,4 @@
-// One read or one write of several sectors, with a contract over their bytes in one list.
+// One read or one write of several sectors, with a contract that treats their bytes as one list.
 ghost use Rattle.std.specs.Prelude.{◌≡◌, ◌+◌, ◌*◌, ◌≤◌, length, OnOk};
 ghost use Rattle.device.specs.Calls.{Counts};
 ghost use Rattle.layout.specs.Image.{sectors_from};
@@ -25,8 +25,8 @@ pub fn read_sectors<D: Device>(
     device.read(at, into)
 }
 
-/// Writes `from` into `sectors` sectors from `at` on. Until a sync a crash may leave any bytes in
-/// them. Returns `Failed` exactly if the device failed; then they may hold any bytes.
+/// Writes `from` into `sectors` sectors from `at` on. Until a sync a crash may leave any bytes in these sectors.
+/// Returns `Failed` exactly if the device failed; then they may hold any bytes.
 #[tactic(auto, using(crate::proofs::Runs::run_is))]
 pub fn write_sectors<D: Device>(
     device: &mut D,

@@ -24,7 +24,7 @@ fn put_entries(entries: &[Entry], into: &mut [u64])
     }
 }
 
-// Fills `into` with the entries of these numbers.
+// Fills `into` with the entries that are encoded in these numbers.
 fn take_entries(numbers: &[u64], into: &mut [Entry])
     requires { length numbers.now ≡ 2 * length into.old }
     ensures { numbers.now ≡ entry_numbers into.new }
@@ -51,8 +51,8 @@ pub fn encode_entries(entries: &[Entry], into: &mut [u8])
 
 /// Reads the 512 bytes of a directory's sector with `into.len()` entries, at most 30, and returns its seal.
 ///
-/// Returns `None` if the bytes spell no such sector: it isn't sealed, or a byte after the entries isn't 0. Then `into`
-/// may hold any entries. The entries aren't checked.
+/// Returns `None` if the bytes encode no such sector: it isn't sealed, or a byte after the entries isn't 0. Then
+/// `into` may hold any entries. The entries aren't checked.
 pub fn decode_entries(bytes: &[u8], into: &mut [Entry]) -> Option<Sums>
     requires size { length bytes.now ≡ 512 }
     requires entries { length into.old ≤ 30 }

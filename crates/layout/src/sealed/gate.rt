@@ -7,7 +7,7 @@ use byteorder::{ByteOrder, LittleEndian};
 // How many copies of its number a gate has.
 const COPIES: usize = 64;
 
-// How many of them decide.
+// How many copies must agree, so that the gate has a number.
 const MAJORITY: usize = 33;
 
 /// Writes the 512 bytes of a gate's sector: 64 copies of a sequence number. Number 0 closes the gate.
@@ -27,7 +27,7 @@ fn read_numbers(bytes: &[u8], into: &mut [u64])
     LittleEndian::read_u64_into(bytes, into);
 }
 
-// Returns in how many places a number stands.
+// Returns how often a number occurs among numbers.
 fn copies(number: u64, numbers: &[u64]) -> usize
     requires { length numbers.now ≡ 64 }
     ensures { result ≡ copies number numbers.now }
@@ -41,7 +41,7 @@ fn copies(number: u64, numbers: &[u64]) -> usize
     count
 }
 
-// Returns the number that at least 33 of 64 places hold, if there is one and it isn't 0.
+// Returns the number that occurs at least 33 times in 64, if there is one and it isn't 0.
 fn majority(numbers: &[u64]) -> Option<u64>
     requires { length numbers.now ≡ 64 }
     ensures some { IfSome result (λ n. (0 < n) × (33 ≤ copies n numbers.now)) }
@@ -55,8 +55,8 @@ fn majority(numbers: &[u64]) -> Option<u64>
     None
 }
 
-/// Returns the number of a gate: what at least 33 of its 64 copies hold, if that isn't 0. Otherwise returns `None`:
-/// the gate is closed, or a write of it was torn.
+/// Returns the number of a gate: the one that at least 33 of its 64 copies hold, if that isn't 0. Otherwise returns
+/// `None`: the gate is closed, or a write of it was torn.
 pub fn decode_numbered_gate(bytes: &[u8]) -> Option<u64>
     requires { length bytes.now ≡ 512 }
     ensures some { IfSome result (λ n. HasNumber bytes.now n) }

@@ -12,7 +12,7 @@ use seal::Sums;
 // The bytes of EROSHEAD as a number.
 const HEADER_MAGIC: u64 = 0x4441_4548_534f_5245;
 
-/// The header of a checkpoint with the sums of what it speaks of.
+/// The header of a checkpoint, with the sums of the image and of its directory.
 #[derive(Clone, Copy)]
 pub struct SealedHeader {
     pub header: CheckpointHeader,
@@ -59,7 +59,7 @@ pub fn encode_sealed_header(header: SealedHeader, into: &mut [u8])
     encode_sector(&numbers, into);
 }
 
-// Returns the header that 11 numbers are.
+// Returns the header that is encoded in 11 numbers.
 fn sealed_header_from(numbers: &[u64]) -> SealedHeader
     requires { length numbers.now ≡ 11 }
     ensures { result ≡ sealed_header_from numbers.now }

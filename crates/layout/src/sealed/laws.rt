@@ -7,7 +7,7 @@ ghost use Rattle.layout.specs.sealed.Laws.{SpellOneSector, SpellOneSealedSuperbl
 ghost use Rattle.layout.specs.sealed.RootLaws.{OneOldSectorIsSeen, OneOldUnitIsSeen, UnitsHaveNoOrder};
 
 /// A gate has at most one number. A gate that was written has its number, and a closed one has none. A burst of at
-/// most 64 bits doesn't change the number of a whole gate. It does nothing: its contract is the law.
+/// most 64 bits doesn't change the number of an intact gate. The function does nothing: its contract is the law.
 pub fn gates_are_majorities()
     ensures one { GatesHaveOneNumber }
     ensures written { WrittenGatesHaveTheirNumber }
@@ -15,8 +15,8 @@ pub fn gates_are_majorities()
     ensures burst { BurstsKeepNumbers }
 {}
 
-/// Given bytes spell at most one value of each structure. Frames of zeros are those of free numbers. It does nothing:
-/// its contract is the law.
+/// Given bytes encode at most one value of each structure. Frames of zeros are those of free numbers. The function
+/// does nothing: its contract is the law.
 pub fn spell_one_sealed_value()
     ensures header { SpellOneSealedHeader }
     ensures page { SpellOnePageHeader }
@@ -25,15 +25,15 @@ pub fn spell_one_sealed_value()
     ensures zeros { ZerosAreFree }
 {}
 
-/// A burst of at most 64 bits makes no sector of one structure into another, and no cluster into another. It does
-/// nothing: its contract is the law.
+/// A burst of at most 64 bits makes no valid sector of a structure into another valid one, and no valid cluster into
+/// another. The function does nothing: its contract is the law.
 pub fn damage_is_seen()
     ensures sector { SectorsShowBursts }
     ensures cluster { ClustersShowBursts }
 {}
 
-/// One unit with another seal changes the root, and one sector of a directory with another seal the directory's sums.
-/// The order of units doesn't matter. It does nothing: its contract is the law.
+/// If the seal of one unit changes, the root changes. If the seal of one sector of a directory changes, the
+/// directory's sums change. The order of units doesn't matter. The function does nothing: its contract is the law.
 pub fn one_old_block_is_seen()
     ensures unit { OneOldUnitIsSeen }
     ensures sector { OneOldSectorIsSeen }

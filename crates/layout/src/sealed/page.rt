@@ -15,7 +15,7 @@ use seal::{Sums, sums_of};
 // Where the words of a page begin.
 const WORDS_AT: usize = 512;
 
-/// What the header sector of a page's frame says.
+/// The content of the header sector of a page's frame.
 #[derive(Clone, Copy)]
 pub struct PageHeader {
     pub object: ObjectHeader,
@@ -23,7 +23,7 @@ pub struct PageHeader {
     pub words: Sums,
 }
 
-// Whether an image of this age may have the header at the number of a page.
+// Whether an image of this age may have this header at the number of a page.
 fn is_page_header(header: PageHeader, age: u64) -> bool
     ensures { IsTrue result ↔ IsPageHeader age header }
 {
@@ -49,7 +49,7 @@ pub fn encode_page_header(header: PageHeader, into: &mut [u8])
     encode_sector(&numbers, into);
 }
 
-// Returns the header that 7 numbers are. Its role is `Free` unless the first is 1.
+// Returns the header that is encoded in 7 numbers. Its role is `Free` unless the first number is 1.
 fn page_header_from(numbers: &[u64]) -> PageHeader
     requires { length numbers.now ≡ 7 }
     ensures { result ≡ page_header_from numbers.now }
@@ -73,7 +73,7 @@ fn page_header_from(numbers: &[u64]) -> PageHeader
     }
 }
 
-/// Reads the 512 bytes of the header sector of a page's frame. Returns `None` if the bytes spell no header that an
+/// Reads the 512 bytes of the header sector of a page's frame. Returns `None` if the bytes encode no header that an
 /// image of this age may have at the number of a page. The words aren't checked.
 pub fn decode_page_header(bytes: &[u8], age: u64) -> Option<PageHeader>
     requires { length bytes.now ≡ 512 }
@@ -91,7 +91,7 @@ pub fn decode_page_header(bytes: &[u8], age: u64) -> Option<PageHeader>
     }
 }
 
-/// Writes the header sector of a page's frame of 4608 bytes, whose words lie there already. They stay.
+/// Writes the header sector of a page's frame of 4608 bytes, in which the words lie already. The words stay.
 #[tactic(auto, using(crate::proofs::SealedHeaders::front_long))]
 pub fn seal_page(object: ObjectHeader, frame: &mut [u8])
     requires { length frame.old ≡ 4608 }
@@ -103,7 +103,7 @@ pub fn seal_page(object: ObjectHeader, frame: &mut [u8])
     encode_page_header(PageHeader { object, words }, &mut frame[..WORDS_AT]);
 }
 
-// Whether a page's frame with this header may have these 4096 bytes of words.
+// Whether these 4096 bytes may be the words of a page's frame with this header.
 fn has_words(header: PageHeader, words: &[u8]) -> bool
     requires { length words.now ≡ 4096 }
     ensures { IsTrue result ↔ HasWords words.now header }
@@ -112,8 +112,8 @@ fn has_words(header: PageHeader, words: &[u8]) -> bool
     sums_of(words) == header.words && (!is_free || are_zeros(words))
 }
 
-/// Reads the header sector of a page's frame of 4608 bytes, and checks the words by it. Returns `None` if the bytes are
-/// no frame that an image of this age may have at the number of a page.
+/// Reads the header sector of a page's frame of 4608 bytes, and checks the words against it. Returns `None` if the
+/// bytes are no frame that an image of this age may have at the number of a page.
 #[tactic(auto, using(crate::proofs::SealedHeaders::front_long))]
 pub fn decode_page(frame: &[u8], age: u64) -> Option<PageHeader>
     requires { length frame.now ≡ 4608 }

@@ -1,11 +1,11 @@
-// The root: the sums of all units. The sums of a directory.
+// The root, which is the sums of all units; and the sums of a directory.
 ghost use Rattle.std.specs.Prelude.{◌≡◌, ◌∷◌, ◌<◌, ◌^◌, List};
 ghost use Rattle.seal.specs.declared.sums.Sums.{Sums};
 ghost use Rattle.layout.specs.sealed.Root.{Unit, directory_sums, root_of, weighed};
 
 use seal::Sums;
 
-// Adds a seal to sums, times a weight, modulo 2^64.
+// Returns sums plus a seal times a weight, modulo 2^64.
 fn add_weighted(sums: Sums, weight: u64, seal: Sums) -> Sums
     ensures { result ≡ weighed sums weight seal }
 {
@@ -16,7 +16,7 @@ fn add_weighted(sums: Sums, weight: u64, seal: Sums) -> Sums
     }
 }
 
-// Takes a seal, times a weight, from sums, modulo 2^64.
+// Returns sums minus a seal times a weight, modulo 2^64.
 fn take_weighted(sums: Sums, weight: u64, seal: Sums) -> Sums
     ensures { weighed result weight seal ≡ sums }
 {
@@ -27,7 +27,8 @@ fn take_weighted(sums: Sums, weight: u64, seal: Sums) -> Sums
     }
 }
 
-/// Returns the root with one unit more: the cluster of node `number`, its least, or page `number`, with this seal.
+/// Returns the root with one more unit, which has this seal: page `number`, or the cluster whose least node is
+/// `number`.
 pub fn add_unit(root: Sums, number: u64, seal: Sums) -> Sums
     requires { number < 2 ^ 63 }
     ensures { (us : List Unit) → root ≡ root_of us → result ≡ root_of (record { number = number; seal = seal } ∷ us) }
@@ -43,7 +44,7 @@ pub fn remove_unit(root: Sums, number: u64, seal: Sums) -> Sums
     take_weighted(root, 2 * number + 1, seal)
 }
 
-/// Returns the sums of a directory with one sector more, which has this seal.
+/// Returns the sums of a directory with one more sector, which has this seal.
 pub fn add_sector(sums: Sums, seal: Sums) -> Sums
     ensures { (seals : List Sums) → sums ≡ directory_sums seals → result ≡ directory_sums (seal ∷ seals) }
 {

@@ -10,7 +10,7 @@ use seal::{is_sealed, seal};
 /// Where the seal of a sector begins.
 pub const SEAL_AT: usize = 488;
 
-// Fills `into` with the numbers of 8 bytes each.
+// Fills `into` with the numbers in the bytes, 8 bytes for each.
 fn read_numbers(bytes: &[u8], into: &mut [u64])
     requires { length bytes.now ≡ 8 * length into.old }
     ensures numbers { bytes.now ≡ words_bytes into.new }
@@ -32,8 +32,8 @@ pub fn encode_sector(numbers: &[u64], into: &mut [u8])
     seal(into);
 }
 
-/// Reads the 512 bytes of a sealed sector into at most 61 numbers. Returns whether it is sealed and has only zeros
-/// after them.
+/// Reads the 512 bytes of a sealed sector into at most 61 numbers. Returns whether the sector is sealed and has only
+/// zeros after these numbers.
 pub fn decode_sector(bytes: &[u8], into: &mut [u64]) -> bool
     requires size { length bytes.now ≡ 512 }
     requires numbers { length into.old ≤ 61 }

@@ -1,4 +1,4 @@
-// The row of a superblock.
+// The sealed sector of a superblock.
 ghost use Rattle.std.specs.Prelude.{◌≡◌, ◌*◌, ◌^◌, ◌<◌, List, length, IfSome, IfNone};
 ghost use Rattle.layout.specs.declared.extent.HomeRange.{HomeRange};
 ghost use Rattle.layout.specs.declared.sealed.superblock.SuperblockRow.{SuperblockRow};
@@ -15,13 +15,13 @@ const SUPERBLOCK_MAGIC: u64 = 0x5450_4b43_534f_5245;
 // The version of the layout.
 const VERSION: u64 = 3;
 
-// 2^32: version and number of ranges are the halves of one number.
+// 2^32: one number holds the version in its lower half and the number of ranges in its upper half.
 const HALF: u64 = 4_294_967_296;
 
-// Where the ranges begin among the numbers.
+// The index of the first number of the ranges.
 const RANGES_AT: usize = 8;
 
-/// What a superblock says beside its eight home ranges.
+/// The content of a superblock besides its eight home ranges.
 #[derive(Clone, Copy)]
 pub struct SuperblockRow {
     /// How many of the ranges are used.
@@ -46,7 +46,7 @@ fn put_ranges(ranges: &[HomeRange], into: &mut [u64])
     }
 }
 
-// Fills `into` with the ranges of these numbers.
+// Fills `into` with the ranges that are encoded in these numbers.
 fn take_ranges(numbers: &[u64], into: &mut [HomeRange])
     requires { length numbers.now ≡ 3 * length into.old }
     ensures { numbers.now ≡ range_numbers into.new }
@@ -81,7 +81,7 @@ fn put_row(row: SuperblockRow, ranges: &[HomeRange], into: &mut [u64])
     put_ranges(ranges, &mut into[RANGES_AT..]);
 }
 
-// Returns the row that 32 numbers are.
+// Returns the row that is encoded in 32 numbers.
 fn row_from(numbers: &[u64]) -> SuperblockRow
     requires { length numbers.now ≡ 32 }
     ensures { result ≡ row_from numbers.now }

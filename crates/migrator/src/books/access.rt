@@ -1,4 +1,4 @@
-// Reading the frames of an image.
+// Reading the saved, frozen and working frames.
 ghost use Rattle.std.specs.Prelude.{◌≡◌, ◌≤◌, IfOk};
 ghost use Rattle.device.specs.Calls.{Counts};
 ghost use Rattle.layout.specs.Frame.{frame_of};
@@ -36,8 +36,8 @@ impl Books {
         read_again(device, &self.plan, self.header, named, number, scratch)
     }
 
-    // Reads the frozen frame of an object, which was put into a slot: from memory where the device failed to write the
-    // cluster there.
+    // Reads the frozen frame of an object from its slot, or from memory if the device failed to write the cluster in
+    // this slot.
     fn read_frozen<D: Device>(
         &self,
         device: &mut D,
@@ -67,8 +67,8 @@ impl Books {
         read_put(device, &self.plan, generation, slot, number, scratch)
     }
 
-    /// Reads the frozen frame of an object, or else the saved one. The slots of a node or an annex and the words of a
-    /// page are left in `scratch`, and no memory is taken.
+    /// Reads the frozen frame of an object if it is in the log, else the saved one. Puts the slots of a node or an
+    /// annex and the words of a page into `scratch`, and takes no memory.
     pub(crate) fn fetch_below<D: Device>(
         &self,
         device: &mut D,
@@ -89,7 +89,7 @@ impl Books {
         }
     }
 
-    /// Reads the newest frame of an object: the one that was put last, else the frozen one, else the saved one.
+    /// Reads the newest frame of an object: the working one if there is one, else the frozen one, else the saved one.
     pub(crate) fn fetch<D: Device>(
         &self,
         device: &mut D,

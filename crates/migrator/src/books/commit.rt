@@ -10,7 +10,7 @@ use device::{Device, Failed};
 use layout::CheckpointHeader;
 
 impl Books {
-    // The header under which the frozen frames are saved at an age.
+    // Returns the header that saves the frozen frames, at an age.
     fn next_header(&self, age: u64) -> CheckpointHeader
         requires { IsHeader self.now.plan.geometry.log self.now.header }
         ensures { result ≡ next_header age self.now }
@@ -23,7 +23,7 @@ impl Books {
         }
     }
 
-    /// Commits the running checkpoint. All its frames were put.
+    /// Commits the frozen checkpoint. All its frames must be in the log.
     pub(crate) fn commit<D: Device>(
         &mut self,
         device: &mut D,

@@ -1,4 +1,4 @@
-// One page is saved beside the checkpoints.
+// Journaling: saving one page without a checkpoint.
 ghost use Rattle.std.specs.Prelude.{◌≡◌, ℕ, ◌≤◌, length, IfOk, OnOk};
 ghost use Rattle.device.specs.Calls.{Counts};
 ghost use Rattle.layout.specs.Frame.{IsFrameOf};
@@ -22,8 +22,8 @@ use layout::{CheckpointHeader, Entry, read_header};
 use model::ObjectHeader;
 
 impl Books {
-    /// The header of the saved frame of an object, where all that is saved is home. Its block is read,
-    /// and no memory is taken.
+    /// Returns the header of the saved frame of an object. All saved objects must be home. Reads the block of the
+    /// frame, and takes no memory.
     pub(crate) fn saved_header<D: Device>(
         &self,
         device: &mut D,
@@ -42,7 +42,7 @@ impl Books {
         read_header(device, at, self.plan.shape(number))
     }
 
-    // Writes a page with other words, under its saved header, into the first slot of the half of the log that the saved
+    // Writes a page with new words, under its saved header, into the first slot of the log half that the saved
     // generation used.
     fn put_page<D: Device>(
         &self,
@@ -68,7 +68,7 @@ impl Books {
         log.write_page(device, self.header.generation, 0, header, words)
     }
 
-    // The header under which one object is saved anew, at an age.
+    // Returns the header that saves one object anew, at an age.
     fn replaced_header(&self, age: u64) -> CheckpointHeader
         requires { IsHeader self.now.plan.geometry.log self.now.header }
         ensures { result ≡ replaced_header age self.now }
@@ -81,7 +81,7 @@ impl Books {
         }
     }
 
-    // Saves the frame of an object that lies in the first slot of the half of the log that the saved generation used.
+    // Saves the frame of an object that lies in the first slot of the log half that the saved generation used.
     fn save_first<D: Device>(
         &mut self,
         device: &mut D,
@@ -102,8 +102,8 @@ impl Books {
         self.adopt(device, header, spare)
     }
 
-    /// Saves a page with other words, under its saved header, where no checkpoint is on its way and all that
-    /// is saved is home.
+    /// Saves a page with new words, under its saved header. No checkpoint may be frozen, and all saved objects must
+    /// be home.
     pub(crate) fn save_page<D: Device>(
         &mut self,
         device: &mut D,

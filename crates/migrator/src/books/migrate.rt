@@ -1,4 +1,4 @@
-// What is saved goes home.
+// Migration: copying saved frames home.
 ghost use Rattle.std.specs.Prelude.{◌≡◌, ◌⊎◌, ℕ, ◌+◌, ◌-◌, ◌<◌, ◌≤◌, true, false, IfOk, OnOk, OnErr};
 ghost use Rattle.device.specs.Calls.{Counts};
 ghost use Rattle.checkpoint.specs.Snapshots.{all_moved};
@@ -14,7 +14,7 @@ use device::{Device, Failed};
 use layout::{CheckpointHeader, PAGE_FRAME_BYTES};
 
 impl Books {
-    // Copies the next saved frame home, where it didn't go there with the one before it.
+    // Copies the next saved frame home, unless it went home with the previous one of its cluster.
     fn move_next<D: Device>(
         &mut self,
         device: &mut D,
@@ -47,7 +47,7 @@ impl Books {
         Ok(())
     }
 
-    // Publishes that all that is saved is home.
+    // Publishes a header that says that all saved frames are home.
     fn finish<D: Device>(&mut self, device: &mut D, spare: &mut Directory) -> Result<(), Failed>
         requires { MayFinish (D.disk device.old) self.old }
         ensures { Publishes (D.disk device.old) (D.disk device.new) self.old self.new
@@ -81,7 +81,7 @@ impl Books {
         Ok(())
     }
 
-    // Whether all that is saved is home, and no header says so yet.
+    // Whether all saved frames are home, but the header doesn't say so yet.
     fn is_to_finish(&self) -> bool
         requires { self.now.moved ≤ self.now.header.entries }
         ensures yes { result ≡ true → (0 < self.now.header.entries)
@@ -92,7 +92,7 @@ impl Books {
         self.header.entries != 0 && self.moved >= self.header.entries
     }
 
-    // How many of the saved objects go home if `count` are to, and how many then are left.
+    // Returns how many saved frames to copy home if `count` are asked for, and how many are left after these.
     fn share(&self, count: u64) -> (u64, u64)
         requires { self.now.moved ≤ self.now.header.entries }
         ensures lesser { IsLesser result.0 count (self.now.header.entries - self.now.moved) }
@@ -106,8 +106,8 @@ impl Books {
         }
     }
 
-    /// Copies `count` of the saved frames home, in the order of their numbers, and returns how many are left. Once none
-    /// is, it makes them durable and publishes a header that says so.
+    /// Copies the next `count` saved frames home, in the order of their numbers, and returns how many are left. If
+    /// none is left, makes the home frames durable and publishes a header that says so.
     pub(crate) fn migrate<D: Device>(
         &mut self,
         device: &mut D,

@@ -1,4 +1,4 @@
-// What a store says of itself, and what it gives back.
+// Reading a store: its sizes, its directory, its frames; and returning its device.
 ghost use Rattle.std.specs.Prelude.{◌≡◌, ◌+◌, ◌≤◌, IfOk, option_map};
 ghost use Rattle.device.specs.Calls.{Counts};
 ghost use Rattle.layout.specs.Frame.{frame_of};
@@ -12,7 +12,7 @@ use layout::{Body, Entry, Scratch, Superblock};
 use model::{Geometry, ObjectHeader};
 
 impl<D: Device> Durable<D> {
-    /// How many objects and slots there may be.
+    /// Returns how many nodes, pages and log slots there are.
     pub fn geometry(&self) -> Geometry
         ensures geometry { result ≡ (stored_of D.disk self.now).saved.geometry }
         ensures few { result.nodes + result.pages ≤ 8192 }
@@ -35,7 +35,7 @@ impl<D: Device> Durable<D> {
         self.books.directory.as_slice()
     }
 
-    /// How many frozen frames are still to be put, where a checkpoint is on its way.
+    /// Returns how many frozen frames aren't in the log yet, or `None` if no checkpoint is frozen.
     pub fn left(&self) -> Option<u64>
         ensures { result ≡ option_map left_of (stored_of D.disk self.now).frozen }
     {
@@ -55,14 +55,14 @@ impl<D: Device> Durable<D> {
         }
     }
 
-    /// The device beneath, on which no call is made.
+    /// Returns the device beneath, and makes no call of it.
     pub fn device(&self) -> &D
         ensures { result.now ≡ self.now.beneath }
     {
         &self.device
     }
 
-    /// Gives the device back, and makes no call of it.
+    /// Returns the device, and makes no call of it. All else is dropped.
     pub fn into_device(self) -> D
         ensures { result ≡ self.beneath }
     {
@@ -76,9 +76,9 @@ impl<D: Device> Durable<D> {
         device
     }
 
-    /// Reads what lies below a frame of an object that is kept in memory: the frozen one that was
-    /// put, else the saved one. The slots of a node or an annex and the words of a page are left in
-    /// `scratch`, and no memory is taken. It is refused exactly if the device failed.
+    /// Reads the newest frame of an object that isn't a working one: the frozen one if it is in the log, else the
+    /// saved one. Puts the slots of a node or an annex and the words of a page into `scratch`, and takes no memory.
+    /// Fails exactly if the device failed.
     pub fn fetch_below(
         &mut self,
         number: u64,
@@ -93,9 +93,9 @@ impl<D: Device> Durable<D> {
         self.books.fetch_below(&mut self.device, number, scratch)
     }
 
-    /// Reads the newest frame of an object: the one that was put last, else the frozen one, else
-    /// the saved one. The slots of a node or an annex and the words of a page are left in
-    /// `scratch`, and no memory is taken. It is refused exactly if the device failed.
+    /// Reads the newest frame of an object: the working one if there is one, else the frozen one, else the saved one.
+    /// Puts the slots of a node or an annex and the words of a page into `scratch`, and takes no memory. Fails
+    /// exactly if the device failed.
     pub fn fetch(
         &mut self,
         number: u64,

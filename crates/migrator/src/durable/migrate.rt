@@ -1,4 +1,4 @@
-// What is saved goes home.
+// Migration: copying saved frames home.
 ghost use Rattle.std.specs.Prelude.{◌≡◌, ℕ, ◌-◌, ◌≤◌, IfOk, OnOk, OnErr};
 ghost use Rattle.device.specs.Calls.{Counts};
 ghost use Rattle.checkpoint.specs.Saved.{LeavesEither};
@@ -9,12 +9,12 @@ use crate::durable::Durable;
 use device::{Device, Failed};
 
 impl<D: Device> Durable<D> {
-    /// Copies `count` of the saved frames home, in the order of their numbers, and answers how many
-    /// are left. Once none is, the home frames are made durable, and a header says that all that is
-    /// saved is home. Where the header says so already, it makes no call of the device.
+    /// Copies the next `count` saved frames home, in the order of their numbers, and returns how many are left. If
+    /// none is left, makes the home frames durable, and publishes a header that says that all are home. If the header
+    /// says so already, it makes no call of the device.
     ///
-    /// It returns `Failed` exactly if the device failed. Then a crash leaves what was saved,
-    /// or the same with all of it home where that was to be reached.
+    /// Returns `Failed` exactly if the device failed. Then a crash leaves what was saved or, if this call was to
+    /// bring the last frame home, the same with all frames home.
     pub fn migrate(&mut self, count: u64) -> Result<u64, Failed>
         requires sound { is_sound D.disk self.old }
         ensures left { IfOk result (λ n. n ≡ (stored_of D.disk self.old).to_move - count) }

@@ -24,7 +24,7 @@ use layout::{CheckpointHeader, Entry, Scratch, Superblock};
 use model::Geometry;
 use std::alloc::{AllocError, Global};
 
-/// A store that was opened, and what took its saved frames.
+/// An opened store, and the intake that took its saved frames.
 #[derive(Drop)]
 pub struct Opened<D: Device, I: Intake> {
     pub store: Durable<D>,
@@ -35,21 +35,21 @@ pub struct Opened<D: Device, I: Intake> {
 // function that takes memory has an exit for each call that may fail, and is proved for all values that it owns there.
 // A call of `drop` is proved once for its type.
 
-// Memory for the saved directory, and for another.
+// Memory for the saved directory, and for the next one.
 #[derive(Drop)]
 struct Directories {
     saved: Vec<Entry>,
     spare: Directory,
 }
 
-// The places of the frozen frames, and of those put since.
+// The slots of the frozen frames, and of the working ones.
 #[derive(Drop)]
 struct Tables {
     frozen: Table,
     working: Table,
 }
 
-// All the memory that a store takes.
+// All memory that a store needs.
 #[derive(Drop)]
 struct Reserve {
     directories: Directories,
@@ -57,14 +57,14 @@ struct Reserve {
     buffer: ClusterBuffer,
 }
 
-// What takes the frames, and the scratch buffer for the one that is read.
+// The intake of the frames, and the scratch buffer for the frame that is being read.
 #[derive(Drop)]
 struct Sink<I: Intake> {
     taken: I,
     scratch: Scratch,
 }
 
-// What was read of a device, and the memory for a store over it.
+// What was read from a device, and the memory for a store over it.
 #[derive(Drop)]
 struct Parts<I: Intake> {
     plan: Superblock,
@@ -125,7 +125,7 @@ impl<I: Intake> Sink<I> {
     }
 }
 
-// The books of an image before a frame is moved or put.
+// Returns the books of an image from which no frame was copied home and to which none was written.
 fn first_books(
     plan: Superblock,
     header: CheckpointHeader,
@@ -149,7 +149,7 @@ fn first_books(
     }
 }
 
-// Reads the whole image of a superblock: the directory into the reserve, and the frames are taken.
+// Reads the whole image with a superblock: puts the directory into `reserve`, and gives all frames to the intake.
 #[tactic(auto, using(crate::proofs::Opening::reads_none))]
 fn read_into<D: Device, I: Intake>(
     alloc: Global,
@@ -183,7 +183,7 @@ fn read_into<D: Device, I: Intake>(
     }
 }
 
-// Reads a device whole.
+// Reads the whole image on a device.
 fn read_parts<D: Device, I: Intake>(
     alloc: Global,
     device: &mut D,
@@ -220,12 +220,12 @@ fn read_parts<D: Device, I: Intake>(
 }
 
 impl<D: Device> Durable<D> {
-    /// Opens a device, and writes nothing to it. It begins with a sync, and reads what is committed
-    /// and every saved frame, once: `I` takes each when it is read, and may use `memory`. No later call
-    /// takes memory.
+    /// Opens a device, and writes nothing to it. Syncs it first, then reads the committed header, its directory, and
+    /// every saved frame once. `I` takes each frame when it is read, and may use `memory`. No later call takes
+    /// memory.
     ///
-    /// A refusal gives the device back: `Failed` exactly if the device failed, `NoMemory` only
-    /// where memory ran out, and else the least of the reasons 1 to 7 to refuse an image.
+    /// A refusal returns the device, with the reason: `Failed` exactly if the device failed, `NoMemory` only if
+    /// memory ran out, else the least of the reasons 1 to 7 that holds.
     pub fn open<I: Intake>(
         alloc: Global,
         device: D,

@@ -24,7 +24,7 @@ use model::Refusal;
 use std::alloc::Global;
 use std::mem;
 
-// Makes the dirty numbers pending, with their headers of now. None is dirty or touched then.
+// Makes the dirty numbers pending, with their present headers. Afterwards no number is dirty or touched.
 fn take_written(
     frozen_headers: &mut FrozenHeaders,
     table: &ObjectTable,
@@ -53,8 +53,8 @@ impl<D: Device, P: Policy> ObjectStore<D> for Store<D, P> {
 
     ghost view = { view_of D.disk };
 
-    /// Opens a device and takes all memory that the store will ever need. If the policy keeps every body, reads all of
-    /// them now; else no body is in memory. Errors: see `ObjectStore::open`.
+    /// Opens a device, and takes all memory that the store will ever need. If the policy keeps every body, reads all
+    /// of them now; else no body is in memory at first. Errors: see `ObjectStore::open`.
     fn open(
         alloc: Global,
         device: D,
@@ -107,8 +107,8 @@ impl<D: Device, P: Policy> ObjectStore<D> for Store<D, P> {
         }
     }
 
-    /// Removes an object's entry, unless the policy keeps every body. First writes what the log lacks of it. `Ok` also
-    /// if it has no entry. Fails exactly if the device fails.
+    /// Removes the entry of an object, unless the policy keeps every body. First writes those of its frames that
+    /// aren't in the log. Does nothing if the object has no entry. Fails exactly if the device fails.
     fn evict(&mut self, number: u64) -> Result<(), Failed>
         requires known { number < length self.old.headers }
         requires may { MayFetch (IsUsableIn D.disk) (parts_of D.disk) self.old }
@@ -145,8 +145,8 @@ impl<D: Device, P: Policy> ObjectStore<D> for Store<D, P> {
         Ok(size)
     }
 
-    /// Writes `count` of the frozen objects to the log, and returns how many it has yet to reach. An object that an
-    /// eviction wrote before its turn is counted until its turn. Refusals: see `ObjectStore::stabilize`.
+    /// Writes `count` of the frozen objects to the log, and returns how many it hasn't reached yet. An object that an
+    /// eviction wrote early counts as not reached until its turn. Refusals: see `ObjectStore::stabilize`.
     fn stabilize(&mut self, count: u64) -> Result<u64, Refusal> {
         let Some(left) = self.left() else {
             return Err(Refusal::NoCheckpoint);
@@ -157,8 +157,8 @@ impl<D: Device, P: Policy> ObjectStore<D> for Store<D, P> {
     }
 
     fn commit(&mut self, age: u64) -> Result<u64, Refusal> {
-        // `Durable::commit` takes this decision by its own count, which is lower after an eviction wrote frozen frames
-        // early. The count here is the model's, and where it is 0 the other is too.
+        // `Durable::commit` decides by its own count, which is less if an eviction wrote frozen frames early. The
+        // count here is the model's; if it is 0, the other is 0 too.
         let Some(left) = self.left() else {
             return Err(Refusal::NoCheckpoint);
         };
@@ -172,7 +172,7 @@ impl<D: Device, P: Policy> ObjectStore<D> for Store<D, P> {
         self.durable.migrate(count)
     }
 
-    /// Saves the present words of a page. The words of a page that isn't in memory are read into the scratch buffer,
+    /// Saves the present words of a page. If the page isn't in memory, its words are read into the scratch buffer,
     /// which `open` allocated. Refusals: see `ObjectStore::journal`.
     fn journal(&mut self, number: u64, age: u64) -> Result<u64, Refusal> {
         journal_page(

@@ -16,7 +16,7 @@ use device::{Device, Failed};
 use layout::{Body, Scratch};
 use model::Role;
 
-// Adds an entry with a body that was read; `Free` if the object's role is free.
+// Adds an entry with a body that was read; the body is `Free` if the object's role is `Free`.
 fn insert_read(entries: &mut Entries, number: u64, role: Role, body: &Body, scratch: &Scratch)
     requires known { number < length entries.old.at }
     requires absent { entry_at entries.old.at number ≡ None }
@@ -85,8 +85,8 @@ impl<D: Device, P: Policy> Store<D, P> {
         self.read_in(number)
     }
 
-    // Marks objects as used, in turn, up to the first that has no entry. Returns whether it marked
-    // them all; then they are in memory.
+    // Marks objects as used, in turn, up to the first that has no entry. Returns whether it marked all; then all are
+    // in memory.
     pub(crate) fn use_again(&mut self, numbers: &[u64]) -> bool
         requires { All (λ n. n < length self.old.headers) numbers.now }
         ensures fetched { result ≡ true → (n : ℕ) → Contains numbers.now n → IsFetchedIn self.new n }

@@ -28,9 +28,9 @@ fn is_of_page(role: Role) -> bool
     }
 }
 
-// The saved header of a page that may be journaled, by its allocation count. It reads the device.
+// Returns the saved header of a page that may be journaled. Reads the device.
 //
-// It is refused by `NotJournaled(Renewed)` exactly if no page with this allocation count is saved there. `Fault`
+// Returns `NotJournaled(Renewed)` exactly if no page with this allocation count is saved at the number, and `Fault`
 // exactly if the device failed.
 fn page_saved<D: Device>(
     durable: &mut Durable<D>,
@@ -54,8 +54,9 @@ fn page_saved<D: Device>(
     Err(Refusal::NotJournaled(Unjournaled::Renewed))
 }
 
-// Refuses a page that may not be journaled, by all but what is saved of it. `header` is its present header, and
-// `is_known` says whether an object has its number. It is refused as `ObjectStore::journal` is, without a device call.
+// Checks everything about journaling a page except what is saved at its number. `header` is its present header, and
+// `is_known` says whether an object has its number. It is refused as `ObjectStore::journal` is, without a device
+// call.
 fn may_journal<D: Device>(
     durable: &Durable<D>,
     header: ObjectHeader,
@@ -83,7 +84,7 @@ fn may_journal<D: Device>(
     Ok(())
 }
 
-// Saves a page with the words of a body and its saved header, as `Durable::save_page` does.
+// Saves a page with the words of a body, under its saved header, as `Durable::save_page` does.
 fn save_content<D: Device>(
     durable: &mut Durable<D>,
     content: ContentRef<'_>,
@@ -120,7 +121,7 @@ fn save_read<D: Device>(
     durable.save_page(number, header, scratch.words.as_array(), age)
 }
 
-// Saves a page with its present words: those in its entry, or else those on the device.
+// Saves a page with its present words: those in its entry if it has one, else those on the device.
 fn save_present<D: Device>(
     durable: &mut Durable<D>,
     entries: &Entries,

@@ -1,4 +1,4 @@
-// A store over a device that was opened.
+// Making a store over a device that was opened.
 ghost use Rattle.std.specs.Prelude.{◌≡◌, ◌≤◌, None, false, true, length, replicate, IfOk, IfErr};
 ghost use Rattle.migrator.specs.Durable.{stored_of};
 ghost use Rattle.object_cache.specs.StoreState.{AreAll, AreTaken, HoldBodies, IsJustOpened, IsOpenOver};
@@ -21,7 +21,7 @@ use std::marker::PhantomData;
 // `Marks` and `Reserve` are each built by one function and taken apart by the next. They are here for the prover: a
 // function that takes memory has an exit for each call that may fail, and is proved for all values that it owns there.
 
-// The touched, dirty and pending numbers: none.
+// The sets of touched, dirty and pending numbers, which are empty at first.
 #[derive(Drop)]
 struct Marks {
     touched: NumberSet,
@@ -73,8 +73,8 @@ impl Reserve {
 }
 
 impl<D: Device, P: Policy> Store<D, P> {
-    // A store over what was just opened, with entries that hold saved bodies: all of them if the policy keeps every
-    // body. If memory runs out, it returns what was opened.
+    // Returns a store over a durable store that was just opened, with these entries: their bodies must be the saved
+    // ones, and all of them if the policy keeps every body. If memory runs out, returns the durable store.
     fn new(
         alloc: Global,
         durable: Durable<D>,
@@ -117,7 +117,8 @@ impl<D: Device, P: Policy> Store<D, P> {
         }
     }
 
-    // A store over what was just opened, and the objects that it saves. If memory runs out, it returns the device.
+    // Returns a store over a durable store that was just opened, with the saved objects. If memory runs out, returns
+    // the device.
     pub(crate) fn over(
         alloc: Global,
         durable: Durable<D>,

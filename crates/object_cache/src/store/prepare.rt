@@ -27,8 +27,8 @@ impl<D: Device, P: Policy> Store<D, P> {
         contains_all(&self.dirty, written)
     }
 
-    // Marks numbers as touched and dirty. None of their present bodies may also be an unwritten frozen body. `LogFull`
-    // exactly if more than half of the log holds would be touched; then nothing changes.
+    // Marks numbers as touched and dirty. None of their present bodies may also be an unwritten frozen body. Returns
+    // `LogFull` exactly if more objects would be touched than a log half has slots; then nothing changes.
     #[inline(never)]
     pub(crate) fn announce(&mut self, written: &[u64]) -> Result<(), Refusal>
         requires known { All (λ n. n < length self.old.headers) written.now }
@@ -60,7 +60,7 @@ impl<D: Device, P: Policy> Store<D, P> {
         Ok(())
     }
 
-    // Copies the frozen body if the present body is also it.
+    // Makes a frozen copy of an object's present body, if that is also its unwritten frozen body.
     fn keep_one_apart(&mut self, number: u64)
         requires { number < length self.old.headers }
         ensures apart { frozen_state_at self.new.frozen_state number ≢ Shared }

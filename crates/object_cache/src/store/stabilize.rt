@@ -69,7 +69,7 @@ impl<D: Device, P: Policy> Store<D, P> {
         ensures fewer { OnOk result (pending_count self.new < pending_count self.old) }
         ensures moves { Moves D.disk on_device self.old self.new result }
     {
-        // Proof only: brings in the invariant.
+        // Proof only: the borrow makes the store's invariant known.
         let _ = &self.durable;
         if let FrozenState::Nothing = self.frozen_state(number) {
             self.take_below(number)?;
@@ -78,7 +78,7 @@ impl<D: Device, P: Policy> Store<D, P> {
         self.put_own_frozen(number)
     }
 
-    // Writes the frozen frame of a pending object, if there is one: first that of the body in `staging`.
+    // Writes the frozen frame of one pending object, if there is one. If `staging` has a body, it is that one's.
     fn put_next(&mut self) -> Result<(), Failed>
         ensures fewer { OnOk result (pending_count self.new ≤ pending_count self.old - 1) }
         ensures few { (f : FrozenFrames) → self.old.frozen ≡ Some f → pending_count self.old ≤ f.left }

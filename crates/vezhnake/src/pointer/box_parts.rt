@@ -5,7 +5,7 @@ ghost use Rattle.std.specs.Box.Ownership.{box_owns};
 use std::alloc::Allocator;
 use std::marker::Model;
 
-/// A `Box` as its two fields, which the module above can read.
+/// A `Box` as its two fields, which the parent module can read.
 pub struct BoxParts<T, A: Allocator> {
     pub(super) ptr: *mut T,
     pub(super) alloc: A,

@@ -4,7 +4,7 @@ use denote.Enum.Declared.{tag_of}
 use Rattle.script.proofs.Fronts.{writes_same}
 use Rattle.script.proofs.print.print_answer.Goals as goal
 
--- the numbers of the enum are those that are printed
+-- the printed number of a memory fault follows from its tag
 fault_number_is : (f : MemoryFault) → tag_of the_type f + 1 ≡ fault_number f
 fault_number_is f = grind (arith, nat_tests)
 

@@ -4,7 +4,7 @@ use Rattle.std.proofs.Common.{◌≡◌, ◌∙◌, ◌<◌}
 use Rattle.migrator.proofs.Putting.{kept_whole}
 use Rattle.migrator.proofs.durable.Durable.commit.Goals as goal
 
--- if nothing is left to put, a checkpoint is frozen, and all its objects were put
+-- if no frame is left to write, a checkpoint is frozen, and the frames of all its objects are in the log
 frozen_size : (image : Image) (b : Books) → option_map left_of (stored_in image b).frozen ≡ Some 0 →
     (size : ℕ) × (b.frozen_size ≡ Some size) × (left_of (frozen_of image b size) ≡ 0)
 frozen_size image b none = by b.frozen_size refl none
