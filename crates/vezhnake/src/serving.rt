@@ -33,9 +33,7 @@ fn reply_to<S: ObjectStore<HostDevice>>(
     ensures { ServesEach S.view S.parts kernel.old kernel.new (Some command.now ∷ []) (result ∷ []) }
 {
     let served = serve(kernel, command);
-    let reply = RawReply::of(&served.answer, served.code);
-    drop(served);
-    reply
+    RawReply::of(&served.answer, served.code)
 }
 
 // Returns the command at an index, or `None` if the numbers there encode none.
