@@ -1,5 +1,5 @@
 -- The device calls that wait for the host.
-use Rattle.vezhnake.proofs.Names.{ℕ, List, Ok, ap, append-nil, arith, drop, drop_all, length, sym, subst, HostCall, Session, encoded, CollectsCalls, calls_in}
+use Rattle.vezhnake.proofs.Names.{ℕ, List, Ok, ap, append-nil, arith, drop_all, length, sym, HostCall, Session, encoded, CollectsCalls, calls_in}
 use Rattle.std.proofs.Common.{◌≡◌, ◌++◌, ◌∙◌}
 
 -- if all of the device's calls were collected, none is added to those that wait
