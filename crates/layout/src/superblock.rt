@@ -6,8 +6,8 @@ ghost use Rattle.layout.specs.Bytes.{half_number};
 ghost use Rattle.layout.specs.Homes.{range_with, rank_in, shape_of};
 ghost use Rattle.layout.specs.Shape.{IsShapeFor};
 ghost use Rattle.layout.specs.Superblock.{Plan, version_number, superblock_bytes, ranges_bytes, unused, HasMark};
-ghost use Rattle.layout.specs.Superblock.{IsGeometry, IsNext, Cover, extents, IsPlan, IsPlanRefused, RangeFits, plan_of};
-ghost use Rattle.layout.specs.Superblock.{half_start};
+ghost use Rattle.layout.specs.Superblock.{IsGeometry, IsNext, Cover, extents, IsPlan, IsPlanRefused, RangeFits};
+ghost use Rattle.layout.specs.Superblock.{half_start, plan_of};
 ghost use Rattle.layout.specs.Version.{row};
 
 use crate::bad_image::BadImage;

@@ -65,7 +65,8 @@ module _ (image : Image) (o : Order) (ordered : IsOrderOf image o) where
         c is;
   }
 
-  module _ (one : Image) (first : Elsewhere (gate_sector o.first) 1 image one) (first_closed : one (gate_sector o.first) ≡ numbered_gate_bytes 0)
+  module _ (one : Image) (first : Elsewhere (gate_sector o.first) 1 image one)
+      (first_closed : one (gate_sector o.first) ≡ numbered_gate_bytes 0)
     where
       closes_first : ClosesGateOf o.first (slots_in image) (slots_in one)
       closes_first = closes o.first image one first first_closed
@@ -96,7 +97,8 @@ module _ (image : Image) (o : Order) (ordered : IsOrderOf image o) where
                 (tears o.third two c torn) (opens_in c h is).committed);
           }
 
-          pub all_closed : (c : Image) → Elsewhere (gate_sector o.third) 1 two c → c (gate_sector o.third) ≡ numbered_gate_bytes 0 → AreClosed c
+          pub all_closed : (c : Image) → Elsewhere (gate_sector o.third) 1 two c → c (gate_sector o.third) ≡ numbered_gate_bytes 0 →
+              AreClosed c
           all_closed c third third_closed = λ k low.
               elim (cases_eq k o.first) [
                 | inl e ↦

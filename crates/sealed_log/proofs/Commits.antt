@@ -109,7 +109,8 @@ module _ (before h : SealedHeader) (next : before.header.sequence + 1 ≡ h.head
 
     pub gate_torn : Commits c before ⊎ Commits c h
     gate_torn =
-        elim (gate_commits (slots_in m) (slots_in c) s (sealed_header_bytes before) (sealed_header_bytes h) (opens_in m before was) tears_gate) [
+        elim (gate_commits (slots_in m) (slots_in c) s (sealed_header_bytes before) (sealed_header_bytes h) (opens_in m before was)
+        tears_gate) [
           | inl opens ↦ inl (record { slots = slots_in c; are = are_slots c; opens = opens; fits = was.fits })
           | inr opens ↦ inr (is_new opens)
         ]
@@ -122,7 +123,8 @@ module _ (before h : SealedHeader) (next : before.header.sequence + 1 ≡ h.head
         in
         let here : HasNumber (c (gate_sector ((s + 1) % 3))) (s + 1) =
         subst (λ (k : ℕ). HasNumber (c (gate_sector k)) (s + 1)) slot (subst (HasNumber (c (gate_at h))) (sym next) has) in
-        is_new (published_commits (slots_in m) (slots_in c) s (sealed_header_bytes before) (sealed_header_bytes h) (opens_in m before was) (record {
+        is_new (published_commits (slots_in m) (slots_in c) s (sealed_header_bytes before) (sealed_header_bytes h) (opens_in m before was)
+        (record {
           others = tears_gate.others;
           header = tears_gate.header;
           bytes = tears_gate.bytes;
@@ -219,7 +221,8 @@ module _ {h : SealedHeader} {old mid : Disk} (ready : IsReady h old mid) where
       (leaves_weaker {old = mid} {new = new} {P = λ c. IsTorn at 1 mid c} (λ c. IsInOrder h old c)
       (λ c torn. let there = torn_there (subst (λ (i : ℕ). IsTorn i 1 mid c) place torn) in inr (stands there, spares there)) run)
 
-  pub has_new : {c : Image} → Elsewhere (gate_at h) 1 mid.seen c → c (gate_at h) ≡ numbered_gate_bytes h.header.sequence → HasNew h old.seen c
+  pub has_new : {c : Image} → Elsewhere (gate_at h) 1 mid.seen c → c (gate_at h) ≡ numbered_gate_bytes h.header.sequence →
+      HasNew h old.seen c
   has_new {c} torn gate = record {
     written = stands torn;
     elsewhere = spares torn;

@@ -95,7 +95,8 @@ one_slots c a b ia ib = fun_ext (λ k. same_slot c c a b k ia ib refl refl)
 
 pub opens_in : (image : Image) (h : SealedHeader) → Commits image h → Opens (slots_in image) h.header.sequence (sealed_header_bytes h)
 opens_in image h is =
-    subst (λ (s : Slots). Opens s h.header.sequence (sealed_header_bytes h)) (one_slots image is.slots (slots_in image) is.are (are_slots image))
+    subst (λ (s : Slots). Opens s h.header.sequence (sealed_header_bytes h))
+    (one_slots image is.slots (slots_in image) is.are (are_slots image))
     is.opens
 
 -- an image has at most one committed header

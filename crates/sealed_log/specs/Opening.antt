@@ -16,7 +16,8 @@ gate_sector k = 16 + 16 * k
 
 -- these bytes are a sound header with this sequence number
 abbrev pub IsSound : List ℕ → ℕ → Type 0
-IsSound bytes s = (h : SealedHeader) × AreWords (header_numbers h) × (bytes ≡ sealed_header_bytes h) × (h.header.sequence ≡ s)
+IsSound bytes s = (h : SealedHeader) × AreWords (header_numbers h) × (bytes ≡ sealed_header_bytes h)
+    × (h.header.sequence ≡ s)
 
 -- the slots of an image have the numbers of its sound headers and of its gates
 pub record AreSlots (image : Image) (slots : Slots) : Type 0 where

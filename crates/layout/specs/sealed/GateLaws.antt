@@ -11,7 +11,8 @@ abbrev pub GatesHaveOneNumber : Type 0
 GatesHaveOneNumber = (bytes : List ℕ) (m n : ℕ) → HasNumber bytes m → HasNumber bytes n → m ≡ n
 
 abbrev pub WrittenGatesHaveTheirNumber : Type 0
-WrittenGatesHaveTheirNumber = (n : ℕ) → 0 < n → n < 2 ^ 64 → HasNumber (numbered_gate_bytes n) n × IsWhole (numbered_gate_bytes n)
+WrittenGatesHaveTheirNumber = (n : ℕ) → 0 < n → n < 2 ^ 64 →
+    HasNumber (numbered_gate_bytes n) n × IsWhole (numbered_gate_bytes n)
 
 abbrev pub ClosedGatesHaveNone : Type 0
 ClosedGatesHaveNone = (n : ℕ) → HasNumber (numbered_gate_bytes 0) n → ⊥

@@ -89,7 +89,8 @@ fn sealed_header_from(numbers: &[u64]) -> SealedHeader
 pub fn decode_sealed_header(bytes: &[u8]) -> Option<SealedHeader>
     requires { length bytes.now ≡ 512 }
     ensures some { IfSome result (λ h. bytes.now ≡ sealed_header_bytes h) }
-    ensures none { IfNone result ((h : SealedHeader) → AreWords (header_numbers h) → bytes.now ≡ sealed_header_bytes h → ⊥) }
+    ensures none { IfNone result ((h : SealedHeader) → AreWords (header_numbers h) →
+        bytes.now ≡ sealed_header_bytes h → ⊥) }
 {
     let mut numbers = [0; 11];
     let is_sector = decode_sector(bytes, &mut numbers);

@@ -11,7 +11,8 @@ returns-then-numbers-eq-HEADER_MAGIC-clause-some c =
     let ns : List ℕ = c.decode_sector-is_sector.new.into in
     let read : ns ≡ header_numbers (sealed_header_from ns) = header_read ns c.decode_sector-is_sector.ensures.size
     c.if-numbers-eq-HEADER_MAGIC.true in
-    c.decode_sector-is_sector.ensures.found c.if-is_sector.true ∙ ap sector_bytes read ∙ ap sealed_header_bytes (sym c.sealed_header_from.ensures)
+    c.decode_sector-is_sector.ensures.found c.if-is_sector.true ∙ ap sector_bytes read
+    ∙ ap sealed_header_bytes (sym c.sealed_header_from.ensures)
 
 pub returns-else-is_sector-clause-none : goal.returns-else-is_sector-clause-none
 unfolding sealed_header_bytes
