@@ -3,7 +3,12 @@ use Rattle.migrator.proofs.Names.{nat_tests, ℕ, Option, Result, List, sym, ap,
 use Rattle.migrator.proofs.Names.{Entry, Shape, home_place, place_length, shape_of, frame_in, frame_slot_in, sector_or, shaped_at}
 use Rattle.migrator.proofs.Names.{slot_sector, shape_bytes, Plan, ReadsOnly, WritesAt, EndsInZeros}
 use Rattle.migrator.proofs.Names.{HoldsHome, on_ok_weaker, zeros, IsGathered, IsCopied, Touches}
-use Rattle.std.proofs.Common.{◌≡◌, ◌-◌, ◌∙◌}
+use Rattle.migrator.proofs.Names.{zero, suc, refl, inl, inr, length, take, drop, subst, drop-drop, drop_all, shape_end, sectors_from}
+use Rattle.migrator.proofs.Names.{AreBeside, IsObject, IsFirstOf}
+use Rattle.home_ranges.specs.Home.{HaveHome}
+use Rattle.std.proofs.Common.{◌≡◌, ◌+◌, ◌-◌, ◌*◌, ◌≤◌, ◌++◌, ◌∙◌}
+use Rattle.std.proofs.lemmas.List.{drop_at, take-append-le}
+use Rattle.std.proofs.lemmas.Slice.{between_is}
 
 -- the frame read from the frame slot of an object is its saved frame
 pub frame_slot_bytes : (image : Image) (p : Plan) (generation : ℕ) (es : List Entry) (n : ℕ) {at : ℕ} {o : Option ℕ} →
@@ -38,3 +43,68 @@ gathered_copied {T} {E} result old new p generation es n block are held = grind 
 pub zeros_there : {T E : Type 0} (result : Result T E) (p : Plan) (n : ℕ) (there block : List ℕ) → OnOk result (there ≡ block) →
     EndsInZeros p n block → OnOk result (EndsInZeros p n there)
 zeros_there {T} {E} result p n there block written zeros = grind (arith, nat_tests)
+
+-- ---- a frame that fills its block
+
+none_taken : (m : ℕ) (xs ys : List ℕ) → m ≡ 0 → take m xs ≡ take m ys
+none_taken zero xs ys none = refl
+none_taken (suc m) xs ys none = absurd (omega (arith, none))
+
+-- bytes were read into the front of a block
+module _ (s : Shape) (run block : List ℕ) (n : ℕ) (long : length run ≡ n) (le : shape_end s ≤ n) where
+  pub place_read : shape_bytes s (run ++ drop n block) ≡ shape_bytes s run
+  place_read = ap (λ (b : List ℕ). b ++ zeros (1024 - s.bytes)) (between_is (run ++ drop n block) s.offset (shape_end s)
+      ∙ ap (drop s.offset) (take-append-le (shape_end s) run (drop n block) (omega (arith, le, long)))
+      ∙ sym (between_is run s.offset (shape_end s)))
+
+  behind_read : (at : ℕ) → n ≤ at → drop at (run ++ drop n block) ≡ drop at block
+  behind_read at far =
+      let sum : n + (at - n) ≡ at = omega (arith, far) in
+      ap (λ (k : ℕ). drop k (run ++ drop n block)) (sym sum) ∙ sym (drop-drop (at - n) n (run ++ drop n block))
+      ∙ ap (drop (at - n)) (drop_at run (drop n block) n long) ∙ drop-drop (at - n) n block ∙ ap (λ (k : ℕ). drop k block) sum
+
+  pub place_behind : s.bytes ≡ n → drop (shape_end s) (run ++ drop n block) ≡ drop (shape_end s) block
+  place_behind whole = behind_read (shape_end s) (omega (arith, whole))
+
+  pub places_beside : s.bytes ≡ n → (t : Shape) → AreBeside s t → shape_bytes t (run ++ drop n block) ≡ shape_bytes t block
+  places_beside whole t (inl behind) =
+      ap (λ (b : List ℕ). take (shape_end t - t.offset) b ++ zeros (1024 - t.bytes))
+      (behind_read t.offset (omega (arith, behind, whole)))
+  places_beside whole t (inr before) =
+      ap (λ (b : List ℕ). b ++ zeros (1024 - t.bytes)) (none_taken (shape_end t - t.offset) (drop t.offset (run ++ drop n block))
+      (drop t.offset block) (omega (arith, before, whole, le)))
+
+-- what was read at its sectors
+pub place_there : {T E : Type 0} (result : Result T E) (s : Shape) (image : Image) (at : ℕ) (run block : List ℕ) (n : ℕ) →
+    length run ≡ n → shape_end s ≤ n → OnOk result (sectors_from image at s.sectors ≡ run) →
+    OnOk result (shape_bytes s (run ++ drop n block) ≡ shaped_at image at s)
+place_there {T} {E} result s image at run block n long le read =
+    on_ok_weaker result (λ is. place_read s run block n long le ∙ ap (shape_bytes s) (sym is)) read
+
+-- ---- an object that is alone in its home
+
+pub only_one : {p : Plan} {number first m : ℕ} → IsFirstOf p number first → first ≡ number → HaveHome p number m → m ≡ 1 →
+    (n : ℕ) → IsObject p.geometry n → home_place p n ≡ home_place p number → n ≡ number
+only_one {p} {number} {first} {m} start is have one n is_n same =
+    let low = start.least n is_n same in
+    let high = have.all n is_n (omega (arith, low, is)) same in
+    omega (arith, low, high, is, one)
+
+-- its frame is all that the home holds
+pub alone_gathered : {T E : Type 0} (result : Result T E) (image : Image) (p : Plan) (generation : ℕ) (es : List Entry) (number : ℕ)
+    (block : List ℕ) → ((n : ℕ) → IsObject p.geometry n → home_place p n ≡ home_place p number → n ≡ number) →
+    OnOk result (shape_bytes (shape_of p number) block ≡ frame_in image p generation es number) →
+    OnOk result (IsGathered image p generation es number block)
+alone_gathered {T} {E} result image p generation es number block alone here =
+    on_ok_weaker result (λ is n is_n same. subst (λ (k : ℕ). shape_bytes (shape_of p k) block ≡ frame_in image p generation es k)
+    (sym (alone n is_n same)) is) here
+
+-- the block that it fills has no rest
+pub alone_ended : (p : Plan) (number : ℕ) (block : List ℕ) → IsObject p.geometry number → length block ≡ 512 * place_length p number →
+    (shape_of p number).bytes ≡ 512 * (shape_of p number).sectors → EndsInZeros p number block
+unfolding zeros
+alone_ended p number block is_object size whole at behind =
+    let end = behind number is_object refl in
+    let past : length block ≤ at = omega (arith, end, size, whole) in
+    let none : 0 ≡ length block - at = omega (arith, past) in
+    drop_all at block past ∙ ap zeros none

@@ -21,7 +21,7 @@ use crate::gather::{copy_place, gather};
 use crate::whole::is_whole;
 use ckpt_log::Log;
 use device::{Device, Failed};
-use layout::{Body, Entry, Scratch, Shape, Superblock, decode_in_block};
+use layout::{BLOCK_BYTES, Body, Entry, Scratch, Shape, Superblock, decode_in_block};
 use model::{Geometry, ObjectHeader};
 use std::alloc::{AllocError, Global};
 use std::marker::Model;
@@ -57,6 +57,7 @@ fn fill<D: Device>(
     generation: u64,
     entry: Entry,
     cluster: &mut [u8],
+    scratch: &mut [u8; BLOCK_BYTES],
 ) -> Result<(), Failed>
     requires plan { IsPlan plan.now }
     requires object { IsObject plan.now.geometry entry.object }
@@ -70,10 +71,18 @@ fn fill<D: Device>(
     ensures reads { ReadsOnly (D.disk device.old) (D.disk device.new) }
     ensures cause { Counts (D.disk device.old) (D.disk device.new) result }
 {
-    gather(device, plan, generation, &[], entry.object, cluster)?;
+    gather(
+        device,
+        plan,
+        generation,
+        &[],
+        entry.object,
+        cluster,
+        scratch,
+    )?;
     let log = Log::new(plan);
     let at = log.slot_sector(generation, entry.slot);
-    copy_place(device, at, plan.shape(entry.object), cluster)
+    copy_place(device, at, plan.shape(entry.object), cluster, scratch)
 }
 
 impl ClusterBuffer {
@@ -146,6 +155,7 @@ impl ClusterBuffer {
         generation: u64,
         entries: &[Entry],
         index: usize,
+        scratch: &mut [u8; BLOCK_BYTES],
     ) -> Result<(), Failed>
         requires none { self.old ≡ None }
         requires directory { IsDirectory plan.now.geometry entries.now }
@@ -169,7 +179,7 @@ impl ClusterBuffer {
         if !is_first(plan, entries, index) {
             return Ok(());
         }
-        fill(device, plan, generation, entry, &mut self.bytes)?;
+        fill(device, plan, generation, entry, &mut self.bytes, scratch)?;
         let log = Log::new(plan);
         self.sector = Some(log.slot_sector(generation, entry.slot));
         self.write(device)
@@ -200,8 +210,9 @@ impl ClusterBuffer {
         ensures cause { Counts (D.disk device.old) (D.disk device.new) result }
     {
         self.write(device)?;
+        let mut scratch = [0; BLOCK_BYTES];
         for index in 0..entries.len() {
-            self.complete_one(device, plan, generation, entries, index)?;
+            self.complete_one(device, plan, generation, entries, index, &mut scratch)?;
         }
         Ok(())
     }

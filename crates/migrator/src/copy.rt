@@ -14,8 +14,8 @@ use device::{Device, Failed, SECTOR_SIZE};
 use home_ranges::Home;
 use layout::{BLOCK_BYTES, Entry, Superblock};
 
-/// Writes the home of an object: the saved frames of all objects that share it, and zeros after them. After `Failed`
-/// its sectors may hold any bytes. The caller lends the buffer, so that a series of copies initializes only one.
+/// Writes the home of an object: the saved frames of all that have it, and zeros after them. At `Failed` its sectors
+/// may hold any bytes. The buffers are for any block, so that a run of calls clears two.
 pub(crate) fn copy_home<D: Device>(
     device: &mut D,
     plan: &Superblock,
@@ -23,6 +23,7 @@ pub(crate) fn copy_home<D: Device>(
     directory: &[Entry],
     number: u64,
     buffer: &mut [u8; BLOCK_BYTES],
+    scratch: &mut [u8; BLOCK_BYTES],
 ) -> Result<(), Failed>
     requires directory { IsDirectory plan.now.geometry directory.now }
     requires object { IsObject plan.now.geometry number }
@@ -36,7 +37,7 @@ pub(crate) fn copy_home<D: Device>(
     ensures cause { Counts (D.disk device.old) (D.disk device.new) result }
 {
     let block = &mut buffer[..SECTOR_SIZE * plan.shape(number).sectors as usize];
-    gather(device, plan, generation, directory, number, block)?;
+    gather(device, plan, generation, directory, number, block, scratch)?;
     let home = Home::new(plan);
     home.write_frame(device, number, block)
 }

@@ -11,14 +11,15 @@ use crate::copy::copy_home;
 use crate::directory::Directory;
 use crate::first_in_cluster::is_first;
 use device::{Device, Failed};
-use layout::{CheckpointHeader, PAGE_FRAME_BYTES};
+use layout::{BLOCK_BYTES, CheckpointHeader};
 
 impl Books {
     // Copies the next saved frame home, unless it went home with the previous one of its cluster.
     fn move_next<D: Device>(
         &mut self,
         device: &mut D,
-        buffer: &mut [u8; PAGE_FRAME_BYTES],
+        buffer: &mut [u8; BLOCK_BYTES],
+        scratch: &mut [u8; BLOCK_BYTES],
     ) -> Result<(), Failed>
         requires stands { IsDurable (D.disk device.old) self.old }
         requires some { self.old.moved < self.old.header.entries }
@@ -42,6 +43,7 @@ impl Books {
             entries,
             entry.object,
             buffer,
+            scratch,
         )?;
         self.moved += 1;
         Ok(())
@@ -74,9 +76,10 @@ impl Books {
         ensures none { count ≡ 0 → (self.new ≡ self.old) × (device.new ≡ device.old) }
         ensures cause { Counts (D.disk device.old) (D.disk device.new) result }
     {
-        let mut buffer = [0; PAGE_FRAME_BYTES];
+        let mut buffer = [0; BLOCK_BYTES];
+        let mut scratch = [0; BLOCK_BYTES];
         for _ in 0..count {
-            self.move_next(device, &mut buffer)?;
+            self.move_next(device, &mut buffer, &mut scratch)?;
         }
         Ok(())
     }

@@ -1,6 +1,6 @@
 use Rattle.migrator.proofs.Names.{length, frame_in, AreEnded, AreIn, ReadsOnly}
 use Rattle.std.proofs.Common.{◌≡◌}
-use Rattle.migrator.proofs.gather.gather.Given as goal
+use Rattle.migrator.proofs.gather.gather_all.Given as goal
 
 abbrev pub invariant-loop-k : goal.invariant-loop-k
 invariant-loop-k g l =

@@ -2,7 +2,7 @@ use Rattle.migrator.proofs.Names.{ℕ, length, refl, sym, ap, subst, arith, rule
 use Rattle.migrator.proofs.Names.{one_length, length-zeros, zeros, all_blank, all_ended, all_in, ended_more, none_ended, one_frame_more}
 use Rattle.std.proofs.Common.{◌≡◌, ◌∙◌, ◌+◌, ◌-◌, ◌*◌, ◌≤◌}
 use Rattle.migrator.proofs.Opening.{reads_more, reads_none}
-use Rattle.migrator.proofs.gather.gather.Goals as goal
+use Rattle.migrator.proofs.gather.gather_all.Goals as goal
 
 pub loop-k-init : goal.loop-k-init
 unfolding zeros
