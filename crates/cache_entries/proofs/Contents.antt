@@ -32,7 +32,7 @@ some_words a o s is room = grind (arith, nat_tests)
 some_slots : (a : Kind) (o : Option (List ℕ)) (s : Option (List Cap)) → slots_are_of a ≡ true → HasRoom a o s → IsSome s
 some_slots a o s is room = grind (arith, nat_tests)
 
--- a body has changed
+-- one body has changed
 pub record Puts (ks : List Kind) (ps : List (Option (List ℕ))) (ns : List (Option (List Cap))) (after : List (Content Cap)) : Type 0 where
   pub are : AreBodies ks ps ns
   pub contents : contents_in ks ps ns ≡ after
@@ -235,7 +235,7 @@ all_held ks ps ns free =
     (λ k below. get_or-replicate (length ks) k content.Free content.Free below
     ∙ sym (ap (λ (a : Kind). content_in a (item_at ps k) (item_at ns k)) (free k))))
 
--- no place holds anything at first
+-- at first no place has a body
 pub none_held : (n : ℕ) (ks : List Kind) (ps : List (Option (List ℕ))) (ns : List (Option (List Cap))) → ks ≡ replicate n kind.Free →
     ps ≡ replicate n None → ns ≡ replicate n None →
     Puts ks ps ns (replicate n content.Free)

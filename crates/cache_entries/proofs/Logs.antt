@@ -70,7 +70,7 @@ module _ (uses : List ℕ) (i : ℕ) (start o p : OrderState) (below : i < lengt
 
 -- ---- a log of an order
 
--- a number of the log moves in the order
+-- a use moves from the log to the order
 pub record Moves (l : LogState) (s p : OrderState) : Type 0 where
   pub same : used_all l.uses p ≡ s
   pub log : IsLogOf l p
@@ -118,7 +118,7 @@ module _ (l : LogState) (o : OrderState) (are : IsLogOf l o) where
     pub known_before : AreSpread o → (n : ℕ) → is_member s.numbers n ≡ true → n < l.count
     known_before spread n here = omega (arith, listed_below o spread n (member_is n ∙ here), are.count)
 
-    -- a number is no more in the order
+    -- a number is removed from the order
     module _ (n : ℕ) (none : is_member l.uses n ≡ false) (p : OrderState)
         (is : p ≡ record { numbers = without n o.numbers; places = set o.places n None; most = o.most }) where
       pub removed_log : IsLogOf l p
@@ -133,7 +133,7 @@ module _ (l : LogState) (o : OrderState) (are : IsLogOf l o) where
           (ap (λ (ns : List ℕ). let q : OrderState = record { numbers = ns; places = set o.places n None; most = o.most } in q)
           (sym (without_in_turn n l.uses o.numbers none)))
 
-    -- a number is new in the order
+    -- a number is added to the order
     module _ (n : ℕ) (absent : place_at s.places n ≡ None) (spread : AreSpread o) (p : OrderState) (place : ℕ)
         (is : p ≡ record { numbers = n ∷ o.numbers; places = set o.places n (Some place); most = o.most }) where
       unused : is_member l.uses n ≡ false

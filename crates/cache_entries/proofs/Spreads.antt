@@ -348,7 +348,7 @@ module _ {keys numbers places : List ℕ} {count : ℕ} (are : ArePlaced keys nu
   least_number {s = s} view many p n last is =
       grind (arith, nat_tests, count_is, most_is, take_all, get_or_default, last_below, length_used, slice_get-map)
 
--- no number has a place at first
+-- at first no number has a place
 pub none_placed : (keys numbers places : List ℕ) (most count : ℕ) → 0 < most → IsFilled keys most → length numbers ≡ most →
     places ≡ replicate count most → Spreads keys numbers places 0 (record { numbers = []; places = replicate count None; most = most })
 none_placed keys numbers places most count some filled size is =

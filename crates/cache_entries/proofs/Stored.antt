@@ -72,7 +72,7 @@ module _ (o : OrderState) {ps ks : List (Content Cap)} {ms : List Bool} (are : A
         (λ q other. ap (λ (d : Content Cap). let e : Entry = record { present = d; kept = (entry q).kept } in e)
         (get_or-set_other ps p q c content.Free other))
 
-    -- something else is kept, or nothing
+    -- the frozen copy, or none
     abbrev kept_by : Bool → Content Cap → Option (Content Cap)
     kept_by mark c = cond mark (Some c) None
 
@@ -90,7 +90,7 @@ module _ (o : OrderState) {ps ks : List (Content Cap)} {ms : List Bool} (are : A
     pub kept_dropped : entries_of o ps ks (set ms p false) ≡ with_entry_of (λ e. record e { kept = None }) n s
     kept_dropped = search (replaced, get_or-set_same, mark_within, get_or-set_other)
 
-  -- a number gets a place that none has
+  -- a number gets a free place
   pub entered : (n p : ℕ) (c : Content Cap) → n < length s.at → p < o.most → ((m : ℕ) → place_at o.places m ≢ Some p) →
       entries_of (record { numbers = n ∷ o.numbers; places = set o.places n (Some p); most = o.most }) (set ps p c) ks (set ms p false)
       ≡ with_new n c s
@@ -134,7 +134,7 @@ module _ (o : OrderState) {ps ks : List (Content Cap)} {ms : List Bool} (are : A
       ∙ sym (get_map (option_map entry) o.places m None None refl)))
       ∙ ap (without_entry n) view
 
--- no number has an entry at first
+-- at first no number has an entry
 pub none_stored : (o : OrderState) (ps ks : List (Content Cap)) (ms : List Bool) (count most : ℕ) → o ≡ record
     { numbers = []; places = replicate count None; most = most } →
     entries_of o ps ks ms ≡ record { at = replicate count None; order = []; most = most }

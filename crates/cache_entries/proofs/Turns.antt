@@ -35,7 +35,7 @@ without_absent n (m ∷ ms) none =
     let apart = not_here m ms n none in
     without_tail n m ms apart.0 ∙ ap (λ (rest : List ℕ). m ∷ rest) (without_absent n ms apart.1)
 
--- two numbers are taken out in any turn
+-- removing two numbers in either order gives the same list
 without_both : (n m : ℕ) (ns : List ℕ) → n ≢ m → without n (without m ns) ≡ without m (without n ns)
 without_both n m [] other = refl
 without_both n m (k ∷ ks) other = grind (arith, nat_tests, without_tail, without_here, without_both n m ks other)
@@ -67,7 +67,7 @@ used_later n (m ∷ ms) xs ys is same = elim (cases_eq n m) [
       ∙ sym (without_tail n m (without m ys) other))
 ]
 
--- numbers that are all used again in turn needn't have been used before
+-- if all numbers are used again in turn, their earlier uses don't matter
 pub used_anew : (ns ps order : List ℕ) → ((k : ℕ) → is_member ps k ≡ true → is_member ns k ≡ true) →
     used_in_turn ns (used_in_turn ps order) ≡ used_in_turn ns order
 used_anew ns [] order listed = refl
@@ -104,7 +104,7 @@ differ_end (m ∷ ms) n once none =
 
 -- ---- a log
 
--- a number that is used later needn't be used before
+-- if a number is used again later, its earlier use doesn't matter
 pub used_again : (n : ℕ) (ns : List ℕ) (o : OrderState) → is_member ns n ≡ true → used_all ns (used_last n o) ≡ used_all ns o
 used_again n ns o later =
     ap (λ (xs : List ℕ). let p : OrderState = record { numbers = xs; places = o.places; most = o.most } in p)
@@ -127,7 +127,7 @@ new_last uses order n none =
     used_at_end uses n (n ∷ order)
     ∙ ap (λ (rest : List ℕ). n ∷ rest) (without_in_turn n uses (n ∷ order) none ∙ ap (used_in_turn uses) (without_here n n order refl))
 
--- the number used longest ago, where others were used
+-- the number used longest ago, after others were used
 last_behind : (m : ℕ) (ns : List ℕ) (n : ℕ) → used_longest_ago ns ≡ Some n → used_longest_ago (m ∷ ns) ≡ Some n
 last_behind m [] n last = absurd (none-some n last)
 last_behind m (k ∷ ks) n last =

@@ -6,7 +6,7 @@ use Rattle.ckpt_log.proofs.Runs.{IsClosing}
 
 -- ---- what a closing leaves
 
--- while the first is closed
+-- a crash while the first gate is being closed
 pub closing_first : (slot : HeaderSlot) {old c : Image} → IsLesser old slot → IsClosing (gate_at slot) old c → KeepsOrHasNone old c
 closing_first slot {old} {c} lesser is = grind (arith, nat_tests)
 
@@ -27,7 +27,7 @@ keeps_same {old} {new} same = subst (KeepsOrHasNone old) (sym (agrees_is new old
 
 -- ---- at each moment
 
--- while the first is closed
+-- the run that closes the first gate
 pub first_run : (slot : HeaderSlot) {at : ℕ} {image : Image} {old new : Disk} → at ≡ gate_at slot → IsLesser image slot →
     LeavesOnly old new (λ c. IsClosing at image c) → LeavesOnly old new (λ c. KeepsOrHasNone image c)
 first_run slot {at} {image} {old} {new} place lesser run = search (arith, leaves_weaker, closing_first)

@@ -116,7 +116,7 @@ closing_keeps {h} {old} {new} next e same = closing_by (is_open (old (gate_secto
 shut_by : (b : Bool) (bytes : List ℕ) → is_open bytes ≡ b → is_open (if b then gate_bytes Closed else bytes) ≡ false
 shut_by b bytes is = grind (arith, nat_tests)
 
--- a gate that is closed is closed
+-- a gate that was closed is closed
 pub shut : (bytes : List ℕ) → is_open (closed_gate bytes) ≡ false
 shut bytes = shut_by (is_open bytes) bytes refl
 
@@ -142,7 +142,7 @@ pub opening : {h : CheckpointHeader} {old new : Image} → h.sequence < 2 ^ 64 �
     Elsewhere (gate_sector h) 1 old new → IsOldOrNew h old new
 opening {h} {old} {new} fits next written e = opening_by (is_open (new (gate_sector h))) refl fits next written e
 
--- old or new, only the slot of h was touched
+-- whether the old or the new header is committed, only the slot of h was touched
 pub either_elsewhere : {h : CheckpointHeader} {old new : Image} → IsOldOrNew h old new → Elsewhere (header_sector h) 2 old new
 either_elsewhere {h} {old} {new} h0 = grind (arith, nat_tests)
 

@@ -22,7 +22,7 @@ digit_one b = grind (arith, nat_tests)
 digit_of_bit : (d : ℕ) → d < 2 → digit (nat_eq d 1) ≡ d
 digit_of_bit d small = grind (arith, nat_tests)
 
--- a word that is not 0
+-- the digit of a word's test for not being 0
 digit_some : (n : ℕ) → digit (not (nat_eq n 0)) ≡ min 1 n
 digit_some n = grind (arith, nat_tests, eqb-suc-zero)
 
@@ -33,7 +33,7 @@ bit_past : (word from k : ℕ) → bit_at (word / 2 ^ from) k ≡ bit_at word (f
 bit_past word from k = ap (λ x. x % 2) (shr-shr word from k)
 
 module _ (word from : ℕ) where
-  -- past a word's last bit that is 1 all are 0
+  -- past a word's last set bit all bits are 0
   pub none_from : word / 2 ^ from ≡ 0 → (other : ℕ) → from ≤ other → bit_at word other ≡ 0
   none_from rest other after = grind (arith, nat_tests, bit_past word from (other - from), bit_at-zero (other - from))
 
@@ -73,7 +73,7 @@ module _ (words : List ℕ) where
   unfolding bit_of
   bit_in_word w i within = grind (arith, nat_tests)
 
-  -- how a number's bit is read
+  -- reading a number's bit
   pub read_bit : (n : ℕ) → bit_of words n ≡ digit (nat_eq (bit_and (slice_index words (n / 64) / 2 ^ (n % 64)) 1) 1)
   unfolding bit_of
   read_bit n = grind (arith, nat_tests, shr_and_one, digit_of_bit, bit_at-lt)
@@ -87,7 +87,7 @@ module _ (words : List ℕ) where
   pub none_past_words : (from : ℕ) → length words ≤ from / 64 → HasNoneSet words from
   none_past_words from past m after = bit_of_zero m (get_or_past words (m / 64) 0 (omega arith))
 
-  -- nor where all words before have none
+  -- no bit is set if no word has a set bit
   pub none_past_all : (from w : ℕ) → length words ≤ w → ((m : ℕ) → from ≤ m → m < w * 64 → bit_of words m ≡ 0) → HasNoneSet words from
   none_past_all from w past_all before m past = grind (arith, nat_tests, bit_of_zero, get_or_past)
 
@@ -107,7 +107,7 @@ module _ (words : List ℕ) where
         ];
   }
 
-  -- a word with no bit goes on with what has none
+  -- if a word has no set bit, the search goes on with the next word
   pub none_by_word : (from w low : ℕ) → low ≡ from - w * 64 → from / 64 ≤ w → ((m : ℕ) → from ≤ m → m < w * 64 → bit_of words m ≡ 0) →
       ((other : ℕ) → low ≤ other → other < 64 → bit_at (slice_index words w) other ≡ 0) → (m : ℕ) → from ≤ m → m < (w + 1) * 64 →
       bit_of words m ≡ 0
@@ -137,7 +137,7 @@ module _ (words : List ℕ) (from w low : ℕ) (fits : slice_index words w < 2 ^
   pub clear_by_word : (bit : ℕ) → IsLowestFrom (bit_not w64 (slice_index words w)) low bit → IsFirstClear words from (w * 64 + bit)
   clear_by_word bit lowest = grind (arith, nat_tests, bit_in_word, flipped_one, here_is, flipped_zero)
 
-  -- a word with no clear bit goes on with what has none
+  -- if a word has no clear bit, the search goes on with the next word
   pub full_by_word : ((other : ℕ) → low ≤ other → other < 64 → bit_at (bit_not w64 (slice_index words w)) other ≡ 0)
       → (m : ℕ) → from ≤ m → m < (w + 1) * 64 → bit_of words m ≡ 1
   full_by_word none m past within = grind (arith, nat_tests, here_is, flipped_zero)
@@ -158,7 +158,7 @@ module _ (words summary : List ℕ) (summed : SumsUp words summary) where
       omega (arith, later_within later is_set, lowest.0)
 
   module _ (from : ℕ) (none : (other : ℕ) → from % 64 ≤ other → other < 64 → bit_at (slice_index words (from / 64)) other ≡ 0) where
-    -- the word that a number is in has none from the number on
+    -- the word of a number has no set bit from the number on
     none_here : (m : ℕ) → from ≤ m → m < (from / 64 + 1) * 64 → bit_of words m ≡ 0
     none_here = none_by_word words from (from / 64) (from % 64) (omega arith) (omega arith) (λ m past before. absurd (omega arith)) none
 
@@ -199,12 +199,12 @@ module _ (count : ℕ) (words : List ℕ) where
   unfolding marks_of
   same_marks marks long each = fill_by_all (λ k. nat_eq (bit_of words k) 1) marks count false long each
 
-  -- a bit that is read is the mark
+  -- a number's mark is its bit as it was read
   mark_is : (n : ℕ) (b : Bool) → n < count → bit_of words n ≡ digit b → b ≡ is_marked (marks_of count words) n
   mark_is n b within is_bit = sym (mark_within n within ∙ ap (λ d. nat_eq d 1) is_bit ∙ digit_one b)
 
   module _ (none_past : HasNoneSet words count) where
-    -- a number with no bit is not marked, even past the last
+    -- a number whose bit isn't set is not marked, even past the last
     unmarked : (n : ℕ) → bit_of words n ≡ 0 → is_marked (marks_of count words) n ≡ false
     unmarked n is_zero = grind (arith, nat_tests, mark_within, get_or_past, length_marks)
 
@@ -291,7 +291,7 @@ module _ (count : ℕ) (words summary : List ℕ) (sums : IsSummed count words s
   module _ (n : ℕ) (b : Bool) (within : n < length marks) (seen new : List ℕ) (is_seen : seen ≡ words) (put : IsBitPut seen n (digit b) new)
       (stored : List ℕ)
       (is_stored : stored ≡ new) where
-    -- a bit is put, and the mark is set
+    -- setting or clearing a bit sets or clears the mark
     pub marks_set : marks_of count stored ≡ slice_set marks n b
     marks_set = ap (marks_of count) is_stored ∙ marks_put count n b words new (rw is_seen at put) ∙ ap (λ ms. slice_set ms n b) is_marks
 
@@ -308,12 +308,12 @@ module _ (count : ℕ) (words summary : List ℕ) (sums : IsSummed count words s
 zeros : (k i : ℕ) → slice_index (replicate k 0) i ≡ 0
 zeros k i = grind (arith, nat_tests, get_or-replicate, get_or_past, length-replicate)
 
--- a list that was made longer from none
+-- a list that was extended from an empty one
 pub fresh : (k n : ℕ) (none zeros : List ℕ) → none ≡ [] → n ≡ 0 → zeros ≡ take k none ++ replicate (k - n) 0 → zeros ≡ replicate k 0
 fresh k n none zeros is_none is_zero made = grind (arith, nat_tests, take_all)
 
 module _ (count k : ℕ) (words : List ℕ) (are_zero : words ≡ replicate k 0) where
-  -- words that are 0 have no bit
+  -- words that are 0 have no set bit
   none_set : HasNoneSet words 0
   none_set m _ = bit_of_zero words m (ap (λ ws. get_or ws (m / 64) 0) are_zero ∙ zeros k (m / 64))
 
@@ -327,7 +327,7 @@ module _ (count k : ℕ) (words : List ℕ) (are_zero : words ≡ replicate k 0)
       IsSummed count words summary
   zeros_summed l summary fits summary_zero is_k is_l = grind (arith, nat_tests, length-replicate, none_set, bit_of_zero, zeros)
 
--- the words of a set, and their summary, are made 0
+-- setting the words of a set, and their summary, to 0
 module _ (count : ℕ) (words summary : List ℕ) (sums : IsSummed count words summary) (marks : List Bool)
     (is_marks : marks_of count words ≡ marks)
     (zero_words : List ℕ) (are_zero : zero_words ≡ replicate (length words) 0) where

@@ -114,7 +114,7 @@ not_found name (s ∷ rest) differs plain = go (bytes_eq s.name name) refl s.ali
     go false e [] none more = more
     go false e (x ∷ xs) none more = let bad : suc (length xs) ≡ 0 = eqb-true _ _ none in absurd (omega arith)
 
--- nor does a name that is none of the subcommands'
+-- a name that isn't a subcommand's names no job
 pub unknown : (name : Text) (rows : List Row) → All (λ s. name ≢ subcommand_name s) subcommands → IsNoJob name rows
 unknown name rows each has = go (bytes_eq name (codes "help")) refl
   where
@@ -144,7 +144,7 @@ unknown name rows each has = go (bytes_eq name (codes "help")) refl
         let other : name ≡ codes "help" → ⊥ = λ is. true≢false (sym ((bytes_eq-Decides name (codes "help")).1 is) ∙ e) in
         absurd (none_found (subcommand_named name) (not_found name (built eros_app).subs (differs other) refl) has)
 
--- nor do rows that lack an argument which a getter did not find
+-- rows without an argument that a getter needs name no job
 pub lacking : (name id : Text) (f : Found) (o : Option (Bor Text)) → option_map_or (λ a. a.required) (rule_named name id) false ≡ true
     → option_map (λ s. s.now) o ≡ first_value f id → o ≡ None → IsNoJob name (rows_of f)
 lacking name id f o required got is = lacks name id (rows_of f) required (missing f id o got is)

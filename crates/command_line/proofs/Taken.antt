@@ -158,7 +158,7 @@ module _ (c : List Rule) (again : Bool) (own : AllOwn c c) where
 
 -- ---- a word
 
--- the subcommand that was entered is no help, where help is a subcommand
+-- the subcommand that was entered isn't the one for help, if there is one
 abbrev pub is_no_help : Shape → Text → Bool
 is_no_help s name = not (bytes_eq name (codes "help")) || s.disable_help_subcommand
 

@@ -18,13 +18,13 @@ use Rattle.confinement.proofs.TrustedEdits.{kept_refl, stays_refl, stays_rescind
 abbrev pub OutcomeStays : Zone → List Object → OrderOutcome → Type 0
 OutcomeStays z os o = StaysWithin z os o.objects × Stays z o.capability
 
--- a content that has authority over members alone
+-- a content that has authority only over members
 record IsFresh (z : Zone) (c : Content Capability) : Type 0 where
   annex : is_root c ≡ true → IsTrue (z.members (root_in c).annex)
   slots : (i : ℕ) → Stays z (slice_index_or (slots_in c) i Void)
   space : Stays z (root_in c).space
 
--- contents that hold nothing
+-- contents without capabilities
 fresh_page : (z : Zone) → IsFresh z new_page
 fresh_page z = record { annex = λ e. cc; slots = λ i. inl (inl tt); space = inl (inl tt) }
 
@@ -94,7 +94,7 @@ module _ (g : Geometry) (z : Zone) (os : List Object) (h : IsNow g os) (k : Encl
     ];
   }
 
-  -- the number of an object that is free
+  -- whether the number is free
   abbrev IsUnused : ℕ → Type 0
   IsUnused n = (n < length os) × IsTrue (is_free (content_at os n))
 
@@ -157,7 +157,7 @@ module _ (g : Geometry) (z : Zone) (os : List Object) (h : IsNow g os) (k : Encl
         | inr later ↦ owner_inside c (used_where is_bank refl (content_at os c) bank) (above later)
       ])
 
-  -- all that is under a bank inside is inside
+  -- all objects under a member bank are members
   under_inside : (b : ℕ) → IsTrue (z.members b) → (n : ℕ) → is_member (under os b) n ≡ true → IsTrue (z.members n)
   under_inside b is n e = elim (or_cases (n == b) (is_under os b (object_at os n)) (under_found os b n e).1) [
     | inl same ↦ ap z.members (eqb-true n b same) ∙ is
@@ -242,7 +242,7 @@ module _ (g : Geometry) (z : Zone) (os : List Object) (h : IsNow g os) (k : Encl
           inl (inl tt),
         ))
 
--- if the argument of an order of a bank of the set stays in the set, so does the outcome
+-- if the arguments of an order of a member bank stay in the set, so does the outcome
 pub bank_stays : (g : Geometry) (z : Zone) (os : List Object) (b : ℕ) (requested : BankOrder) (args : Arguments) → IsNow g os
     → IsTrue (is_bank (content_at os b)) → IsTrue (z.members b) → NamesItsKind os args.capability → Stays z args.capability → Encloses z os
     → StaysWithin z os (on_bank g os b requested args).objects × Stays z (on_bank g os b requested args).capability

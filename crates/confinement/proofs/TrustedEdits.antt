@@ -18,7 +18,7 @@ pub record MayStand (z : Zone) (os : List Object) (n : ℕ) (c : Content Capabil
   pub slots : IsTrue (z.members n) → (i : ℕ) → Stays z (slice_index_or (slots_in c) i Void)
   pub space : IsTrue (z.members n) → Stays z (root_in c).space
 
--- capabilities that go, in lists and contents
+-- making some capabilities void, in lists and contents
 
 map_same : (cs : List Capability) → cs ≡ map (void_where (λ c. false)) cs
 map_same [] = refl
@@ -43,7 +43,7 @@ content_twice : (first second : Capability → Bool) (c : Content Capability)
     → map_content (void_where second) (map_content (void_where first) c) ≡ map_content (void_where (either first second)) c
 content_twice first second c = grind (arith, nat_tests, map_twice, twice)
 
--- an object is kept unchanged
+-- an unchanged object is kept
 pub kept_refl : (inside : ℕ → Bool) (o : Object) → IsKept inside o o
 kept_refl inside o = (
   (λ c. false),
@@ -52,11 +52,11 @@ kept_refl inside o = (
       (content_same o.content),
 )
 
--- kept twice is kept
+-- an object that is kept twice is kept
 kept_trans : (inside : ℕ → Bool) (o p q : Object) → IsKept inside o p → IsKept inside p q → IsKept inside o q
 kept_trans inside o p q a b = grind (arith, nat_tests, content_twice)
 
--- nothing changes
+-- a list of objects stays within the set if nothing changes
 pub stays_refl : (z : Zone) (os : List Object) → Encloses z os → StaysWithin z os os
 stays_refl z os h = record { encloses = h; kept = λ n out apart. kept_refl z.members (object_at os n) }
 
@@ -135,7 +135,7 @@ may_stay z os n h = record {
 word_may : (z : Zone) (os : List Object) (n i w : ℕ) (c : Content Capability) → MayStand z os n c → MayStand z os n (with_word_in c i w)
 word_may z os n i w c h = grind (arith, nat_tests)
 
--- a word of a member
+-- setting a word of a member
 pub stays_word : (z : Zone) (os : List Object) (n i w : ℕ) → Encloses z os → IsTrue (z.members n) → StaysWithin z os (with_word os n i w)
 unfolding with_word
 stays_word z os n i w h in_n =
@@ -161,14 +161,14 @@ slot_may z os n i k (content.Annex slots) stays h = record {
 }
 slot_may z os n i k c stays h = h
 
--- a slot of what may change
+-- setting a slot of an object that may change
 pub stays_slot : (z : Zone) (os : List Object) (n i : ℕ) (c : Capability) → Encloses z os → MayChange z n → Stays z c
     → StaysWithin z os (with_slot os n i c)
 unfolding with_slot
 stays_slot z os n i c h change stays =
     stays_content z os n (with_slot_in (content_at os n) i c) h change (slot_may z os n i c (content_at os n) stays (may_stay z os n h))
 
--- slots of what may change
+-- setting slots of an object that may change
 pub stays_slots : (z : Zone) (os : List Object) (n i : ℕ) (cs : List Capability) → Encloses z os → MayChange z n
     → ((j : ℕ) → Stays z (slice_index_or cs j Void)) → StaysWithin z os (with_slots_from os n i cs)
 stays_slots z os n i [] h change stays = stays_refl z os h
@@ -190,7 +190,7 @@ stays_root z os p r h change is same space = stays_content z os p (content.Root 
   space = space;
 })
 
--- a state of a process that is a member
+-- changing the state of a member process
 pub stays_state : (z : Zone) (os : List Object) (p : ℕ) (s : State) → Encloses z os → IsTrue (z.members p)
     → IsTrue (is_process os p) → StaysWithin z os (with_state os p s)
 unfolding with_state
@@ -211,7 +211,7 @@ receives_without : (z : Zone) (goes : Capability → Bool) (p : ℕ) (o : Object
     IsReceiver z p (root_in (without goes o).content).annex
 receives_without z goes p o h is = grind (arith, nat_tests)
 
--- members are freed, and capabilities that name members put void
+-- freeing members, and making capabilities void that name members
 pub stays_without : (z : Zone) (os us : List Object) (goes : Capability → Bool) (set : List ℕ) → Encloses z os
     → ((n : ℕ) → is_member set n ≡ true → IsTrue (z.members n)) → ((c : Capability) → goes c ≡ true → NamesInside z.members c)
     → ((n : ℕ) → object_at us n ≡ (if is_member set n then free else without goes (object_at os n))) → StaysWithin z os us
@@ -252,18 +252,18 @@ stays_without z os us goes set h members names at = record {
     was_bank : (b : ℕ) → IsTrue (is_bank (content_at us b)) → IsTrue (is_bank (content_at os b))
     was_bank b is = grind (arith, nat_tests, at_us, without_mapped)
 
--- a consumed resume capability of a member
+-- consuming the resume capabilities of a member
 pub stays_consume : (z : Zone) (os : List Object) (p : ℕ) → Encloses z os → IsTrue (z.members p) → StaysWithin z os (consume p os)
 stays_consume z os p h in_p = stays_without z os (consume p os) (resumes p) [] h (λ n m. cc) names (object_consume p os)
   where
     names : (c : Capability) → resumes p c ≡ true → NamesInside z.members c
     names c e = grind (arith, nat_tests)
 
--- a number that is a member
+-- whether an optional number is a member
 abbrev IsSomeInside : Zone → Option ℕ → Type 0
 IsSomeInside z o = elim o [ None ↦ ⊥ | Some n ↦ IsTrue (z.members n) ]
 
--- rescinded members
+-- rescinding members
 pub stays_rescind : (z : Zone) (os : List Object) (set : List ℕ) → Encloses z os
     → ((n : ℕ) → is_member set n ≡ true → IsTrue (z.members n)) → StaysWithin z os (rescind set os)
 stays_rescind z os set h members =

@@ -90,7 +90,7 @@ order_ready g z os i h by =
 
 -- gates
 
--- who receives by a start capability: a member, or a trusted process
+-- the receiver of a message through a start capability: a member, or a trusted process
 receiver : (z : Zone) (os : List Object) (q : ℕ) → Encloses z os → IsTrue (is_process os q) → IsTrue (z.members q) ⊎ IsTrue (z.trusted q)
     → IsReceiver z q (annex_at os q)
 receiver z os q h root (inl member) = inl member
@@ -158,7 +158,7 @@ kernel_stays g z os i h by =
 
 -- invocations
 
--- a start capability that stays is one to a member or to a trusted process
+-- a start capability that stays inside is one to a member or to a trusted process
 started : (z : Zone) (q : ℕ) → (⊥ ⊎ IsTrue (z.members q)) ⊎ IsTrue (z.trusted q) → IsTrue (z.members q) ⊎ IsTrue (z.trusted q)
 started z q is = grind (arith, nat_tests)
 

@@ -12,7 +12,7 @@ use Rattle.model.specs.declared.order.ProcessOrder.TheVariants as process
 use Rattle.confinement.proofs.TrustedBanks.{OutcomeStays, bank_stays}
 use Rattle.confinement.proofs.TrustedEdits.{stays_consume, stays_refl, stays_root, stays_slot, stays_state, stays_trans, stays_word}
 
--- objects that nothing is done to, and a capability that stays
+-- an outcome that leaves the objects unchanged and gives a capability that stays inside
 still : (z : Zone) (os : List Object) (c : Capability) → Encloses z os → Stays z c
     → StaysWithin z os os × Stays z c
 still z os c h stays = (stays_refl z os h, stays)
@@ -96,7 +96,7 @@ process_stays z os p which args h is root sent = grind (arith, nat_tests, chosen
 pub strong : (z : Zone) (n : ℕ) → (⊥ ⊎ IsTrue (z.members n)) ⊎ ⊥ → IsTrue (z.members n)
 strong z n is = grind (arith, nat_tests)
 
--- an order on what stays inside stays in the set
+-- an order on a capability that stays inside stays in the set
 pub order_stays : (g : Geometry) (z : Zone) (os : List Object) (c : Capability) (w : ℕ) (args : Arguments) → IsNow g os → Encloses z os
     → IsHeld os (Waits os) c → Stays z c → NamesItsKind os args.capability → Stays z args.capability
     → OutcomeStays z os (order g os c w args)

@@ -87,12 +87,12 @@ along_inside z os h (Space o k a) (slot ∷ slots) found stays e full =
     subst (λ n. IsTrue (z.members n)) (sym b.same) (along_inside z os h c slots b.next stays_there b.is full_there)
 along_inside z os h c slots found stays e full = cc
 
--- a test that is passed on the way to what is found
+-- a test that holds on the way to the page that is found
 if_found : (b : Bool) (r : Result (ℕ × Access) MemoryFault) (why : MemoryFault) (found : ℕ × Access) →
     (if b then r else Err why) ≡ Ok found → r ≡ Ok found
 if_found b r why found e = grind (arith, nat_tests)
 
--- a walk from what stays inside to a writable page ends at a member
+-- a walk to a writable page, from a capability that stays inside, ends at a member
 walk_inside : (z : Zone) (os : List Object) → IsClosedBut z.trusted os z.members → (c : Capability) (index : ℕ) (found : ℕ × Access)
     → Stays z c → walk os c index ≡ Ok found → found.1.0 ≡ 0 → IsTrue (z.members found.0)
 unfolding walk
@@ -144,7 +144,7 @@ written s address value found = elim found [
   | Err why ↦ outcome (answer.MemoryFault why) s
 ]
 
--- a word more, and the world stays sound
+-- a world stays sound with another word in a page
 word_sound : (g : Geometry) (os : List Object) (age n i w : ℕ) → IsSound g (record { objects = os; age = age }) → w < 2 ^ 64
     → IsSound g (record { objects = with_word os n i w; age = age })
 word_sound g os age n i w sound fits =
@@ -170,7 +170,7 @@ store_keeps g z os s p address value (Ok page) is in_p fits h =
     }
 store_keeps g z os s p address value (Err why) is in_p fits h = h
 
--- a turn whose line says such a command, or none
+-- a turn whose line is such a command, or no command
 abbrev IsTurnBy : (ℕ → Bool) → Turn → Type 0
 IsTurnBy inside t = (l : Line) → Says t.line l → IsLineBy inside l
 
@@ -251,7 +251,7 @@ anywhere trusted inside = record { members = inside; trusted = trusted; ports = 
 abbrev apart_from : ℕ → (ℕ → Bool) → (ℕ → Bool) → Zone
 apart_from n trusted inside = record { members = inside; trusted = trusted; ports = λ m. not (m == n) }
 
--- a set that has the free numbers
+-- a set that contains all free numbers
 abbrev HasFree : List Object → (ℕ → Bool) → Type 0
 HasFree os inside = (n : ℕ) → is_free (content_at os n) ≡ true → IsTrue (inside n)
 
@@ -276,7 +276,7 @@ encloses_apart n os trusted inside closed free apart = record {
   );
 }
 
--- a closed set with what is free is closed
+-- a closed set together with all free numbers is closed
 with_free_closed : (os : List Object) (trusted inside : ℕ → Bool) → IsClosedBut trusted os inside →
     IsClosedBut trusted os (with_free os inside)
 with_free_closed os trusted inside h = grind (arith, nat_tests)
@@ -329,7 +329,7 @@ run_sound g trusted inside s t turns sound closed run by =
     (run_within g (anywhere trusted all) s t turns sound
     (encloses_anywhere os trusted all (with_free_closed os trusted inside closed) (has_free os inside)) run by).sound
 
--- without what is free
+-- the set without the free numbers
 
 live_stays : (os : List Object) (trusted inside : ℕ → Bool) (c : Capability) → NamesItsKind os c → StaysBut trusted inside c
     → StaysBut trusted (λ n. inside n && not (is_free (content_at os n))) c

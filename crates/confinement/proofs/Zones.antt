@@ -25,7 +25,7 @@ pub record Encloses (z : Zone) (os : List Object) : Type 0 where
   pub free : (n : ℕ) → is_free (content_at os n) ≡ true → IsTrue (z.members n)
   pub receives : (p : ℕ) → IsTrue (z.trusted p) → IsTrue (is_process os p) → IsReceiver z p (annex_at os p)
 
--- everything else is kept, and the set encloses what came of the rest
+-- everything else is kept, and the set still encloses its members
 pub record StaysWithin (z : Zone) (os us : List Object) : Type 0 where
   pub encloses : Encloses z us
   pub kept : (n : ℕ) → z.members n ≡ false → z.ports n ≡ false → IsKept z.members (object_at os n) (object_at us n)

@@ -17,7 +17,7 @@ contains_cases x y xs h = search (arith, h.0, h.1, h.2)
 pub contains_none : {X : Type 0} → (x : X) → Contains [] x → ⊥
 contains_none x h = omega (arith, h.1)
 
--- a list holds a number or doesn't
+-- a list contains a number or doesn't
 pub contains_either : (ns : List ℕ) (n : ℕ) → Contains ns n ⊎ (Contains ns n → ⊥)
 contains_either [] n = inr (contains_none n)
 contains_either (m ∷ ns) n = elim (cases_eq m n) [

@@ -1,4 +1,4 @@
--- A value says at most one thing, so a table says at most one description.
+-- A value encodes at most one thing, so a table encodes at most one description.
 use Rattle.description.proofs.Names.{nat_tests, inl, inr, ℕ, pos, Option, Some, None, List, [], codes, refl, sym, ap, subst, arith, bytes_eq, same_Some}
 use Rattle.description.proofs.Names.{capability_text, state_text, Capability, Number, Void, Geometry, State, Available, Running, Waiting, Data, integer, string}
 use Rattle.description.proofs.Names.{array, Items, no_items, item, Members, get_member, text_once, Each, IsSame, IsSameNode, IsSamePage, IsSameProcess}

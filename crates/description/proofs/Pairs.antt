@@ -1,4 +1,4 @@
--- Two lists, of which one is the other rewritten item by item.
+-- A list, and the same list rewritten item by item.
 use Rattle.description.proofs.Names.{nat_tests, ℕ, zero, suc, List, [], map, length, slice_index_or, slice_set, refl, sym, ap, subst, arith, All, AllZip}
 use Rattle.description.proofs.Names.{AllZip-get_or, length_all_zip}
 use Rattle.std.proofs.Common.{◌≡◌, ◌+◌, ◌<◌, ◌≤◌, ◌∷◌, ◌∙◌}

@@ -1,4 +1,4 @@
--- A value that says something of a table needs a table that says it.
+-- If a value is a table, what is read from the value is read from this table.
 use Rattle.description.proofs.Names.{arith, subst, sym, Data, Members, table, same_Some, IsTable}
 use Rattle.std.proofs.Common.{◌≡◌, ◌∙◌}
 

@@ -28,7 +28,7 @@ one_seen marks ns i within inside none seen = record {
       ];
 }
 
--- a number that isn't marked doesn't come before
+-- a number that isn't marked doesn't occur before
 pub unseen : (marks : List Bool) (before : List ℕ) (n : ℕ) → ((m : ℕ) → Contains before m → is_marked marks m ≡ true) →
     is_marked marks n ≡ false → Contains before n → ⊥
 unseen marks before n marked un there = true≢false (sym (marked n there) ∙ un)

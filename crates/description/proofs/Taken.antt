@@ -2,7 +2,7 @@
 use Rattle.description.proofs.Names.{ℕ, List, length, get_or, take, subst, All, take_all, All-more}
 use Rattle.std.proofs.Common.{◌≡◌, ◌+◌, ◌<◌, ◌≤◌}
 
--- all hold at the end of a loop
+-- all elements have the property at the end of a loop
 pub all_taken : {A : Type 0} (P : A → Type 0) (xs : List A) (i : ℕ) → length xs ≤ i → All P (take i xs) → All P xs
 all_taken P xs i past all = subst (All P) (take_all i xs past) all
 

@@ -27,7 +27,7 @@ pub wide_text : (d : Data) (n : ℕ) → 2 ^ 63 ≤ n → IsCapability d (Some (
 unfolding IsWideNumber
 wide_text d n large text = inr (large, text)
 
--- a value that says another capability, or none, or no text, says no number
+-- a value that isn't the text of a number capability encodes no number
 pub other_text : (d : Data) (r : Option Capability) → as_integer d ≡ None → IsCapability d r →
     ((n : ℕ) → 2 ^ 63 ≤ n → r ≢ Some (Number n)) → (n : ℕ) → IsWideNumber d n → ⊥
 other_text d r none said other n number =

@@ -60,8 +60,8 @@ pub(crate) fn wide_number_of(value: &Value) -> Option<u64>
     }
 }
 
-// Returns `None` if the value isn't a text; else the capability with this text, or `None` in its place if there is no such
-// capability.
+// Returns `None` if the value isn't a text; else the capability with this text, or `None` in its place if it is that of
+// none.
 #[tactic(auto, using(crate::proofs::Types::capability_reported))]
 pub(crate) fn capability_at(value: &Value) -> Option<Option<Capability>>
     ensures { Finds (IsCapability (view value.now)) result }
@@ -72,8 +72,8 @@ pub(crate) fn capability_at(value: &Value) -> Option<Option<Capability>>
     }
 }
 
-// Returns `None` if the value isn't a text; else the state with this text, or `None` in its place if there is no such
-// state.
+// Returns `None` if the value isn't a text; else the state with this text, or `None` in its place if it is that of
+// none.
 #[tactic(auto, using(crate::proofs::Types::state_reported))]
 pub(crate) fn state_at(value: &Value) -> Option<Option<State>>
     ensures { Finds (IsState (view value.now)) result }

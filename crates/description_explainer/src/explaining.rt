@@ -79,7 +79,7 @@ fn explain_frames(
     }
 }
 
-// Returns the rule for which a description has no world.
+// Returns the rule that keeps a description from having a world.
 fn rule_of(why: WorldFault) -> Result<Option<Rule>, AllocError>
     ensures { (d : Description) → IsWithinLimits d → BreaksWorld d why
         → IfOk result (λ found. ExplainsDescription d found) }

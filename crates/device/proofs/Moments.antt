@@ -80,7 +80,7 @@ counted_ok {old = old} {new = new} counts =
     ⊎_elim (λ rose. let never : false ≡ true = counts.cause.1 rose in cc) (λ le. omega (arith, le, counts.never_falls))
     (cases_lt old.failures new.failures)
 
--- the failures of a run of which only the last call may have failed
+-- the failures of a run in which only the last call may have failed
 pub counts_on : {T E : Type 0} {old mid new : Disk} {result : Result T E} → mid.failures ≡ old.failures → Counts mid new result →
     Counts old new result
 counts_on {old = old} {mid = mid} {new = new} same counts = record {

@@ -101,7 +101,7 @@ module _ {g : Geometry} {os : List Object} {i : Invocation} {caller : Caller} {p
   pub order_written : list ≡ (on_kernel_object g os i).written
   order_written = planned.listed ∙ sym (ap (λ (e : Effect). e.written) (effect_requested ∙ effect_planned caller.operation))
 
-  -- all that is written is among the objects
+  -- all numbers that are written are those of objects
   pub listed_known : (P : ℕ → Type 0) → P caller.process → P caller.annex → ((n : ℕ) → n < length os → P n) → All P list
   listed_known P of_process of_annex known = grind (arith, nat_tests)
 

@@ -53,7 +53,7 @@ after_process os i is q = grind (arith, nat_tests, state_process)
 pub after_annex : (os : List Object) (i : Invocation) (q : ℕ) → annex_at (after_gate os i) q ≡ annex_at os q
 after_annex os i q = grind (arith, nat_tests, state_annex)
 
--- a slot, a word and what goes void leave annexes
+-- setting a slot or a word, and making capabilities void, keep annexes
 word_annex : (c : Content Capability) (i word : ℕ) → annex_in (with_word_in c i word) ≡ annex_in c
 word_annex c i word = grind (arith, nat_tests)
 
@@ -107,12 +107,12 @@ not_both b is other = grind (arith, nat_tests)
 abbrev with_sent : Arguments → Capability → Arguments
 with_sent a sent = record { first = a.first; second = a.second; capability = sent }
 
--- an order that stays with another capability reads the words alone
+-- an order that doesn't depend on the capability reads only the words
 by_words : (c : Capability) (w : ℕ) → ((g : Geometry) (us : List Object) (a : Arguments) (sent : Capability) →
     order g us c w a ≡ order g us c w (with_sent a sent)) → ReadsOnlyWords c w
 by_words c w same g us a b first second = grind (arith, nat_tests)
 
--- an outcome by the order that is found stays if that of each found order does
+-- the outcome of the order that was found, or another one; it is the same if it is the same for each order
 abbrev found_or : {R : Type 0} → OrderOutcome → (R → OrderOutcome) → Option R → OrderOutcome
 found_or other on found = elim found [ None ↦ other | Some requested ↦ on requested ]
 
@@ -147,7 +147,7 @@ pub bank_words : (b w : ℕ) → (bank_order w ≡ Some bank.Free → ⊥) → R
 unfolding order
 bank_words b w other = grind (arith, nat_tests, by_words, same_found, bank_found)
 
--- the process and the node that a capability names that may be held
+-- the process or the node that a capability names, if this may be held
 pub process_there : (os : List Object) (c : Capability) → NamesItsKind os c → (p : ℕ) → process_named c ≡ Some p → IsTrue (is_process os p)
 process_there os c kind p is = grind (arith, nat_tests)
 

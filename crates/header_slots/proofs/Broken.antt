@@ -7,7 +7,7 @@ use Rattle.header_slots.specs.Slots.{Counts, IsCommitted, Opens, Slot, Slots}
 use Rattle.header_slots.proofs.Counting.{below_greatest, counts_before, is_known, one_committed}
 use Rattle.header_slots.proofs.Publishing.{header_commits_none}
 
--- nothing counts that didn't before
+-- each header that counts now counted before
 counted : (slot : ℕ) (old new : Slots) (n : ℕ) → OthersStay slot old new → (new slot).header ≡ None → Counts new n →
     (n % 3 ≡ slot → ⊥) × Counts old n
 counted slot old new n others broken it =

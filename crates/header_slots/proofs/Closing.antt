@@ -27,7 +27,7 @@ both_stay a b c one two k = ((two k).0 ∙ (one k).0, (two k).1 ∙ (one k).1)
 gate_stays : (slot k : ℕ) (old new : Slots) → TearsGateOf slot old new → (k ≡ slot → ⊥) → (new k).gate ≡ (old k).gate
 gate_stays slot k old new torn other = ap (λ (it : Slot). it.gate) (torn.others k other)
 
--- a closed gate counts for nothing
+-- in a slot with a closed gate no header counts
 closed_out : (x : Slots) (k n : ℕ) → (x k).gate ≡ None → Counts x n → n % 3 ≡ k → ⊥
 closed_out x k n closed it e =
     let lost : Some n ≡ None = sym it.gate ∙ ap (λ (i : ℕ). (x i).gate) e ∙ closed in
@@ -63,7 +63,7 @@ module _ (a x : Slots) (s : ℕ) (was : IsCommitted a s) (headers : HeadersStay 
             ]
       ]
 
-  -- a third slot that is closed makes none
+  -- if the gate of the third slot is closed, the slot makes no pair
   third_closed : (x ((s + 1) % 3)).gate ≡ None → (t : ℕ) → IsCommitted x t → t ≡ s
   third_closed closed t is = only_pair (λ n it e. absurd (closed_out x ((s + 1) % 3) n closed it e)) t is
 

@@ -39,7 +39,7 @@ which third n is =
           ]
     ]
 
--- a slot without a header counts for nothing
+-- in a slot without a header no header counts
 nothing_there : (gate : Option ℕ) (n : ℕ) → Counts (first_two (with_header None gate)) n → n % 3 ≡ 0 → ⊥
 nothing_there gate n is e =
     let lost : Some n ≡ None = sym is.header ∙ ap (λ (k : ℕ). (first_two (with_header None gate) k).header) e in
@@ -61,7 +61,7 @@ pair_of gate = record {
   greatest = λ n low high. most gate (n + 1) high;
 }
 
--- the third header alone becomes another
+-- only the third header changes
 torn : (gate header : Option ℕ) → TearsHeader 2 (first_two (with_header None gate)) (first_two (with_header header gate))
 torn gate header = record { others = others_stay (with_header None gate) (with_header header gate); gate = refl }
 

@@ -16,7 +16,7 @@ pub beside_behind : (p : Plan) (e : Entry) (es : List Entry) (n : ℕ) → (home
 beside_behind p e es n other = ap (λ (b : Bool). if b then Some e.slot else slot_beside p es n)
     (ne_eqb (home_place p e.object) (home_place p n) other)
 
--- the entry of such a slot
+-- the entry that has such a slot
 pub record HasBeside (p : Plan) (es : List Entry) (n slot : ℕ) : Type 0 where
   pub index : ℕ
   pub within : index < length es

@@ -104,7 +104,7 @@ module _ (v : Version) (g : Geometry) (rs : List NumberRange) (may : MayBeLaid g
   follow : Follow 5 (extents (plan_from v g rs))
   follow = laid_follow v g 5 rs halves (refl, (refl, tt))
 
-  -- no numbers within the limits take more sectors than a device may have
+  -- numbers within the limits take at most as many sectors as a device may have
   total_few : (plan_from v g rs).total ≤ 131072
   total_few = let end = behind_few v g 0 5 rs may.cover in omega (
     arith,

@@ -286,7 +286,7 @@ module _ {p : Plan} {a b : ℕ} (fits : IsPlan p) (is_a : IsObject p.geometry a)
       let both = one_range fits is_a is_b same in
       rw (shape_is p both.1.one, shape_is p both.1.other) (rise_in both.1.one.has both.1.other.has p.version both.1.place lt)
 
-  -- no other number has the home of a frame that is a block
+  -- no other object shares the home of a frame that fills its block
   pub alone : IsWhole (shape_of p b) → a ≡ b
   alone whole =
       let both = one_range fits is_a is_b same in
@@ -301,7 +301,7 @@ frames_beside {p} {a} {b} fits is_a is_b same differ = elim (cases_lt a b) [
 
 -- ---- the numbers of a block
 
--- counted in a range, blocks of k begin at the multiples of k
+-- a block has 1 or 5 frames; counted from the start of a range, blocks begin at the multiples of this number
 abbrev IsSize : ℕ → Type 0
 IsSize k = (k ≡ 1) ⊎ (k ≡ 5)
 

@@ -7,7 +7,7 @@ use Rattle.std.proofs.lemmas.List.{append-nil}
 use Rattle.image_describer.proofs.Rising.{rising_distinct, rising_more}
 
 module _ {E V : Type 0} (index : E → ℕ) (value : E → V) (default : V) where
-  -- an entry after others names nothing else
+  -- adding an entry changes nothing for other indexes
   first_before : (es : List E) (e : E) (i : ℕ) → index e ≢ i → first_named index value default (es ++ e ∷ []) i
       ≡ first_named index value default es i
   first_before [] e i differ = first_beyond index value default e [] i differ
@@ -22,7 +22,7 @@ module _ {E V : Type 0} (index : E → ℕ) (value : E → V) (default : V) wher
       first_beyond index value default f (es ++ e ∷ []) i (λ same. absurd (omega (arith, under, same)))
       ∙ first_last es e i (All-tail (λ f. index f < i) f es below) is
 
-  -- nothing is named from an index on that is above all
+  -- an index above all entries has no entry
   first_above : (es : List E) (i : ℕ) → All (λ f. index f < i) es → (j : ℕ) → i ≤ j → first_named index value default es j ≡ default
   first_above es i below j le = first_none index value _ es j (λ there.
       let under : j < i = All-contains (λ n. n < i) _ j (All-map (λ n. n < i) index es below) there in
@@ -71,7 +71,7 @@ module _ {E V : Type 0} (index : E → ℕ) (value : E → V) (default : V) wher
   names_next xs i es next (Some e) x names inside is may made = rw made (names_more xs i es e names inside may.0 (may.1 ∙ is)
       (λ at. may.2 (sym may.1 ∙ at)))
 
-  -- all are named
+  -- all items have their entries
   pub names_all : (xs : List V) (i : ℕ) (es : List E) → length xs ≤ i → NamesBefore xs i es → Names index value default xs es
   names_all xs i es done names = grind (arith, nat_tests, first_above, get_or_past)
 

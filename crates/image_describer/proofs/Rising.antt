@@ -16,7 +16,7 @@ pub rising_distinct : (ns : List ℕ) → AreRising ns → AreDistinct ns
 rising_distinct [] rising = tt
 rising_distinct (n ∷ ns) rising = grind (arith, nat_tests, rising_distinct ns rising.1, All-contains)
 
--- nor where two lists share none
+-- nor in two joined lists without a common number
 pub distinct_both : (ns ms : List ℕ) → AreDistinct ns → AreDistinct ms → ((n : ℕ) → Contains ns n → Contains ms n → ⊥) →
     AreDistinct (ns ++ ms)
 distinct_both [] ms one other apart = other

@@ -1,4 +1,4 @@
--- The lines of objects, and of a whole description, are read as what they were written for.
+-- The lines of objects, and of a whole description, are read back as what they were written for.
 use Rattle.image_describer.proofs.Names.{nat_tests, ℕ, nat_lt, true, List, [], codes, length, slice_index_or, Option, None, Some, IsSomeAnd, MatchOption, refl}
 use Rattle.image_describer.proofs.Names.{sym, subst, arith, IsTrue, list_all, is_bare, key_text, Data, Members, get_member, no_members, BankEntry, Description}
 use Rattle.image_describer.proofs.Names.{NodeEntry, PageEntry, ProcessEntry, AreFour, IsBank, IsCapability, IsDescription, IsList, IsNode, IsNumber, IsPage}

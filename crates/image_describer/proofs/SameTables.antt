@@ -1,4 +1,4 @@
--- Descriptions that the same table says have the same frames.
+-- Descriptions that are read from the same table have the same frames.
 use Rattle.image_describer.proofs.Names.{nat_tests, ℕ, suc, List, [], map, refl, sym, ap, subst, arith, All, Contains, All-cons, All-nil, Frame, Geometry}
 use Rattle.image_describer.proofs.Names.{frame_at, object_count, BankEntry, Description, NodeEntry, PageEntry, ProcessEntry, Each, IsSame, IsSameNode}
 use Rattle.image_describer.proofs.Names.{IsSamePage, IsSameProcess, IsDescribed, IsDescribedAnnex, IsDescribedNode, IsDescribedPage, IsDescribedRoot}

@@ -1,4 +1,4 @@
--- The values in the text of a description: what TOML writes for each, and what it says.
+-- The values in the text of a description: what TOML writes for each, and what is read back from it.
 use Rattle.image_describer.proofs.Names.{ℕ, suc, pos, nat_lt, get_or, Bool, true, false, List, [], length, Option, Some, None, MatchOption, inl, inr, refl, sym}
 use Rattle.image_describer.proofs.Names.{ap, arith, All, list_all, cases_Bool, nat_tests, recursion_from_All, Data, string, integer, array, no_items, item}
 use Rattle.image_describer.proofs.Names.{NumberRange, Capability, Void, Number, Page, Space, Geometry, State, capability_text, state_text, AreFour, AreItems}

@@ -39,7 +39,7 @@ boxes_are d = grind (arith, nat_tests, map_both, map_again)
 owners_are : (d : Description) → flat_map joined_part (parts d) ≡ owners d
 owners_are d = grind (arith, nat_tests, flat_map-four, flat_map-map)
 
--- no box comes twice, since no number does
+-- no box occurs twice, since no number does
 boxes_once : (d : Description) → AreDistinct (node_numbers d ++ page_numbers d) → IsOnce (boxes d)
 boxes_once d distinct =
     let B : List ℕ = map (λ b. b.number) d.banks.items in

@@ -59,7 +59,7 @@ module _ (d : Description) (numbers : HasNumbers d) where
   pub object_below : (o : ℕ) → is_listed o (boxes d) ≡ true → Below o
   object_below o drawn = All-contains Below (boxes d) o boxes_below (listed_contains o (boxes d) drawn)
 
--- a number is in one of two lists, of which one may be empty
+-- a number is in one of two lists; either may be empty
 or_none : (a : Bool) → a ≡ (a || false)
 or_none true = refl
 or_none false = refl

@@ -4,11 +4,11 @@ use Rattle.image_explainer.proofs.Names.{Image, CheckpointHeader, IsHeader, head
 use Rattle.image_explainer.proofs.Names.{option_at, Plan, SectorFault, IsFault, HasHeaderIn, HasNoneIn, RefusesHeader, picked, slot_of, ⊤}
 use Rattle.std.proofs.Common.{◌≡◌, ◌+◌, ◌*◌, ◌<◌, ◌∙◌}
 
--- the second counts, and the first doesn't or has a smaller number
+-- the second header counts, and the first doesn't or has a lesser number
 pub second_wins : (first second : Bool) (m n : ℕ) → second ≡ true → (first ≡ true → m < n) → committed_of first m second n ≡ Some 1
 second_wins first second m n is less = grind (arith, nat_tests)
 
--- the header of the slot that wins is none
+-- the header in the winning slot is malformed
 module _ (log : ℕ) (first first_gate second second_gate : List ℕ) (slot : ℕ) (lt : slot < 2)
     (wins : slot_of first first_gate second second_gate ≡ Some slot)
   where

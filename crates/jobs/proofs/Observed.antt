@@ -26,7 +26,7 @@ has_ended written g first last (t ∷ ts) on seen ended =
     found true None place never = absurd never
     found true (Some stop) place ends = (stop, refl)
 
--- an outcome that isn't the observer's needs no place
+-- an outcome that isn't the observer's doesn't need the place
 pub unstopped : (outcome : Result (Unit {0}) RunFault) → IfErr outcome (λ e. e ≢ run.Stopped) → HasStop (Ok outcome) None
 unstopped (Ok u) is = tt
 unstopped (Err run.Read) is = tt
@@ -60,7 +60,7 @@ module _ {D S : Type 0} (disk : D → Disk) (view : S → View D) (parts : S →
     runs_unseen (Ok (Err run.Stopped)) end is seen = absurd is
     runs_unseen (Err why) end is seen = rw is (seen.0, seen.1, seen.2)
 
-  -- a tracer that ended a run has the place, also where all was to be saved
+  -- a tracer that ended a run knows the place, also if all was to be saved
   pub saver_has_stop : {V : Type 0} (written : V → Written) (before after : Tracer V) (input input_left : Option (List ℕ))
       (output output_left : Written) (outcome : Result (Result (Unit {0}) RunFault) OpenFault) (saved : Result (Unit {0}) Fault) →
       SavesImage disk view parts (Sees written) device back before after input input_left output output_left outcome saved →
@@ -70,7 +70,7 @@ module _ {D S : Type 0} (disk : D → Disk) (view : S → View D) (parts : S →
       rw (has_ended written seen.3.geometry before after r.0 r.3 r.4 r.5).1 tt
   saver_has_stop written before after input input_left output output_left outcome saved seen = tt
 
-  -- a tracer that ended a run has the place
+  -- a tracer that ended a run knows the place
   pub tracer_has_stop : {V : Type 0} (written : V → Written) (before after : Tracer V) (input input_left : Option (List ℕ))
       (output output_left : Written) (outcome : Result (Result (Unit {0}) RunFault) OpenFault) →
       SeesImage disk view parts (Sees written) device back before after input input_left output output_left outcome →

@@ -109,7 +109,7 @@ module _ {D S : Type 0} (disk : D → Disk) (view : S → View D) (parts : S →
           beside : (a ≡ answer.Refused refusal.Fault → ⊥) → (view s).snapshots ≡ (view l.store).snapshots
           beside other = continues.snapshots (on_disk (stayed other))
 
-      -- an object was put out
+      -- an object was evicted
       pub evicted : parts s ≡ parts l.store → (n : ℕ) → n < length (parts l.store).headers →
           ServesUp disk view parts l (command.Evict n) answer.Done (with_store l s)
       evicted same n within g up =
@@ -294,7 +294,7 @@ module _ {D S : Type 0} (disk : D → Disk) (view : S → View D) (parts : S →
   -- ---- refusals of a store
 
   module _ (l : Live S) (s : S) where
-    -- nothing is frozen
+    -- the freeze is refused
     pub freeze_refused : (why : Refusal) → s ≡ l.store → l.age < 2 ^ 62 →
         IsFreezeAnswer {T = ℕ} (left_in whole (view l.store).snapshots) (view l.store).snapshots.saved.entries (Err why) →
         ServesUp disk view parts l command.Checkpoint (answer.Refused why) (with_store l s)
@@ -347,7 +347,7 @@ module _ {D S : Type 0} (disk : D → Disk) (view : S → View D) (parts : S →
           commit_failed l s size f.0 f.1 f.2 (moments f.0 f.1 f.2)
       commit_refused why reported again moments = absurd reported
 
--- who failed is reported where a store refuses
+-- a refusal is `Fault` exactly if the device failed
 pub failed_cause : (old new : Disk) → old.failures < new.failures → IsCaused old new (answer.Refused refusal.Fault)
 failed_cause old new more = record { later = omega (arith, more); exact = (λ e. more, λ rose. refl) }
 
@@ -402,7 +402,7 @@ pub counted_still : {p q : Parts} {banks : BanksState} → AreSameUnlessFailed p
 counted_still {p} {q} {banks} same counted stayed = subst (λ (r : Parts). AreCounted r.geometry (objects_in r) banks) (sym (same stayed))
     counted
 
--- the device reports who failed
+-- an answer is `Fault` exactly if the device failed
 pub caused : {p q : Parts} {old new : Disk} {c : Command} {age later : ℕ} {a : Answer} → p.failures ≡ old.failures →
     q.failures ≡ new.failures → Performs age p c a later q → IsCaused old new a
 caused {p} {q} {old} {new} {c} {age} {later} {a} before after serves = record {

@@ -425,7 +425,7 @@ module _ {D S : Type 0} (disk : D → Disk) (view : S → View D) (parts : S →
         journal_failed size run (none_there a.frozen reported.1) reported.2 reported.3
     journal_refused why size reported away beside same usable run = absurd reported
 
--- who failed is reported where a store refuses
+-- a refusal is `Fault` exactly if the device failed
 pub journal_cause : (old new : Disk) (left : Option ℕ) (s : SavedFrames) (known page saved : Bool) (why : Refusal) →
     IsJournalAnswer old new left s known page saved (Err why) → IsCaused old new (answer.Refused why)
 journal_cause old new left s known page saved why reported = search (arith, nat_tests, failed_cause, other_cause)

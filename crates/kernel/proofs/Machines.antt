@@ -71,7 +71,7 @@ among g size c (s ∷ ss) ts one = ⊎_elim (λ here. inl here) (λ there. inr (
 pub leaves_here : (g : Geometry) (disk : Disk) (ss ts : List Saved) → OnlyNow disk → Leaves g disk ss → LeavesOne g disk disk (ss ++ ts)
 leaves_here g disk ss ts only_now here = search (arith, nat_tests, started, among)
 
--- a crash left what was saved all along
+-- a crash leaves what was saved throughout
 pub leaves_along : {g : Geometry} {old new : Disk} {fs : SavedFrames} {ts : List Saved} → IsSoundSaved g fs → new.sectors ≡ old.sectors →
     LeavesSaved old new fs → LeavesOne g old new (saved_of fs ∷ ts)
 leaves_along {g} {old} {new} {fs} {ts} sound size moments = search (arith, nat_tests, leaves_weaker, denoted_by)
@@ -219,7 +219,7 @@ module _ {D S : Type 0} (disk : D → Disk) (view : S → View D) (parts : S →
       IsSomeMachine disk view parts q
   some_after p q c a serves some = let s = serves some.0 some.1 some.2 in (some.0, s.after, s.stands)
 
-  -- only what shows an object or opens the device may be answered `no memory`
+  -- only a command that shows an object or opens the device may be answered `no memory`
   pub memory_taken : (p q : Power D S) (c : Command) (a : Answer) → Serves disk view parts p c a q → IsSomeMachine disk view parts p →
       a ≡ answer.Refused refusal.NoMemory → takes_memory c ≡ true
   memory_taken p q c a serves some is = search (arith, nat_tests, wants_memory_to_show)

@@ -98,7 +98,7 @@ pub frames_later : (g : Geometry) (age later : ℕ) (fs : List Frame) → age �
     IsSoundFrames g later fs
 frames_later g age later fs le within f = search (arith, nat_tests, keepable_later, world_later)
 
--- sound frames can be put out and read back
+-- sound frames may be written and read back
 pub keepable_most : (g : Geometry) (p : Parts) (age : ℕ) → p.geometry ≡ g → IsSoundFrames g age (frames_of p) →
     AreKeepable p.geometry most (frames_of p)
 keepable_most g p age same f = search (arith, nat_tests, most, keepable_later)

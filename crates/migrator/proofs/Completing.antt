@@ -213,7 +213,7 @@ module _ {p : Plan} (generation : ℕ) {es : List Entry} (i : ℕ) (fits : IsPla
     slot_low : e.slot < p.geometry.log
     slot_low = (is.each i (record { object = 0; slot = 0 }) within).slot
 
-    -- lie apart from the other slots
+    -- these sectors lie apart from the other slots
     others_apart : {j : ℕ} (n : ℕ) → j < length es → (j ≡ i → ⊥) → IsApart (place_extent p generation (entry_at es j).slot n) sectors
     others_apart {j} n lt other = grind (arith, nat_tests)
 
@@ -423,7 +423,7 @@ module _ {disk : Disk} {b : Books} (is : IsDurable disk b) where
   read_raw {n} lt = ap (frame_from b.plan.geometry n) (sym (saved_raw lt)) ∙ sym
       (read_at (seen_by disk.seen b) b.plan b.header.generation b.directory n lt)
 
-  -- homes
+  -- the home frames
   pub home_raw : {n : ℕ} → n < count_of b.plan →
       bytes_at disk.seen (home_place b.plan n) b.plan n ≡ bytes_at (seen_by disk.seen b) (home_place b.plan n) b.plan n
   home_raw {n} lt = sym (raw disk.seen n (λ u some. home_apart (frozen_generation b) is.kept.plan lt (cluster_inside some)))

@@ -54,7 +54,7 @@ module _ {size : ℕ} {image : Image} {b : Books} (kept : IsIntact size image b)
       ≡ frame_from b.plan.geometry n (bytes_at image (home_place b.plan n) b.plan n)
   saved_read {n} lt = read_at image b.plan b.header.generation b.directory n lt ∙ ap (frame_from b.plan.geometry n) (lies_home n)
 
-  -- only an object is a page
+  -- a number with a page's role has an object
   page_known : {n : ℕ} → (frame_at (frames_read image b.plan b.header.generation b.directory) n).header.role ≡ role.Page →
       n < count_of b.plan
   page_known {n} page = grind (arith, nat_tests, get_or_past, length_read)

@@ -166,7 +166,7 @@ next_low so_far few lt = subst (λ (x : Books). x.moved < x.header.entries) (sym
 move_left : {entries m count some : ℕ} → m ≤ entries → IsLesser some count (entries - m) → entries - (m + some) ≡ entries - m - count
 move_left few lesser = ⊎_elim (λ e. omega (arith, e, few)) (λ e. omega (arith, e, few, lesser.0)) lesser.2
 
--- the device failed while some went home
+-- the device failed while some frames were copied home
 pub migrates_part : {T E U F : Type 0} {old mid : Disk} {a b : Books} {count k : ℕ} {e : E} {r : Result U F} → IsDurable mid b →
     IsSoundOn old a → MovedBy old mid a b k → IsErr r → Counts {T = T} old mid (Err e) → Migrates old mid a b count r
 migrates_part {T} {E} {U} {F} {old} {mid} {a} {b} {count} {k} {e} {r} stands sound so_far failed counts = grind (arith, nat_tests)
@@ -190,7 +190,7 @@ module _ {old mid : Disk} {a b : Books} {count some : ℕ} (few : a.moved ≤ a.
   migrates_left {T} {E} {value} stands sound why none =
       let same : b.header.entries ≡ a.header.entries = ap (λ (x : Books). x.header.entries) so_far.books in grind (arith, nat_tests)
 
-  -- all is home
+  -- all frames are home
   module _ (all : b.moved ≡ b.header.entries) where
     all_old : a.moved + some ≡ a.header.entries
     all_old = subst (λ (x : Books). x.moved ≡ x.header.entries) so_far.books all

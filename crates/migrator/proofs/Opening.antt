@@ -58,7 +58,7 @@ spelt_more image p age generation es k below here n lt = elim (cases_lt n k) [
 
 -- ---- why an image is refused
 
--- the frame of some object is none
+-- the frame of some object is malformed
 pub bad_frame : {image : Image} {size : ℕ} {p : Plan} {h : CheckpointHeader} {es : List Entry} {n : ℕ} (e : OpenFault) →
     HasPlan image size p → HasHeader image p h → HasDirectory image p h es → n < count_of p → IsBadAt image p h es n e →
     IsBadFor image size e
@@ -115,7 +115,7 @@ module _ (old new : Disk) (b : Books) (reads : ReadsOnly old new) where
   fetched_goes_on : GoesOnSeen old new b b
   fetched_goes_on = grind (arith, nat_tests, seen, leaves_weaker, holds)
 
--- nothing changes in what is stored
+-- a read changes nothing that is stored
 pub read_stays : {old new : Disk} {b : Books} → ReadsOnly old new → IsDurable old b → Stays old new b b
 read_stays {old} {new} {b} reads is = search (
   arith,

@@ -290,7 +290,7 @@ touches writes = record { size = writes.size; elsewhere = writes.elsewhere; cras
 whole : (at n : ℕ) (disk : Disk) (c : Image) → disk.may_leave c → IsTorn at n disk c
 whole at n disk c left = (c, left, elsewhere_same at n c c (λ i. refl))
 
--- a read touches none
+-- a read touches no sectors
 pub reads_touch : {at n : ℕ} {old new : Disk} → ReadsOnly old new → Touches at n old new
 reads_touch {at} {n} {old} {new} reads = search (arith, elsewhere_same, whole, leaves_weaker)
 

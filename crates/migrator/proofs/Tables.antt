@@ -291,7 +291,7 @@ pub blank_is : {ps : List Place} {held : List Bool} (n : ℕ) → ps ≡ replica
     IsTable ps × (held ≡ map is_held ps) × (0 ≡ taken_count ps) × (0 ≡ whole_count ps)
 blank_is {ps} {held} n is marks = grind (arith, nat_tests, blank_table, tally-blank)
 
--- no object is held
+-- no object has a slot
 pub unheld_all : (n : ℕ) → replicate n false ≡ map is_held (replicate n Nowhere)
 unheld_all zero = refl
 unheld_all (suc n) = ap (λ (bs : List Bool). false ∷ bs) (unheld_all n)

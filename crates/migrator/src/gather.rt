@@ -42,8 +42,8 @@ fn read_place<D: Device>(
     read_sectors(device, at, sectors, &mut block[..SECTOR_SIZE * sectors])
 }
 
-// Copies the frame of this shape that lies in the sectors from `at` on, beside others, into its place in a
-// block. The bytes beside it stay. The sectors are read into `scratch`.
+// Copies the frame of this shape, which shares its sectors from `at` on with others, into its place in a block. The
+// other bytes of the block stay. The sectors are read into `scratch`.
 fn copy_part<D: Device>(
     device: &mut D,
     at: u64,
@@ -69,8 +69,8 @@ fn copy_part<D: Device>(
     Ok(())
 }
 
-/// Copies the frame of this shape that lies in the sectors from `at` on into its place in a block. The
-/// bytes beside it stay. `scratch` may then hold any bytes; a run of calls clears one.
+/// Copies the frame of this shape from the sectors at `at` into its place in a block. The other bytes of the block
+/// stay. `scratch` may then hold any bytes; the caller lends it, so that a series of calls initializes only one.
 pub(crate) fn copy_place<D: Device>(
     device: &mut D,
     at: u64,
@@ -129,8 +129,7 @@ fn gather_one<D: Device>(
     copy_place(device, at, plan.shape(number), block, scratch)
 }
 
-// Fills a block with the saved frames of all that have the home of an object, and with zeros after
-// them.
+// Fills a block with the saved frames of all objects that share the home of an object, and with zeros after them.
 fn gather_all<D: Device>(
     device: &mut D,
     plan: &Superblock,
@@ -168,7 +167,7 @@ fn gather_all<D: Device>(
     Ok(())
 }
 
-// Whether the frame of an object fills its home: no other object has it.
+// Whether the frame of an object fills its home, which it then shares with no other object.
 fn is_alone(plan: &Superblock, number: u64) -> bool
     requires { IsObject plan.now.geometry number }
     ensures alone { IsTrue result → (n : ℕ) → IsObject plan.now.geometry n
@@ -185,7 +184,7 @@ fn is_alone(plan: &Superblock, number: u64) -> bool
     is_whole(plan.shape(number))
 }
 
-// Fills a block with the one saved frame that has the home of an object.
+// Fills a block with the saved frame of an object that shares its home with no other.
 fn gather_whole<D: Device>(
     device: &mut D,
     plan: &Superblock,
@@ -212,8 +211,8 @@ fn gather_whole<D: Device>(
     gather_one(device, plan, generation, directory, number, block, scratch)
 }
 
-/// Fills a block with the saved frames of all that have the home of an object, and with zeros after
-/// them. `scratch` may then hold any bytes; a run of calls clears one.
+/// Fills a block with the saved frames of all objects that share the home of an object, and with zeros after them.
+/// `scratch` may then hold any bytes; the caller lends it, so that a series of calls initializes only one.
 pub(crate) fn gather<D: Device>(
     device: &mut D,
     plan: &Superblock,

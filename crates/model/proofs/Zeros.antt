@@ -4,7 +4,7 @@ use Rattle.std.proofs.lemmas.List.{get_or-replicate, length-replicate}
 use Rattle.std.proofs.lemmas.Grind.{same_number_lists}
 use Rattle.model.specs.Words.{IsZeroFrom}
 
--- words of 0 are 0 from the start
+-- words that are all 0 are 0 from index 0 on
 pub zero_from_start : (words : List ℕ) → words ≡ replicate 512 0 → IsZeroFrom 0 words
 zero_from_start words are = (omega arith, λ i from within. ap (λ it. slice_index it i) are ∙ get_or-replicate 512 i 0 0 within)
 

@@ -16,7 +16,7 @@ use Rattle.model_laws.proofs.BankRescind.{IsClosedSet, lost_together, used_owner
 pub used_within : (os : List Object) (n : ℕ) → is_free (content_at os n) ≡ false → n < length os
 used_within os n used = grind (arith, nat_tests, get_or_past)
 
--- a set of objects that goes together, each once
+-- a set of objects that are given up together, each listed once
 pub record IsGivenUp (os : List Object) (set : List ℕ) : Type 0 where
   pub closed : IsClosedSet os set
   pub once : AllDiffer set
@@ -31,7 +31,7 @@ pub usage_given_up : (os : List Object) (set : List ℕ) → IsTree os → IsGiv
     → usage (rescind set os) x + (if above then length set else 0) ≡ usage os x
 usage_given_up os set tree h x stays above each = grind (arith, nat_tests, lost_together, given_up_within, usage_rescinded)
 
--- two numbers where a test differs
+-- two numbers are different if a test tells them apart
 pub differ_where : (test : Content Capability → Bool) (os : List Object) (m n : ℕ) → test (content_at os m) ≡ true →
     test (content_at os n) ≡ false → m ≢ n
 differ_where test os m n is isnt same = false≢true (sym isnt ∙ (ap (λ (k : ℕ). test (content_at os k)) (sym same) ∙ is))
@@ -47,7 +47,7 @@ root_no_bank c e = grind (arith, nat_tests)
 annex_no_bank : (c : Content Capability) → is_annex c ≡ true → is_bank c ≡ false
 annex_no_bank c e = grind (arith, nat_tests)
 
--- the objects that a bank frees: its own, and none of them a bank
+-- the objects that a bank frees: it owns all of them, and none is a bank
 pub record IsFreedSet (os : List Object) (b : ℕ) (set : List ℕ) : Type 0 where
   pub given_up : IsGivenUp os set
   pub owner : (n : ℕ) → is_member set n ≡ true → owner_at os n ≡ b
@@ -245,7 +245,7 @@ module _ (g : Geometry) (os : List Object) (h : IsFramed g os) (b : ℕ) (is : I
         ∙ sym apart
   ]
 
-  -- a bank and all under it can be rescinded
+  -- a bank may be rescinded together with all objects under it
   pub under_given_up : IsGivenUp os (under os b)
   under_given_up = record {
     closed = record {
@@ -267,7 +267,7 @@ module _ (g : Geometry) (os : List Object) (h : IsFramed g os) (b : ℕ) (is : I
       → usage (rescind (under os b) os) x + (if is_member (chain os (owner_at os b)) x then length (under os b) else 0) ≡ usage os x
   usage_destroyed_both x stays = grind (arith, nat_tests, usage_given_up, tree, under_given_up, under_alike)
 
--- the usage of a bank that stays where another is destroyed
+-- the usage of a bank that stays if another is destroyed
 pub usage_destroyed : (g : Geometry) (os : List Object) (b : ℕ) → IsNow g os → IsTrue (is_bank (content_at os b)) → b ≢ 0
     → (x : ℕ) → is_member (under os b) x ≡ false
     → usage (rescind (under os b) os) x ≡ usage os x - (if is_member (chain os (owner_at os b)) x then length (under os b) else 0)

@@ -105,7 +105,7 @@ module _ (os : List Object) (set : List ℕ) (tree : IsTree os) (closed : IsClos
       (λ kept. under_kept x j kept) (λ goes. under_went x j goes)
       (λ goes. ne_eqb j x (λ at. false≢true (sym stays ∙ (ap (λ (m : ℕ). is_member set m) (sym at) ∙ goes))))))
 
--- usage doesn't rise
+-- no usage rises
 usage_falls : (os : List Object) (set : List ℕ) → IsTree os → IsClosedSet os set → (x : ℕ) → is_member set x ≡ false
     → usage (rescind set os) x ≤ usage os x
 usage_falls os set tree closed x stays = omega (arith, usage_rescinded os set tree closed x stays)
@@ -209,14 +209,14 @@ module _ (os : List Object) (set : List ℕ) where
       (content_at (rescind set os) n)
   filled_rescind n h = grind (arith, nat_tests, went_object, filled_free, kept_object, filled_cleared)
 
--- sound objects are sound where a closed set is rescinded
+-- sound objects stay sound if a closed set is rescinded
 pub rescinded_now : (g : Geometry) (os : List Object) (set : List ℕ) → IsNow g os → IsClosedSet os set → IsNow g (rescind set os)
 rescinded_now g os set h closed = record {
   frame = framed_rescind g os set h.frame closed;
   filled = λ n. filled_rescind os set n (h.filled n);
 }
 
--- how much goes with a set
+-- how much usage is lost with a set
 
 -- a list of numbers of objects without repetition is as long as the number of its members
 pub count_members : (os : List Object) (set : List ℕ) → AllDiffer set → ((n : ℕ) → is_member set n ≡ true → n < length os)

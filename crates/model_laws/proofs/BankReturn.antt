@@ -19,7 +19,7 @@ use Rattle.model_laws.proofs.BankRescind.{held_as_before, rescinded_now, used_ow
 use Rattle.model_laws.proofs.BankFreed.{IsGivenUp, differ_where, freed_set, tree_induction, under_given_up, under_owner}
 use Rattle.model_laws.proofs.BankFreed.{usage_given_up}
 
--- who owns what a bank owned
+-- the owner of an object after the bank's objects were transferred
 abbrev pub heir : ℕ → ℕ → ℕ → ℕ
 heir b parent n = if n == b then parent else n
 
@@ -185,7 +185,7 @@ framed_inherited g os b h is on =
       limits = λ c bank. grind (arith, nat_tests, usage_none, usage_inherited);
     }
 
--- sound objects are sound where a bank's are transferred
+-- sound objects stay sound if a bank's objects are transferred
 pub inherited_now : (g : Geometry) (os : List Object) (b : ℕ) → IsNow g os → IsTrue (is_bank (content_at os b)) → b ≢ 0 →
     IsNow g (inherited os b)
 inherited_now g os b h is on =
@@ -227,7 +227,7 @@ alone_given_up g os b h is on =
       used_where,
     )
 
--- sound objects are sound where a bank is returned
+-- sound objects stay sound if a bank is returned
 pub returned_now : (g : Geometry) (os : List Object) (b : ℕ) → IsNow g os → IsTrue (is_bank (content_at os b)) → b ≢ 0 →
     IsNow g (rescind (b ∷ []) (inherited os b))
 returned_now g os b h is on = rescinded_now g (inherited os b) (b ∷ []) (inherited_now g os b h is on)
@@ -261,14 +261,14 @@ returned_fits g os b h is on x differ = omega (arith, usage_returned_both g os b
 
 -- outcomes
 
--- an outcome that gives nothing
+-- an outcome that gives no capability
 void_keeps : (g : Geometry) (os : List Object) (written : List ℕ) → IsNow g os → IsOutcome g (made os written Void)
 void_keeps g os written h = grind (arith, nat_tests)
 
 module _ (g : Geometry) (os : List Object) (b : ℕ) (args : Arguments) (h : IsNow g os) (is : IsTrue (is_bank (content_at os b)))
     (fits : AreArguments os args)
   where
-    -- a free keeps sound objects sound
+    -- freeing an object keeps sound objects sound
     pub freed_keeps : IsOutcome g (on_bank g os b bank.Free args)
     unfolding on_bank
     freed_keeps = go (freed_by os args.capability) refl

@@ -29,7 +29,7 @@ contains_more x y xs h = (suc h.0, omega (arith, h.1), h.2)
 pub member_tail : (x b : ℕ) (xs : List ℕ) → x ≢ b → is_member (b ∷ xs) x ≡ is_member xs x
 member_tail x b xs differ = ap (λ t. t || is_member xs x) (ne_eqb x b differ)
 
--- the first is a member
+-- the first number of a list is a member
 pub member_head : (x b : ℕ) (xs : List ℕ) → x ≡ b → is_member (b ∷ xs) x ≡ true
 member_head x b xs same = ap (λ t. t || is_member xs x) (eq-eqb x b same)
 
@@ -113,7 +113,7 @@ module _ (os : List Object) (t : IsTree os) where
         ]
       ]
 
-  -- a chain of a bank has banks alone
+  -- a chain of a bank contains only banks
   pub chain_banks : (b x : ℕ) → IsTrue (is_bank (content_at os b)) → is_member (chain os b) x ≡ true → IsTrue (is_bank (content_at os x))
   chain_banks b x is member = chain_climbs (λ c. IsTrue (is_bank (content_at os c))) (λ c bank on here. owner_bank c bank) b x is is member
 
@@ -121,7 +121,7 @@ module _ (os : List Object) (t : IsTree os) where
   pub chain_longer : (b : ℕ) → IsTrue (is_bank (content_at os b)) → b ≢ 0 → length (chain os b) ≡ suc (length (chain os (owner_at os b)))
   chain_longer b is on = ap (λ (xs : List ℕ). length xs) (chain_unfolds b is on)
 
-  -- a chain has a bank
+  -- no chain is empty
   pub chain_nonempty : (b : ℕ) → IsTrue (is_bank (content_at os b)) → 1 ≤ length (chain os b)
   chain_nonempty b is = grind (arith, nat_tests)
 
@@ -136,7 +136,7 @@ module _ (os : List Object) (t : IsTree os) where
       chain_climbs (λ c. length (chain os c) ≤ length (chain os b)) (λ c bank on here. omega (arith, here, chain_longer c bank on)) b x is
       (omega arith) member
 
-  -- no bank is twice in a chain
+  -- no bank occurs twice in a chain
   pub chain_once : (b : ℕ) → IsTrue (is_bank (content_at os b)) → b ≢ 0 → is_member (chain os (owner_at os b)) b ≡ false
   chain_once b is on = grind (arith, nat_tests, chain_longer, chain_shorter, owner_bank)
 
@@ -185,7 +185,7 @@ module _ (os : List Object) (n b : ℕ) (c : Content Capability) (t : IsTree os)
   pub chain_new_bank : IsTrue (is_bank c) → chain (with_new os n b c) n ≡ n ∷ chain os b
   chain_new_bank is = grind (arith, nat_tests, chain_below, bank_not_free, at_new, chain_new)
 
-  -- the banks are a tree still
+  -- the banks are still a tree
   pub tree_new : IsTree (with_new os n b c)
   tree_new = record {
     unowned = λ x gone. grind (arith, nat_tests, at_new, at_other);

@@ -20,7 +20,7 @@ module _ (os : List Object) (n b : ℕ) (c : Content Capability) (t : IsTree os)
   under_kept : (x y : ℕ) → y ≢ n → is_under (with_new os n b c) x (object_at (with_new os n b c) y) ≡ is_under os x (object_at os y)
   under_kept x y differ = grind (arith, nat_tests, at_other, kept_chain)
 
-  -- nothing is under a free number
+  -- nothing is under the new number before
   under_none : (y : ℕ) → is_under os n (object_at os y) ≡ false
   under_none y = grind (arith, nat_tests, bank_not_free, chain_banks)
 
@@ -47,7 +47,7 @@ module _ (os : List Object) (n b : ℕ) (c : Content Capability) (t : IsTree os)
             ])),
       )
 
-  -- a new bank has used nothing
+  -- a new bank has usage 0
   pub usage_new_bank : IsTrue (is_bank c) → usage (with_new os n b c) n ≡ 0
   unfolding usage
   usage_new_bank is =

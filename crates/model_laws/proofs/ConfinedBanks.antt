@@ -24,13 +24,13 @@ use Rattle.model_laws.proofs.Kept.{kept_refl, stays_refl, stays_rescind, stays_t
 abbrev pub OutcomeStays : (ℕ → Bool) → List Object → OrderOutcome → Type 0
 OutcomeStays inside os o = StaysWithin inside os o.objects × StaysInside inside o.capability
 
--- a content that has authority over members alone
+-- a content that has authority only over members
 record IsFresh (inside : ℕ → Bool) (c : Content Capability) : Type 0 where
   annex : is_root c ≡ true → IsTrue (inside (root_in c).annex)
   slots : (i : ℕ) → StaysInside inside (slice_index_or (slots_in c) i Void)
   space : StaysInside inside (root_in c).space
 
--- contents that hold nothing
+-- contents without capabilities
 fresh_page : (inside : ℕ → Bool) → IsFresh inside new_page
 fresh_page inside = record { annex = λ e. cc; slots = λ i. inl tt; space = inl tt }
 
@@ -95,7 +95,7 @@ module _ (g : Geometry) (inside : ℕ → Bool) (os : List Object) (h : IsNow g 
     ];
   }
 
-  -- the number of an object that is free
+  -- whether the number is free
   abbrev IsUnused : ℕ → Type 0
   IsUnused n = (n < length os) × IsTrue (is_free (content_at os n))
 
@@ -161,7 +161,7 @@ module _ (g : Geometry) (inside : ℕ → Bool) (os : List Object) (h : IsNow g 
         | inr later ↦ owner_inside c (used_where is_bank refl (content_at os c) bank) (above later)
       ])
 
-  -- all that is under a bank inside is inside
+  -- all objects under a member bank are members
   under_inside : (b : ℕ) → IsTrue (inside b) → (n : ℕ) → is_member (under os b) n ≡ true → IsTrue (inside n)
   under_inside b is n e = elim (or_cases (n == b) (is_under os b (object_at os n)) (under_found os b n e).1) [
     | inl same ↦ ap inside (eqb-true n b same) ∙ is
@@ -248,7 +248,7 @@ module _ (g : Geometry) (inside : ℕ → Bool) (os : List Object) (h : IsNow g 
           inl tt,
         ))
 
--- if the argument of an order of a bank of the set stays in the set, so does the outcome
+-- if the arguments of an order of a member bank stay in the set, so does the outcome
 pub bank_stays : (g : Geometry) (inside : ℕ → Bool) (os : List Object) (b : ℕ) (requested : BankOrder) (args : Arguments) → IsNow g os
     → IsTrue (is_bank (content_at os b)) → IsTrue (inside b) → NamesItsKind os args.capability → StaysInside inside args.capability →
     Encloses inside os

@@ -14,7 +14,7 @@ use Rattle.model.specs.declared.order.ProcessOrder.TheVariants as process
 use Rattle.model_laws.proofs.ConfinedBanks.{OutcomeStays, bank_stays}
 use Rattle.model_laws.proofs.Kept.{stays_consume, stays_refl, stays_root, stays_slot, stays_state, stays_trans, stays_word}
 
--- objects that nothing is done to, and a capability that stays
+-- an outcome that leaves the objects unchanged and gives a capability that stays inside
 still : (inside : ℕ → Bool) (os : List Object) (c : Capability) → Encloses inside os → StaysInside inside c
     → StaysWithin inside os os × StaysInside inside c
 still inside os c h stays = (stays_refl inside os h, stays)
@@ -101,7 +101,7 @@ process_stays inside os p which args h is root sent = grind (arith, nat_tests, c
 pub strong : (inside : ℕ → Bool) (n : ℕ) → ⊥ ⊎ IsTrue (inside n) → IsTrue (inside n)
 strong inside n is = grind (arith, nat_tests)
 
--- an order on what stays inside stays in the set
+-- an order on a capability that stays inside stays in the set
 pub order_stays : (g : Geometry) (inside : ℕ → Bool) (os : List Object) (c : Capability) (w : ℕ) (args : Arguments) → IsNow g os →
     Encloses inside os → IsHeld os (Waits os) c → StaysInside inside c → NamesItsKind os args.capability →
     StaysInside inside args.capability

@@ -92,12 +92,12 @@ along_inside inside os h (Space o k a) (slot ∷ slots) found stays e full =
     subst (λ n. IsTrue (inside n)) (sym b.same) (along_inside inside os h c slots b.next stays_there b.is full_there)
 along_inside inside os h c slots found stays e full = cc
 
--- a test that is passed on the way to what is found
+-- a test that holds on the way to the page that is found
 if_found : (b : Bool) (r : Result (ℕ × Access) MemoryFault) (why : MemoryFault) (found : ℕ × Access) →
     (if b then r else Err why) ≡ Ok found → r ≡ Ok found
 if_found b r why found e = grind (arith, nat_tests)
 
--- a walk from what stays inside to a writable page ends at a member
+-- a walk to a writable page, from a capability that stays inside, ends at a member
 walk_inside : (inside : ℕ → Bool) (os : List Object) → IsClosed os inside → (c : Capability) (index : ℕ) (found : ℕ × Access)
     → StaysInside inside c → walk os c index ≡ Ok found → found.1.0 ≡ 0 → IsTrue (inside found.0)
 unfolding walk
@@ -149,7 +149,7 @@ written s address value found = elim found [
   | Err why ↦ outcome (answer.MemoryFault why) s
 ]
 
--- a word more, and the world stays sound
+-- a world stays sound with another word in a page
 word_sound : (g : Geometry) (os : List Object) (age n i w : ℕ) → IsSound g (record { objects = os; age = age }) → w < 2 ^ 64
     → IsSound g (record { objects = with_word os n i w; age = age })
 word_sound g os age n i w sound fits =
@@ -175,7 +175,7 @@ store_keeps g inside os s p address value (Ok page) is in_p fits h =
     }
 store_keeps g inside os s p address value (Err why) is in_p fits h = h
 
--- a turn whose line says such a command, or none
+-- a turn whose line is such a command, or no command
 abbrev IsTurnBy : (ℕ → Bool) → Turn → Type 0
 IsTurnBy inside t = (l : Line) → Says t.line l → IsLineBy inside l
 

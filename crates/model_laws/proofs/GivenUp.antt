@@ -38,7 +38,7 @@ pub rescinded_given_up : (set : List ℕ) (os : List Object) → ((n : ℕ) → 
     → (n : ℕ) → is_given_up os (rescind set os) n ≡ is_member set n
 rescinded_given_up set os used n = grind (arith, nat_tests, free_rescinded)
 
--- a new object takes no place of another
+-- a new object replaces no object in use
 pub new_used : (os : List Object) (n b : ℕ) (c : Content Capability) → is_free c ≡ false → (m : ℕ) → is_free (content_at os m) ≡ false →
     is_free (content_at (with_new os n b c) m) ≡ false
 unfolding with_new
@@ -65,7 +65,7 @@ module _ (os : List Object) (n : ℕ) where
       GivesUp os n list (freed os b list)
   freed_gives b list used = grind (arith, nat_tests, by_none, one_of, rescinded_given_up)
 
-  -- the end of another bank than the prime bank
+  -- destroying or returning a bank other than the prime bank
   ended_gives : (b : ℕ) (vs : List Object) (set written : List ℕ) → (b ≢ 0 → (m : ℕ) → content_at vs m ≡ content_at os m)
       → (b ≢ 0 → (m : ℕ) → is_member set m ≡ true → is_free (content_at os m) ≡ false)
       → GivesUp os n set (if b == 0 then refused os code.PrimeBank else made (rescind set vs) written Void)

@@ -4,7 +4,7 @@ use Rattle.model_laws.proofs.Names.{range_with_len, false≢true, cases_eq, eq-e
 use Rattle.std.proofs.Common.{◌≡◌, ◌≢◌, ◌⊎◌, ◌+◌, ◌<◌, ◌≤◌, ◌∷◌, ◌∙◌}
 use Rattle.model_laws.proofs.BankTree.{member_head}
 
--- no number is twice in a list
+-- no number occurs twice in a list
 abbrev pub AllDiffer : List ℕ → Type 0
 AllDiffer [] = Unit {0}
 AllDiffer (n ∷ ns) = (is_member ns n ≡ false) × AllDiffer ns
@@ -15,7 +15,7 @@ member_cases m ms n e = elim (or_cases (nat_eq n m) (is_member ms n) e) [ inl sa
 pub no_member : (m : ℕ) (ms : List ℕ) (n : ℕ) → n ≢ m → is_member ms n ≡ false → is_member (m ∷ ms) n ≡ false
 no_member m ms n other none = or_from (nat_eq n m) (is_member ms n) (ne_eqb n m other) none
 
--- the one member of a list of one
+-- the only member of a list of one number
 pub only_member : (o n : ℕ) → is_member (o ∷ []) n ≡ true → n ≡ o
 only_member o n e = elim (member_cases o [] n e) [ inl same ↦ same | inr later ↦ absurd (false≢true later) ]
 

@@ -8,7 +8,7 @@ use Rattle.model_laws.proofs.Cases.{chosen, one_of}
 use Rattle.model_laws.proofs.SoundEdits.{object_consume}
 
 module _ (goes : Capability → Bool) (void_stays : goes Void ≡ false) where
-  -- a capability that goes is put void
+  -- such a capability is made void
   gone : (c : Capability) → goes (void_where goes c) ≡ false
   gone c = chosen (λ k. goes k ≡ false) (goes c) Void c (λ _. void_stays) (λ e. e)
 

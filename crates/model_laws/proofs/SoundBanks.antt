@@ -179,7 +179,7 @@ spare_body_at : (os : List Object) (b count x : ℕ) → has_quota os b count �
 unfolding has_quota
 spare_body_at os b count x room member = grind (arith, nat_tests, member_passes)
 
--- a number in a range that is free
+-- a free number within a range
 abbrev IsFreeWithin : List Object → ℕ → ℕ → ℕ → Type 0
 IsFreeWithin os from count n = (from ≤ n) × (n < from + count) × IsTrue (is_free (content_at os n))
 
@@ -449,7 +449,7 @@ module _ (g : Geometry) (os : List Object) (b : ℕ) (args : Arguments) (h : IsN
               names = ap (λ (o : Object). is_root o.content) (root_there g os p a b h is differ root_inside annex_inside root.2 annex.0.2);
             })
 
-    -- the least isn't above the first
+    -- the least number isn't greater than the first
     least_below : (n : ℕ) (ms : List ℕ) → least n ms ≤ n
     least_below n [] = omega arith
     least_below n (m ∷ ms) = omega (arith, least_below (min n m) ms)

@@ -180,7 +180,7 @@ edited_root g W os p r h fits e = record {
   ];
 }
 
--- a content with each capability changed, where what is held is held then
+-- contents with each capability changed, if the changed ones may be held
 
 module _ (os us : List Object) (W V : ℕ → Type 0) (f : Capability → Capability) (void : f Void ≡ Void)
     (held : (c : Capability) → IsHeld os W c → IsHeld us V (f c)) (space : (c : Capability) → IsSpace c → IsSpace (f c)) where
@@ -190,7 +190,7 @@ module _ (os us : List Object) (W V : ℕ → Type 0) (f : Capability → Capabi
   pub filled_map : (c : Content Capability) → IsFilled os W c → IsFilled us V (map_content f c)
   filled_map c h = grind (arith, nat_tests, length-map, slots_map, held_void, at_map)
 
--- a consumed resume capability
+-- consuming a resume capability
 
 pub object_consume : (p : ℕ) (os : List Object) (n : ℕ) → object_at (consume p os) n ≡ without (resumes p) (object_at os n)
 unfolding consume

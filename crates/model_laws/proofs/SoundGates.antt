@@ -24,7 +24,7 @@ running_is_not_waiting s p q = grind (arith, nat_tests)
 other_than_running : (os : List Object) (p x : ℕ) → IsTrue (is_running (state_at os p)) → Waits os x → x ≢ p
 other_than_running os p x runs waits e = running_is_not_waiting (state_at os p) runs (subst (λ k. Waits os k) e waits)
 
--- objects where a running process goes into another state
+-- objects after a running process changed its state
 pub record IsAfter (g : Geometry) (os us : List Object) : Type 0 where
   pub frame : SameFrame os us
   pub now : IsNow g us
@@ -80,7 +80,7 @@ pub record IsMessage (os : List Object) (W : ℕ → Type 0) (m : Message) : Typ
   pub key : m.key < 2 ^ 16
   pub held : (j : ℕ) → IsHeld os W (get_or m.capabilities j Void)
 
--- objects where a process is running
+-- objects after a process was started
 pub record IsStarted (g : Geometry) (W : ℕ → Type 0) (os : List Object) (p : ℕ) (us : List Object) : Type 0 where
   pub sound : IsNearlySound g W us
   pub others : (q : ℕ) → q ≢ p → state_at us q ≡ state_at os q
@@ -130,7 +130,7 @@ pub held_sent : (g : Geometry) (os : List Object) (i : Invocation) (j : ℕ) →
     IsHeld os (Waits os) (get_or (sent_by os i) j Void)
 held_sent g os i j h = held_map os (Waits os) (register_at os i.process) i.sent j (λ r. (h.filled (annex_at os i.process)).slots r)
 
--- the invoker after the operation through a gate, and what the gate receives, by the operation
+-- the invoker after the operation through a gate, and what the gate receives
 abbrev gate_state : List Object → ℕ → Operation → List Object
 gate_state os p Call = with_state os p Waiting
 gate_state os p Return = with_state os p Available
@@ -175,7 +175,7 @@ gate_keeps g os i q key h fits runs is small =
     a.now
     ((tests_at os (after_gate os i) a.frame q).root ∙ is) (gate_message g os i key h fits runs small)
 
--- a process that can be started doesn't wait
+-- a process that may be started doesn't wait
 startable_idle : (os : List Object) (p q : ℕ) (o : Operation) → IsTrue (is_running_process os p)
     → (is_available (state_at os q) || (is_return o && (p == q))) ≡ true → Waits (gate_state os p o) q → ⊥
 startable_idle os p q o runs can waits = grind (arith, nat_tests, state_other, state_same)

@@ -118,7 +118,7 @@ root_shape : (c : Content Capability) → IsTrue (is_root c) → HasShape c
     → (length (root_in c).words ≡ 4) × ((i : ℕ) → slice_index (root_in c).words i < 2 ^ 64) × ((root_in c).key < 2 ^ 16)
 root_shape c is h = grind (arith, nat_tests)
 
--- the root of a process fits it
+-- the root of a process is valid for it
 pub root_now : (g : Geometry) (W : ℕ → Type 0) (os : List Object) (p : ℕ) → IsNearlySound g W os → IsTrue (is_process os p) →
     IsRootOf os W p (root_at os p)
 root_now g W os p h is =
@@ -153,7 +153,7 @@ pub state_other : (os : List Object) (p q : ℕ) (s : State) → q ≢ p → sta
 unfolding with_state
 state_other os p q s differ = ap (λ (r : Root Capability). r.state) (root_other os p q _ differ)
 
--- a process that is resumed no more may do anything
+-- after its resume capabilities were consumed, a process may have any state
 consumed_now : (g : Geometry) (os : List Object) (p : ℕ) (s : State) → IsNow g os → IsTrue (is_process os p) →
     IsNow g (consume p (with_state os p s))
 consumed_now g os p s h is =

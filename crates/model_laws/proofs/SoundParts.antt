@@ -32,7 +32,7 @@ pub record IsFilled (os : List Object) (W : ℕ → Type 0) (c : Content Capabil
   pub space : IsHeld os W (root_in c).space
   pub is_space : IsSpace (root_in c).space
 
--- the part of soundness that the frame decides
+-- the part of soundness that depends on the frame
 pub record IsFramed (g : Geometry) (os : List Object) : Type 0 where
   pub size : length os ≡ object_count g
   pub kinds : (n : ℕ) → IsOfKind g n (content_at os n)
@@ -46,7 +46,7 @@ pub record IsFramed (g : Geometry) (os : List Object) : Type 0 where
   pub chains : (b : ℕ) → IsTrue (is_bank (content_at os b)) → Contains (chain os b) 0
   pub limits : (b : ℕ) → IsTrue (is_bank (content_at os b)) → usage os b ≤ limit_in (content_at os b)
 
--- objects that are sound but for which processes may be resumed
+-- objects that are sound, except for which processes may be resumed
 pub record IsNearlySound (g : Geometry) (W : ℕ → Type 0) (os : List Object) : Type 0 where
   pub frame : IsFramed g os
   pub filled : (n : ℕ) → IsFilled os W (content_at os n)

@@ -146,7 +146,7 @@ not_read key d rest whole old (fault.Twice word) so_far (n, is_n, twice) = λ ns
     let none : has it.first.number old ≡ false = once_apart ns old (numbers it.more) it.first.number are.1 it.numbers_are in
     true≢false (sym twice ∙ (sym (ap (λ (j : ℕ). has j old) same) ∙ none)))
 
--- The same of the entries that an iterator has left.
+-- The same for the entries that an iterator has left.
 
 pub read_more : (before rest : List (String Global × Value)) (key : String Global) (value : Value) (whole : Members) (old new : List Name) →
     before ≡ (key, value) ∷ rest → IsReadTo (members_view before) whole old → Adds (string_bytes key) (view value) old new →

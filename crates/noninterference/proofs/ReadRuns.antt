@@ -59,7 +59,7 @@ module _ (trusted inside : ℕ → Bool) (os us : List Object) (h : Link trusted
       (along_inside c slots b.0 (h.left.slots o slot (member trusted inside os us h o stays)) b.1)
   along_inside c slots found stays e = cc
 
-  -- a test that is passed on the way to what is found
+  -- a test that holds on the way to the page that is found
   if_found : (b : Bool) (r : Result (ℕ × Access) MemoryFault) (why : MemoryFault) (found : ℕ × Access) →
       (if b then r else Err why) ≡ Ok found → r ≡ Ok found
   if_found b r why found e = grind (arith, nat_tests)
@@ -137,7 +137,7 @@ written s address value found = elim found [
   | Err why ↦ outcome (answer.MemoryFault why) s
 ]
 
--- a word more, and the world stays sound
+-- a world stays sound with another word in a page
 word_sound : (g : Geometry) (os : List Object) (age n i w : ℕ) → IsSound g (record { objects = os; age = age }) → w < 2 ^ 64
     → IsSound g (record { objects = with_word os n i w; age = age })
 word_sound g os age n i w sound fits =
@@ -296,7 +296,7 @@ module _ (g : Geometry) (trusted inside : ℕ → Bool) (s q : Running) (h : IsL
       (store_refusal q (writable r))))
       (written q address value (writable r))) (reached_same trusted inside s.now.objects q.now.objects h.link p address in_p) second))
 
--- a command that a member's line says
+-- a command on a member's line
 abbrev LooksIn : (ℕ → Bool) → Running → Command → Type 0
 LooksIn inside s (command.Invoke i) = looks_outside inside (register_at s.now.objects i.process i.register) (slice_index i.words 0) ≡ false
 LooksIn inside s _ = Unit {0}
@@ -345,7 +345,7 @@ down_reply g inside line.Bad m reply after down by replies = subst IsDown (sym r
 down_reply g inside (line.Command c) (Up s) reply after down by replies = absurd down
 down_reply g inside (line.Command c) (Down saved) reply after down by replies = down_step g inside saved c replies.0 after by replies.2
 
--- turns whose lines say such commands, or none
+-- turns whose lines are such commands, or no command
 abbrev IsTurnBy : (ℕ → Bool) → Turn → Type 0
 IsTurnBy inside t = (l : Line) → Says t.line l → IsLineBy inside l
 

@@ -101,7 +101,7 @@ module _ {s : Stored} {m : Memory} {all : Bool} {left count : ℕ} (is : IsCache
 module _ {D : Type 0} (disk : D → Disk) (d : DurableState D) {m : Memory} (left : ℕ) (order : List ℕ) (most_entries : ℕ)
     {es : List (Option Entry)} {n : ℕ}
     (change : Recaches (stored_of disk d) m es n) where
-  -- all that is seen but for which numbers have entries and what entries have of the frozen frames
+  -- only which numbers have entries, and which frozen bodies these have, differs
   pub seen_cached : {rs : List Bool} {x : List FrozenState} → cached_in es ≡ rs → frozen_states_in (with_objects m m.headers es) ≡ x →
       cache_of disk d (with_objects m m.headers es) left order most_entries ≡ record
       (cache_of disk d m left order most_entries) { cached = rs; frozen_state = x }

@@ -10,7 +10,7 @@ use Rattle.std.proofs.Common.{◌≡◌, ◌∙◌, ◌<◌, ◌≤◌, ◌↔�
 use Rattle.object_cache.proofs.Outcomes.{IsNext, continues_with}
 use Rattle.model.specs.declared.answer.Refusal.TheVariants as refusal
 
--- an error says nothing of success
+-- if a call failed, there is nothing to prove about success
 pub no_ok : {T E : Type 0} (r : Result T E) (P : Type 0) (Q : E → Type 0) → IsErrAnd r Q → OnOk r P
 no_ok (Ok x) P Q failed = absurd failed
 no_ok (Err e) P Q failed = tt
@@ -39,7 +39,7 @@ module _ {D : Type 0} where
   away_on s t u n put is = search arith
 
 module _ {D : Type 0} {disk : D → Disk} where
-  -- nothing was done
+  -- no step was made
   pub moves_none : {like : StoreState D → StoreState D → StoreState D} {T E : Type 0} {x : T} →
       ((d : D) (c : Image) → (disk d).left_since (disk d).moment c → (disk d).may_leave c) → (s : StoreState D) → s ≡ like s s →
       Moves {E = E} disk like s s (Ok x)
@@ -57,7 +57,7 @@ module _ {D : Type 0} {disk : D → Disk} where
       Moves disk like s (cache_of disk d m left order most_entries) r
   moves_next {like} {s = s} next same r cause = record { rest = as_like like s next.view same; continues = next.continues; cause = cause }
 
-  -- entries may be others too
+  -- the same with other cached entries
   pub moves_more : {s t : StoreState D} {T E : Type 0} {r : Result T E} → Moves disk on_device s t r → Moves disk on_device_with s t r
   moves_more {s} moves = record { rest = as_like on_device_with s moves.rest refl; continues = moves.continues; cause = moves.cause }
 
@@ -118,7 +118,7 @@ module _ {D : Type 0} {s t : StoreState D} where
         (subst (λ g. AreKeepable g most (frames_in s.headers s.contents)) (ap (λ a. a.saved.geometry) (sym goes.snapshots)) keepable)
 
 module _ {D : Type 0} where
-  -- numbers were announced, or not
+  -- numbers were announced, or the announcement was refused
   readied_on : (s t u : StoreState D) → t ≡ record s { frozen_state = t.frozen_state } → u ≡ readied t u → u ≡ readied s u
   readied_on s t u apart is = is ∙ ap (λ x. readied x u) apart
 
@@ -164,7 +164,7 @@ module _ {D : Type 0} {disk : D → Disk} {s t : StoreState D} {all : Bool} (som
     continues = continues_some moves.continues;
   }
 
--- numbers were announced, or not
+-- numbers were announced, or the announcement was refused
 module _ {D : Type 0} {disk : D → Disk} {s t : StoreState D} {all : Bool} (rest : t ≡ readied s t) (goes : GoesOnIn disk s t) where
   pub prepares_by : {T : Type 0} (r : Result T Refusal) {ws : List ℕ} → OnOk r (t.touched ≡ touching s.touched ws) →
       OnErr r (t.touched ≡ s.touched) → touched_count s.touched ≤ (stored_of disk s.durable).saved.geometry.log →

@@ -20,7 +20,7 @@ use Rattle.object_cache.proofs.Caching.{no_entry, cached_next}
 front_within : (k j n : ℕ) (xs : List ℕ) → k ≤ j → is_member (take k xs) n ≡ true → is_member (take j xs) n ≡ true
 front_within k j n xs few is = in_front k (take j xs) n (ap (λ ns. is_member ns n) (take-take k j xs few) ∙ is)
 
--- taking a number out of the order brings no other further back
+-- removing a number from the order moves no other one back
 front_without : (n m k : ℕ) (ns : List ℕ) → m ≢ n → is_member (take k ns) m ≡ true → is_member (take k (without n ns)) m ≡ true
 front_without n m zero ns other is = absurd (true≢false (sym is))
 front_without n m (suc k) [] other is = is

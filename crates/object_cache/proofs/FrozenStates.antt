@@ -1,4 +1,4 @@
--- What cache entries have of unwritten frozen frames, and which numbers have an entry.
+-- Which bodies of unwritten frozen frames cache entries have, and which numbers have an entry.
 use Rattle.object_cache.proofs.Names.{ℕ, zero, suc, Bool, true, false, List, [], length, set, take, Option, Some, None, IsSome, is_some, option_map, sym, ap}
 use Rattle.object_cache.proofs.Names.{arith, slice_get, get_or-set_other, cases_eq, none-some, same_Some, Cap, Content, is_member, Disk, DurableState}
 use Rattle.object_cache.proofs.Names.{stored_of, entry_at, kept_of, frozen_state_by, Memory, Nothing, mark_at, frozen_state_of, AreOrdered, used_longest_ago}

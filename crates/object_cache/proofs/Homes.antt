@@ -30,7 +30,7 @@ module _ (s : Stored) (m : Memory) where
   unfolding frozen_in
   frozen_home b k = search arith
 
-  -- the numbers of the checkpoint are no matter
+  -- the generation, the entries and the age of the checkpoint don't matter
   numbered_stands : {all : Bool} (left count generation entries age k : ℕ) → IsCache all s m left count →
       IsCache all (record {
         working = s.working;

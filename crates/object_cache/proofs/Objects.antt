@@ -1,4 +1,4 @@
--- An object that is marked to be written changes: no frozen frame does, and what always holds still holds.
+-- An object that is marked to be written changes: no frozen frame changes, and the invariants still hold.
 use Rattle.object_cache.proofs.Names.{put_at, FrozenPuts, ℕ, Bool, true, false, true≢false, List, length, set, Option, Some, None, is_some, option_map, refl}
 use Rattle.object_cache.proofs.Names.{sym, ap, subst, arith, cases_eq, none-some, same_Some, Cap, ObjectHeader, Content, header_at, AreKeepable, Kept, most}
 use Rattle.object_cache.proofs.Names.{Stored, maps_same, map_set, Entry, entry_at, kept_of, Memory, mark_at, present_body, content_at, present_at, newest_body}

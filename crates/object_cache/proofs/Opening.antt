@@ -1,4 +1,4 @@
--- A store is made over a device that was opened: all objects are as they are saved.
+-- A store is made over a device that was opened: all objects are the saved ones.
 use Rattle.object_cache.proofs.Names.{inl, inr, ℕ, Bool, false, true≢false, List, [], length, replicate, Option, None, option_map, refl, sym, ap, subst, arith}
 use Rattle.object_cache.proofs.Names.{get_or-map, cases_lt, ext_get_or, get_or_past, length-map, length-replicate, none-some, Frame, ObjectHeader, blank_frame}
 use Rattle.object_cache.proofs.Names.{frame_at, frames_in, header_at, headers, untouched, object_count, Image, Disk, Absent, put_at, SavedFrames, Holds}
@@ -114,7 +114,7 @@ one_inserted e k count are below c = record {
       ∙ are.later n (omega (arith, past));
 }
 
--- a number more has no frozen copy
+-- one more number has no frozen copy
 pub dropped_one : (e : EntriesState) (k : ℕ) → is_some (entry_at e.at k) ≡ true → k < length e.at →
     ((n : ℕ) → n < k → IsUnkept (entry_at e.at n)) →
     (n : ℕ) → n < k + 1 → IsUnkept (entry_at (with_entry dropping k e.at) n)

@@ -1,4 +1,4 @@
--- What always holds of a cache, and that one cache continues as another.
+-- The invariant of a cache, and how one state of a cache continues another.
 use Rattle.object_cache.proofs.Names.{arith, ℕ, Bool, List, Option, sym, ap, subst, Disk, stored_of, Held, FrozenState, StoreState, GoesOnIn, DurableState}
 use Rattle.object_cache.proofs.Names.{IsCache, Memory, cache_of, true, false, Result, None, option_map, none-some, Counts, Ok, Err, counted_ok, ok_counts}
 use Rattle.object_cache.proofs.Names.{err_counts, err_from_is_err_and, is_err, IsErrAnd}

@@ -136,7 +136,7 @@ module _ {s : Stored} {m : Memory} {all : Bool} {left count : ℕ} (is : IsCache
         rest.entry_count ∙ is.entries,
       )
 
--- nothing is pending of a number that was put
+-- an object whose frozen frame was written has the state `Nothing`
 pub state_put : (m : Memory) (n : ℕ) (es : List (Option Entry)) (staging : Option Held) → n < length m.headers → n < length m.pending →
     ((k : ℕ) → k ≢ n → entry_at es k ≡ entry_at m.entries k) →
     frozen_states_in (with_pending m (set m.pending n false) es staging) ≡ set (frozen_states_in m) n Nothing
@@ -161,7 +161,7 @@ released_others staging n k c other = search (arith, cases_eq, eq-eqb, ne_eqb)
 pub released_of : (staging : Option Held) (n : ℕ) (h : Held) → released n staging ≡ Some h → (h.number ≢ n) × (staging ≡ Some h)
 released_of staging n h is = search (arith, none-some, cases_eq, eq-eqb, ne_eqb, same_Some)
 
--- nothing is kept apart any more
+-- an entry without its frozen copy
 abbrev pub dropping : Entry → Entry
 dropping e = record e { kept = None }
 

@@ -88,7 +88,7 @@ module _ {D : Type 0} (disk : D → Disk) {s : DurableState D} (sound : is_sound
   journals_as {t = t} {g = g} {r = r} h_is k_is is =
       subst (λ x. JournalsPage disk s t es g x n age r) k_is (subst (λ x. JournalsPage disk s t es x is_known n age r) h_is is)
 
-  -- nothing that is stored changed
+  -- nothing that is stored has changed
   pub refuses : {t : DurableState D} {why : Refusal} {r : Result ℕ Refusal} → (e : Refusal) × (r ≡ Err e) × (e ≡ why) →
       stored_of disk t ≡ stored_of disk s → GoesOn disk s t → (IsTurnedAway (Err why) → t ≡ s) →
       IsJournalAnswer (disk s.beneath) (disk t.beneath) (option_map left_of (stored_of disk s).frozen) (stored_of disk s).saved is_known

@@ -14,7 +14,7 @@ tells_of_starts f os named starts trusted q output output_left are (Err (fault.N
 tells_of_starts f os named starts trusted q output output_left are (Err fault.NoMemory) tells = tells
 tells_of_starts f os named starts trusted q output output_left are outcome tells = (starts, are, tells)
 
--- all that are listed are processes
+-- all listed numbers are processes
 pub listed_processes : (os : List Object) (all : List ℕ) → ((n : ℕ) → Contains all n ↔ IsTrue (is_process os n)) → AreProcesses os all
 listed_processes os all each k d lt = (each (slice_index_or all k d)).0 (k, lt, get_or_default all k (slice_index_or all k d) d lt)
 

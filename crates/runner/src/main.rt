@@ -146,8 +146,7 @@ enum Mode {
     Check(Format),
 }
 
-// Runs a script over the image on a device, with a store of type `S` and a tracer, and returns the end of the
-// command.
+// Runs a script over the image on a device, with a store of type `S` and a tracer. Returns the end of the command.
 fn trace_by<D: Device, S: ObjectStore<D>, R: Read, W: Output, V: Output + Drop>(
     alloc: Global,
     device: D,
@@ -241,8 +240,7 @@ fn run_in_mode<D: Device, S: ObjectStore<D>, R: Read + Drop, W: Output, V: Outpu
     }
 }
 
-// Does what `run_in_mode` does, with the store of a policy. Only this function names a store type for `ObjectStore`,
-// since each use of one takes long to compile.
+// Does what `run_in_mode` does, with a policy's store. Only this function names that store: each use compiles slowly.
 fn run_by_policy<D: Device, P: Policy, R: Read + Drop, W: Output, V: Output + Drop>(
     rt: &HostRuntime,
     device: D,
@@ -292,8 +290,7 @@ fn open_script_and_run<D: Device>(
     }
 }
 
-// Opens an image, runs a script over it, and returns the end of the command. After `stop_after` calls the image's
-// device fails.
+// Opens an image and runs a script over it. After `stop_after` calls the device fails. Returns the command's end.
 fn open_image_and_run(
     rt: &HostRuntime,
     image: &str,
@@ -422,9 +419,8 @@ fn explain_regular<W: Output, V: Output>(
     }
 }
 
-/// Writes why a file is refused as a description or an image, and returns the end of the command. A block device may
-/// hold an image. Any other file that isn't regular, such as a FIFO, isn't opened: reading one waits until somebody
-/// writes to it.
+/// Writes why a file is refused as a description or an image. Returns the end of the command. A block device may hold
+/// an image. Any other irregular file, such as a FIFO, isn't opened: reading one waits until somebody writes to it.
 pub(crate) fn explain<W: Output, V: Output>(
     rt: &HostRuntime,
     file: &str,

@@ -8,7 +8,7 @@ use Rattle.model.specs.declared.line.Line.TheVariants as line
 use Rattle.runs.proofs.Turning.{answer_reported, left_by}
 
 module _ {D S : Type 0} (disk : D → Disk) (view : S → View D) (parts : S → Parts) where
-  -- the result that an answer is
+  -- the result for an answer
   abbrev pub IsResult : Answer → Result Answer Refusal → Type 0
   IsResult a (Ok b) = (b ≡ a) × ((why : Refusal) → a ≢ answer.Refused why)
   IsResult a (Err why) = a ≡ answer.Refused why

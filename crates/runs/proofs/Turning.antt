@@ -64,7 +64,7 @@ seen_more sees old mid new (u ∷ us) t on are seen =
     ⊎_elim (λ goes. inl (goes.0, goes.1, seen_more sees goes.0 mid new us t on goes.2 seen))
     (λ ends. let never : true ≡ false = ends.1 in cc) are
 
--- a fault of the writer is none of the reader
+-- a fault of the writer isn't one of the reader
 pub not_read : (e : RunFault) → e ≡ fault.Write → e ≢ fault.Read
 not_read e is read = let never : fault.Write ≡ fault.Read = sym is ∙ read in absurd cc
 
@@ -86,7 +86,7 @@ module _ {D S O : Type 0} (disk : D → Disk) (view : S → View D) (parts : S �
       LeavesOnly (disk_of disk view parts p) (disk_of disk view parts p) (DenotesOne g (disk_of disk view parts p).sectors (candidates m))
   here g m p stands = search (arith, nat_tests, started)
 
-  -- a line that is no command
+  -- a line without a command
   no_command : (g : Geometry) (m : Machine) (text : List ℕ) (says : Line) (p : Power D S) (before seen : O) (written wrote : Written)
       (result : Result Bool RunFault) (reply : Reply) (on : Bool) →
       Stands disk view parts g p m → Replies g says m reply m → tells_fault reply ≡ false →
@@ -148,7 +148,7 @@ module _ {D S O : Type 0} (disk : D → Disk) (view : S → View D) (parts : S �
       SoFar disk view parts sees g m p p seen seen [] line output output
   begun g m p seen line output empty stands = search (arith, nat_tests, no_lines, wrote_none)
 
-  -- a turn more
+  -- one more turn
   turns_more : (g : Geometry) (old mid new : Power D S) (ts : List Turn) (t : Turn) → AreTurnsOf disk view parts g old mid ts →
       IsTurnOf disk view parts g mid new t →
       AreTurnsOf disk view parts g old new (ts ++ t ∷ [])

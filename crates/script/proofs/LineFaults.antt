@@ -17,7 +17,7 @@ pub too_great : (word : List ℕ) → ((n : ℕ) → n < 2 ^ 64 → word ≢ dec
     (get_or word 0 0 ≡ 48 → length word ≡ 1) → 2 ^ 64 ≤ digits_value 10 word
 too_great word none digits some first = grind (arith, nat_tests, digits_are_decimal)
 
--- a zero that isn't alone
+-- a zero before other digits
 pub zero_longer : (word : List ℕ) → ((n : ℕ) → n < 2 ^ 64 → word ≢ decimal n) → 0 < length word → get_or word 0 0 ≡ 48 → 1 < length word
 zero_longer [] none some first = absurd (omega (arith, some))
 zero_longer (b ∷ []) none some first = absurd (none 0 (omega arith) (ap (λ (x : ℕ). x ∷ []) first ∙ sym (decimal_digit 0 (omega arith))))
@@ -143,7 +143,7 @@ word_is_fault k all left rest count place word why lt taken is at faulty line na
   )
   go other is = absurd is
 
--- no word is wanting
+-- no word is missing
 module _ (k : Keyword) (all left : Words) (count : ℕ) (end : length (are_registers k) ≤ count)
     (taken : Taken (are_registers k) all count left) where
   operands : AreOperands (are_registers k) taken.0

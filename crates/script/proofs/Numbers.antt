@@ -28,7 +28,7 @@ pub value_more : (digits : List ℕ) (i value : ℕ) → i < length digits → A
     → AllDigits 10 (take (i + 1) digits) × (value * 10 + (get_or digits i 0 - 48) ≡ digits_value 10 (take (i + 1) digits))
 value_more digits i value lt so_far is digit = grind (arith, nat_tests, digit_value_digit, digits_more, digits_value_more)
 
--- the digits so far are already too many
+-- the value of the digits so far is too great already
 pub value_great : (digits : List ℕ) (i value : ℕ) → i < length digits → value ≡ digits_value 10 (take i digits)
     → IsInRange 48 57 (get_or digits i 0) → (value * 10 + (get_or digits i 0 - 48) < 2 ^ 64 → ⊥) → 2 ^ 64 ≤ digits_value 10 digits
 value_great digits i value lt is digit great =

@@ -39,7 +39,7 @@ invocation_read : (o : Operation) (one two three four : Words) (process register
 unfolding arguments_at invocation_at
 invocation_read o one two three four process register words sent a b c d = rw (a, b, c, d) refl
 
--- a line that names an operation, a process, a register, four words and what is sent
+-- a line with an operation, a process, a register, four words and four registers
 pub invocation_said : (o : Operation) (line : List ℕ) (one two three four : Words) (process register : ℕ) (words : List ℕ) (sent : List ℕ)
     → words_of line ≡ operation_name o ∷ one
     → number_at one ≡ Some (process, two) → register_at two ≡ Some (register, three) → numbers_at three ≡ Some (words, four) →
@@ -80,7 +80,7 @@ void_read text at whole bytes begins ends =
     registers_read _ _ _ _ 0 0 0 0 (register_reads _ _ 0 first (omega arith)) (register_reads _ _ 0 second (omega arith))
     (register_reads _ _ 0 third (omega arith)) (register_reads _ _ 0 fourth (omega arith))
 
--- a line that names a load and two numbers
+-- a line with a load and two numbers
 pub load_said : (line : List ℕ) (one two : Words) (process address : ℕ) → words_of line ≡ keyword_name keyword.Load ∷ one
     → number_at one ≡ Some (process, two) → number_at two ≡ Some (address, [])
     → Fits (command.Load process address) × (words_of line ≡ command_words (command.Load process address))
@@ -88,7 +88,7 @@ unfolding arguments_at
 load_said line one two process address named a b = command_found _ one [] (keyword_name keyword.Load) keyword.Load _ named refl
     (rw (a, b) refl) refl
 
--- a line that names a store and three numbers
+-- a line with a store and three numbers
 pub store_said : (line : List ℕ) (one two three : Words) (process address value : ℕ) → words_of line ≡ keyword_name keyword.Store ∷ one
     → number_at one ≡ Some (process, two) → number_at two ≡ Some (address, three) → number_at three ≡ Some (value, [])
     → Fits (command.Store process address value) × (words_of line ≡ command_words (command.Store process address value))

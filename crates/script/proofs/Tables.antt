@@ -16,7 +16,7 @@ every_keyword =
     keyword.Restart ∷ keyword.Cut
     ∷ keyword.Load ∷ keyword.Store ∷ keyword.Invoke Call ∷ keyword.Invoke Return ∷ keyword.Invoke Send ∷ []
 
--- a word that is the name of none in the table is the name of none
+-- a word that is no name in the table is no name at all
 pub no_keyword_left : (word : List ℕ) → ((i : ℕ) → i < 14 → word ≢ keyword_name (get_or every_keyword i (keyword.Invoke Send))) →
     (k : Keyword) → word ≢ keyword_name k
 no_keyword_left word none k =

@@ -138,7 +138,7 @@ fn print_shown<W: Output>(shown: &Description, writer: &mut W) -> Result<(), Run
     writer.write_fully(b"end\n")
 }
 
-/// Writes the text of an answer: one line; for an object several, the last of which is `end`.
+/// Writes the text of an answer: one line; for an object several, with `end` as the last one.
 ///
 /// Returns `Err(RunFault::Write)` if the writer fails or accepts no bytes; then it accepted only a beginning of the
 /// text. It takes no memory.

@@ -1,4 +1,4 @@
--- Sealed rows that differ in a burst are the same.
+-- Sealed rows that differ at most in one burst are equal.
 use Rattle.seal.proofs.Names.{ℕ, List, [], length, get_or, take, drop, replicate, ap, suc, subst, sym, refl, inl, inr, arith, cases_lt, drop-drop}
 use Rattle.seal.proofs.Names.{drop-replicate, get_or-drop, get_or-take, get_or_default, get_or_past, length-drop, length-replicate}
 use Rattle.seal.proofs.Names.{length-take-le, same_lists, take-append-drop, take-replicate, mul-zero, All-take, IsRow, BodiesDecideSeals}

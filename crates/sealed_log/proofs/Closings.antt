@@ -133,7 +133,7 @@ module _ (image : Image) (o : Order) (ordered : IsOrderOf image o) where
                     ]
               ]
 
--- no header is committed without gates
+-- if all gates are closed, no header is committed
 pub none_committed : (image : Image) → AreClosed image → CommitsNone image
 none_committed image closed h is =
     let opens = opens_in image h is in

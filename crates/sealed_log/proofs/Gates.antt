@@ -34,7 +34,7 @@ same_number old new m n stay was is e =
 meet : (a b k : ℕ) → a ≡ k → b ≡ k → a ≡ b
 meet a b k e f = e ∙ sym f
 
--- a slot with a closed gate has none that counts
+-- in a slot with a closed gate no header counts
 closed_out : (x : Slots) (k n : ℕ) → (x k).gate ≡ None → Counts x n → n % 3 ≡ k → ⊥
 closed_out x k n closed it e =
     let lost : Some n ≡ None = sym it.gate ∙ ap (λ (i : ℕ). (x i).gate) e ∙ closed in
@@ -66,7 +66,7 @@ module _ (old : Slots) (o : Order) (is : IsOrder old o) where
             (low.0, low.1, low.2, omega (arith, less, lesser))
       ]
 
-  -- no number is less than that of the first slot
+  -- no header that counts has a lesser number than that in the first slot
   first_least : (m n : ℕ) → m % 3 ≡ o.first → Counts old m → Counts old n → m ≤ n
   first_least m n here it other =
       elim (cases_eq (n % 3) o.first) [

@@ -1,4 +1,4 @@
--- What is read of the header slots.
+-- Reading the header slots.
 use Rattle.std.proofs.Common.{◌≡◌, ℕ, ◌+◌, ◌-◌, ◌%◌, ◌<◌, ◌↔◌, ◌∷◌, List, [], length, map, get_or, Option, None, Some, ap, refl, subst, sym, ◌∙◌}
 use Rattle.std.proofs.Common.{inl, inr, arith, Bool, false}
 use Rattle.std.specs.Prelude.{IsTrue}

@@ -62,7 +62,7 @@ module _ {D S : Type 0} (disk : D → Disk) (view : S → View D) (parts : S →
     inr (inr (a, e, subst (λ (m : ℕ). CarriesOut disk view parts mid (command.Show m) new (Ok a)) (sym count) carries, failed, wrote)),
   )
 
--- a refusal that isn't for want of an object is the last line
+-- a refusal for another reason than the end of the objects is the last line
 pub end_other : (why : Refusal) → (why ≡ refusal.BadNumber → ⊥) → line_of (refusal_text why) ≡ end_text why
 end_other refusal.BadNumber other = absurd (other refl)
 end_other why other = refl

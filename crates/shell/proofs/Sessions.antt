@@ -28,7 +28,7 @@ none_said g t is = subst (λ (r : Reply). IsRemark g t r None) (sym is) refl
 
 -- ---- what was written
 
--- a text was written, and then passed on or not
+-- a text was written, and passing it on succeeded or failed
 pub passed_on : (a b c : Written) (r : Result (Unit {0}) RunFault) (text : List ℕ) → Wrote a b text → Writes b c r [] → Writes a c r text
 passed_on a b c (Ok u) text wrote kept = wrote_kept a b c text wrote kept
 passed_on a b c (Err e) text wrote failed =

@@ -37,7 +37,7 @@ longer : (words : List ℕ) (b : ℕ) (more : List ℕ) → nat_lt 0 (length ((w
 longer words b more =
     lt-ltb 0 (length ((words ++ b ∷ []) ++ more)) (omega (arith, length-append (words ++ b ∷ []) more, length-append words (b ∷ [])))
 
--- a first part is longer by a byte
+-- the first part becomes longer by a byte
 spaced_longer : (b : ℕ) (f : List ℕ) (ps : List (List ℕ)) → spaced ((b ∷ f) ∷ ps) ≡ b ∷ spaced (f ∷ ps)
 spaced_longer b f [] = refl
 spaced_longer b f (p ∷ ps) = refl

@@ -88,7 +88,7 @@ module _ {g : Geometry} {os : List Object} {s : BanksState} (h : AreCounted g os
   unfolding free_pages
   made_of_pages are first is made = grind (arith, nat_tests)
 
--- no number is kept of an object with another role
+-- no number is kept for an object of another role
 pub kept_other : (r : Role) (c : Content Capability) → (role_of c ≡ r → ⊥) → kept_number r c ≡ 0
 kept_other r c other = grind (arith, nat_tests)
 
@@ -219,7 +219,7 @@ module _ {p : Parts} {s : BanksState} {b : ℕ} (h : MayServe p s b) where
   pub bank_listing : {t : BanksState} {list : List ℕ} → t ≡ record s { listed = list } → MayServe p t b
   bank_listing is = record { sound = h.sound; counted = counted_listed is h.counted; bank = h.bank }
 
--- how many of the objects below a number a bank accounts for
+-- how many of the objects below a number count for the usage of a bank
 abbrev pub is_used : List Object → ℕ → ℕ × Object → Bool
 is_used os b p = not (p.0 == b) && is_under os b p.1
 
@@ -246,7 +246,7 @@ pub used_whole : (os : List Object) (b n : ℕ) → length os ≤ n → usage os
 unfolding usage
 used_whole os b n whole = ap (count_by (is_used os b)) (sym (take_all n (enumerate_from 0 os) (rw (length-enumerate_from 0 os) whole)))
 
--- number 0 is accounted for by none
+-- number 0 counts for no usage
 not_empty : (os : List Object) → IsTree os → 0 < length os
 not_empty os t = grind (arith, nat_tests, get_or_past)
 

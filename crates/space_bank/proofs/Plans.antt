@@ -48,7 +48,7 @@ pub chain_begun : (os : List Object) (b : ℕ) → chain os b ≡ chain_within (
 unfolding chain
 chain_begun os b = refl
 
--- whether the bank that is sought is in the rest
+-- whether the bank that is sought is in the rest of the chain
 module _ (os : List Object) (i b sought : ℕ) (other : b ≡ sought → ⊥) where
   pub sought_last : i < 16 → b ≡ 0 → list_any (nat_eq sought) (chain_within (16 - i) os b) ≡ false
   sought_last inside root = grind (arith, nat_tests)
@@ -57,7 +57,7 @@ module _ (os : List Object) (i b sought : ℕ) (other : b ≡ sought → ⊥) wh
       list_any (nat_eq sought) (chain_within (16 - i) os b) ≡ list_any (nat_eq sought) (chain_within (16 - (i + 1)) os owner)
   sought_next owner inside inner is = grind (arith, nat_tests)
 
--- whether so many objects pass no limit in the chain: they are at most the least number that is left
+-- whether a number of objects passes no limit in the chain: it is at most the least number that is left
 fits_left : (count used limit : ℕ) → used ≤ limit → nat_le count (limit - used) ≡ nat_le (used + count) limit
 fits_left count used limit within = grind (arith, nat_tests)
 
@@ -90,7 +90,7 @@ quota_is os b count within =
     ∙ ap (λ (t : Bool). t && list_all (λ c. nat_le (usage os c + count) (limit_in (content_at os c))) rest)
     (fits_left count (usage os b) (limit_in (content_at os b)) (within 0 0 (omega arith))))
 
--- the least that is left in the rest
+-- the least number that is left in the rest of the chain
 pub least_begun : (os : List Object) (b m : ℕ) → left_of os b ≤ m → remaining os b ≡ least m (map (left_of os) (chain_within (16 - 0) os b))
 unfolding remaining chain
 least_begun os b m within =
@@ -330,7 +330,7 @@ one_may : (g : Geometry) (os : List Object) (b from count : ℕ) (f : Fresh) (c 
     → new_at b f ns ≡ Some c → MayMake g os (numbers_of c) c
 one_may g os b from count f c bank room place kind ns are is = grind (arith, nat_tests, first_free)
 
--- a new process, at the first two
+-- a new process, at the first two free numbers
 two_may : (g : Geometry) (os : List Object) (b : ℕ) (c : BankChange) → IsTrue (is_bank (content_at os b)) → IsTrue (has_quota os b 2) →
     (ns : List ℕ) → are_free os (range_with_len 0 g.nodes) ≡ ns → process_at b ns ≡ Some c → MayMake g os (numbers_of c) c
 two_may g os b c bank room [] are is = cc

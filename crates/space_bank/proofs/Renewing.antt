@@ -93,7 +93,7 @@ module _ (set : List ℕ) (os : List Object) (n : ℕ) where
       subst (λ (o : Object). IsMapped (void_where (names_member set)) (content_at os n) o.content) (sym (kept stays))
       (without_mapped (names_member set) (object_at os n))
 
--- The chain of a bank accounts for `count` objects fewer, and a set is marked as free.
+-- The usages in the chain of a bank fall by `count`, and a set is marked as free.
 pub record IsReleased (banks : List ℕ) (count : ℕ) (s t : BanksState) (set : List ℕ) : Type 0 where
   pub usages : IsRaised banks count t.usages s.usages
   pub nodes : length t.free_nodes ≡ length s.free_nodes
@@ -135,7 +135,7 @@ counted_gone {g} {os} vs {s} {t} {set} {banks} {count} counted same released usa
     was_bank : (x : ℕ) → IsTrue (is_bank (content_at (rescind set vs) x)) → IsTrue (is_bank (content_at os x))
     was_bank x is = ap is_bank (sym (same x)) ∙ (sym (was set vs x (bank_stays set vs x is)).bank ∙ is)
 
--- counts can rise
+-- counts that can rise
 module _ {p : Parts} {s : BanksState} {b : ℕ} (asks : MayServe p s b) (n : ℕ) (known : n < length p.headers) where
   pub serve_allocations : (header_at p.headers n).allocations < 2 ^ 64 - 1
   serve_allocations = omega (arith, few_allocations p.geometry asks.sound.0 p asks.sound.1.keepable n known, asks.sound.1.sound.age)
@@ -195,7 +195,7 @@ module _ {p : Parts} {s : BanksState} {b : ℕ} (asks : MayServe p s b) (list : 
   pub list_marks : All (λ n. n < length s.free_nodes + length s.free_pages) list
   list_marks k d inside = omega (arith, known k d inside, serve_count asks, asks.counted.nodes, asks.counted.pages)
 
--- fewer are accounted for, and then numbers are marked as free
+-- usages fall, and then numbers are marked as free
 pub released_then : {banks : List ℕ} {count : ℕ} {s r v : BanksState} {nodes pages : List Bool} (set : List ℕ) →
     IsRaised banks count r.usages s.usages → r ≡ record s { usages = r.usages } → v ≡ r → length nodes ≡ length v.free_nodes →
     length pages ≡ length v.free_pages

@@ -202,15 +202,15 @@ impl HostKernel {
         self.recorder().since(taken)
     }
 
-    /// The number of all calls of the device.
+    /// Returns how many calls of the device were recorded in all.
     pub fn count(&self) -> u64
         ensures { result ≡ length (calls_in self.now) }
     {
         self.recorder().count()
     }
 
-    /// Notes that all calls of the device were taken, as `Recorder::note_taken` does, and returns their
-    /// number.
+    /// Records that all calls of the device so far were taken, as `Recorder::note_taken` does, and returns their
+    /// count.
     pub fn note_taken(&self) -> u64
         ensures { result ≡ length (calls_in self.now) }
     {

@@ -62,7 +62,7 @@ impl Pending {
         }
     }
 
-    // Drops the bytes if all calls were taken. The first `taken` were.
+    // Drops the bytes if all calls were taken. `taken` is how many calls were taken.
     fn drop_taken(&mut self, taken: u64)
         ensures kept { (calls : List HostCall) → Keeps self.old calls → Keeps self.new calls }
         ensures dropped { DropsTaken self.old self.new taken }
@@ -73,8 +73,8 @@ impl Pending {
         }
     }
 
-    /// Adds a call after the others: a header with this byte, and `from`. The first `taken` calls were
-    /// taken: if these are all, their bytes are dropped before.
+    /// Appends a call: a header with the number `byte`, and `from`. `taken` is how many calls were taken; if these
+    /// are all, their bytes are dropped first.
     ///
     /// Returns `Failed` if memory runs out: then no call is added.
     pub fn add(&mut self, taken: u64, byte: u64, from: &[u8]) -> Result<(), Failed>

@@ -18,7 +18,7 @@ use std::cell::Cell;
 #[derive(Drop)]
 pub struct Recorder {
     pending: Pending,
-    // The number of calls that were taken from here. No contract sees what a cell holds.
+    // How many calls were taken from here. Contracts can't read the content of a cell.
     taken: Cell<u64>,
     // Whether a call could not be recorded.
     is_broken: bool,
@@ -50,14 +50,14 @@ impl Recorder {
         self.pending.since(taken)
     }
 
-    /// The number of all calls.
+    /// Returns how many calls were recorded in all.
     pub fn count(&self) -> u64
         ensures { result ≡ length self.now.history.calls }
     {
         self.pending.count
     }
 
-    /// Notes that all calls were taken, so the next one may replace them, and returns their number.
+    /// Records that all calls so far were taken, and returns their count. The next call recorded may overwrite them.
     pub fn note_taken(&self) -> u64
         ensures { result ≡ length self.now.history.calls }
     {

@@ -21,13 +21,13 @@ pub struct Session {
     kernel: HostKernel,
     // The answers to the last text that was run.
     answer: Vec<u8>,
-    // The encoded calls that the host has not taken.
+    // The encoded calls that the host has not taken yet.
     waiting: Vec<u8>,
-    // The number of the device's calls that were collected: the host has taken them, or they wait.
+    // How many calls of the device were collected so far: the host has taken them, or they wait here.
     collected: u64,
 }
 
-/// Why device calls don't wait for the host.
+/// Why device calls can't be collected for the host.
 #[derive(Clone, Copy)]
 pub enum CallsFault {
     /// Memory for them ran out.
@@ -36,7 +36,7 @@ pub enum CallsFault {
     CallsLost,
 }
 
-// The status of a call that did its work, if its device calls wait for the host.
+// Returns the status of a call that succeeded, if its device calls could be collected for the host.
 fn status_of(kept: Result<(), CallsFault>) -> Status
     ensures { result ≡ kept_status kept }
 {
@@ -95,10 +95,10 @@ impl Session {
         boxed(self.alloc, self)
     }
 
-    // Collects the device calls since the last time: they wait for the host after the others.
+    // Collects the device calls that were made since the last time, after those that wait for the host.
     //
-    // `NoMemory` if memory for them runs out, and `CallsLost` if the device no longer keeps them. The
-    // others still wait.
+    // Returns `NoMemory` if memory for them runs out, and `CallsLost` if the device no longer keeps them. The earlier
+    // calls still wait.
     #[tactic(auto, using(crate::proofs::Sessions::none_new, crate::proofs::Sessions::waits_after))]
     fn collect(&mut self) -> Result<(), CallsFault>
         ensures calls { CollectsCalls self.old self.new result }
@@ -120,11 +120,12 @@ impl Session {
         }
     }
 
-    /// Runs a text as a script, keeps the answers and copies them to the buffer. Keeps the device calls
-    /// for the host.
+    /// Runs a text as a script, keeps the answers, and copies them to the buffer. Collects the device calls for the
+    /// host.
     ///
-    /// `SmallBuffer` if the answers don't fit. `NoMemory` if memory runs out: for the answers, and the
-    /// lines up to there were served, or for the calls. `CallsLost` if the device doesn't keep the calls.
+    /// Returns `SmallBuffer` if the answers don't fit. Returns `NoMemory` if memory runs out: for the answers, and
+    /// then the lines up to that point were carried out; or for the calls. Returns `CallsLost` if the device no
+    /// longer keeps the calls.
     #[tactic(auto, using(crate::proofs::Saving::step_done, crate::proofs::Saving::step_small, crate::proofs::Saving::step_short, crate::proofs::Saving::step_kept))]
     pub fn step(&mut self, text: &[u8], buffer: &mut [u8], size: &mut usize) -> Status
         ensures { StepsSession self.old self.new text.now buffer.old buffer.new size.new result }
@@ -163,9 +164,9 @@ impl Session {
     /// Carries out commands one after another, each as the script line with the same meaning, and writes their
     /// answers as numbers. Sets `served` to how many it carried out.
     ///
-    /// `BadCommand` if the next one's numbers are no command: those before it were served.
-    /// `SmallBuffer` if there are fewer replies than commands: none was served. `NoMemory` and
-    /// `CallsLost` as for `collect`.
+    /// Returns `BadCommand` if the numbers of the next one encode no command: those before it were carried out.
+    /// Returns `SmallBuffer` if there are fewer replies than commands: none was carried out. Returns `NoMemory` and
+    /// `CallsLost` as `collect` does.
     #[tactic(auto, using(crate::proofs::Saving::batch_done, crate::proofs::Saving::batch_bad, crate::proofs::Saving::batch_kept))]
     pub fn serve(
         &mut self,
@@ -193,8 +194,8 @@ impl Session {
     /// Saves the present state: migrates what an earlier save left, then freezes, stabilizes, commits and migrates,
     /// each as its script line. If one of these five stages is refused, it is the last one.
     ///
-    /// `SmallBuffer` if there are fewer than five replies: none was served. `NoMemory` and `CallsLost` as
-    /// for `collect`.
+    /// Returns `SmallBuffer` if there are fewer than five replies: no stage was carried out. Returns `NoMemory` and
+    /// `CallsLost` as `collect` does.
     #[tactic(auto, using(crate::proofs::Saving::saved))]
     pub fn save(&mut self, replies: &mut [RawReply], served: &mut usize) -> Status
         ensures { SavesSession self.old self.new replies.old replies.new served.new result }
@@ -208,8 +209,8 @@ impl Session {
         status_of(self.collect())
     }
 
-    /// Shows an object as its line does. If it is a page, copies its words. `NoMemory` and `CallsLost` as
-    /// for `collect`.
+    /// Shows an object, as the line `show` does. If it is a page, copies its words. Returns `NoMemory` and
+    /// `CallsLost` as `collect` does.
     #[tactic(auto, using(crate::proofs::Saving::page_shown))]
     pub fn page(&mut self, number: u64, page: &mut RawPage, reply: &mut RawReply) -> Status
         ensures { ShowsPage self.old self.new number page.old.words page.new.words reply.new result }
@@ -221,8 +222,8 @@ impl Session {
         status_of(self.collect())
     }
 
-    /// Shows an object as its line does, and returns it as numbers. `NoMemory` and `CallsLost` as for
-    /// `collect`.
+    /// Shows an object, as the line `show` does, and copies it in the form of numbers. Returns `NoMemory` and
+    /// `CallsLost` as `collect` does.
     #[tactic(auto, using(crate::proofs::Saving::object_shown))]
     pub fn show(&mut self, number: u64, object: &mut RawObject, reply: &mut RawReply) -> Status
         ensures { ShowsObject self.old self.new number object.old object.new reply.new result }
@@ -234,8 +235,8 @@ impl Session {
         status_of(self.collect())
     }
 
-    /// Copies the encoded calls that wait for the host, which are then taken. `SmallBuffer` if they don't
-    /// fit: none is taken.
+    /// Copies the encoded calls that wait for the host. The host has then taken them. Returns `SmallBuffer` if they
+    /// don't fit; then it has taken none.
     pub fn take_calls(&mut self, buffer: &mut [u8], size: &mut usize) -> Status
         ensures { TakesCalls self.old self.new buffer.old buffer.new size.new result }
     {

@@ -6,7 +6,7 @@ use Rattle.vezhnake_images.proofs.Names.{RefusesTable, RefusesText, ImageDevice,
 use Rattle.std.proofs.Common.{◌≡◌, ◌≤◌, ◌<◌, ◌*◌, ◌++◌}
 use Rattle.description.specs.declared.fault.BuildFault.TheVariants as build
 
--- a table that isn't read has a status
+-- the status for a table that can't be read as a description
 sizeless : (table : Members) (fault : BuildFault) → TellsNoSize table fault → RefusesTable table (built_by fault)
 sizeless table build.Shape told = (omega arith, 0, told)
 sizeless table build.Limits told = (omega arith, 0, (told.0, told.1, limits_broken told.0 0 told.2))
@@ -44,7 +44,7 @@ unbuilt table b old new build.Failed is size refuses works =
     absurd (omega (arith, rises, none))
 unbuilt table b old new build.NoMemory is size refuses works = tt
 
--- a text whose table isn't read
+-- a text whose table can't be read as a description
 pub unread : (text : List ℕ) (table : Members) (fault : BuildFault) → parse_document text ≡ Some table → TellsNoSize table fault
     → RefusesText text (built_by fault)
 unread text table build.Shape is told = (table, is, sizeless table build.Shape told)

@@ -1,4 +1,4 @@
--- What an image has, by its store and by its device.
+-- The sizes and counts of an image, by its store and by its device.
 use Rattle.vezhnake_images.proofs.Names.{[], ℕ, List, ap, sym, arith, map, take, drop, length, replicate, slice_index_or, drop-drop, drop-replicate}
 use Rattle.vezhnake_images.proofs.Names.{drop-set-lt, length-set, map-append, take-append-drop, take_all, take_more, take_more_set, slice_set, HaveTheirRoles}
 use Rattle.vezhnake_images.proofs.Names.{kept_of, Checkpoint, SavedState, Plan, headers, world_at, ObjectHeader, Role, role_counted, headers_with, objects_with}

@@ -8,7 +8,7 @@ use device::{MAX_SECTORS, SECTOR_SIZE};
 use devices::{CopiedFile, SectorCopy};
 use std::alloc::{AllocError, Global};
 
-/// A device in memory, of which no call fails.
+/// A device in memory. No call of it fails.
 pub type ImageDevice = CopiedFile<NoFile>;
 
 // Returns a device with a copy of these bytes. Fails only if memory runs out.
