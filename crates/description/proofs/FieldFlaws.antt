@@ -21,6 +21,12 @@ one_more_other ns i n within none other there =
       | inr last ↦ elim (contains_cases n (slice_index ns i) [] last) [ inl is ↦ other is | inr nowhere ↦ contains_none n nowhere ]
     ]
 
+-- a number above all isn't among them
+pub none_above : (ns : List ℕ) (n most : ℕ) → All (λ m. m ≤ most) ns → most < n → Contains ns n → ⊥
+none_above ns n most all above there =
+    let low : n ≤ most = subst (λ (m : ℕ). m ≤ most) there.2 (all there.0 n there.1) in
+    omega (arith, low, above)
+
 distinct_last : (ns : List ℕ) (n : ℕ) → AreDistinct ns → (Contains ns n → ⊥) → AreDistinct (ns ++ n ∷ [])
 distinct_last [] n distinct none = (contains_none n, tt)
 distinct_last (m ∷ ns) n distinct none = (

@@ -97,16 +97,43 @@ pub(crate) fn find_before<N: Numbers>(numbers: N, end: usize, number: u64) -> Op
     None
 }
 
-/// The first two places with the same number: the second is the first place whose number occurred before. `None` if
-/// no number occurs twice.
+// The same, where no number before the place is above `most`.
+#[tactic(auto, using(crate::proofs::FieldFlaws::none_above))]
+fn find_low<N: Numbers>(numbers: N, end: usize, number: u64, most: u64) -> Option<usize>
+    requires within { end ≤ length (N.numbers numbers) }
+    requires low { All (λ n. n ≤ most) (take end (N.numbers numbers)) }
+    ensures { MatchOption result
+        (Contains (take end (N.numbers numbers)) number → ⊥)
+        (λ i. (i < end) × (slice_index (N.numbers numbers) i ≡ number)) }
+{
+    if number > most {
+        None
+    } else {
+        find_before(numbers, end, number)
+    }
+}
+
+// A number that neither of two is above.
+fn greater(one: u64, other: u64) -> u64
+    ensures one { one ≤ result }
+    ensures other { other ≤ result }
+{
+    if one < other { other } else { one }
+}
+
+/// The places of one number: the first place whose number came before, and where it did. Nothing if no number
+/// comes twice. Most lists rise, and one that rises is read once.
 pub(crate) fn find_twice<N: Numbers>(numbers: N) -> Option<(usize, usize)>
     ensures { MatchOption result (AreDistinct (N.numbers numbers))
         (λ p. IsFirstTwice (N.numbers numbers) p.0 p.1) }
 {
+    let mut most = 0;
     for j in 0..numbers.count() {
-        if let Some(i) = find_before(numbers, j, numbers.at(j)) {
+        let number = numbers.at(j);
+        if let Some(i) = find_low(numbers, j, number, most) {
             return Some((i, j));
         }
+        most = greater(most, number);
     }
     None
 }
