@@ -5,3 +5,7 @@ pub mod Reading
 pub mod Commits
 pub mod Gates
 pub mod Closings
+pub mod Pieces
+pub mod Directories
+pub mod Checks
+pub mod Written

@@ -3,3 +3,5 @@ pub mod Reading
 pub mod Committed
 pub mod Publish
 pub mod Closing
+pub mod Directory
+pub mod Units
