@@ -3,8 +3,8 @@ use Rattle.reach.proofs.Names.{nat_tests, ℕ, Bool, true, false, is_some, Optio
 use Rattle.reach.proofs.Names.{sym, ap, subst, arith, IsTrue, All, cases_eq, length-reverse, length_push, reverse-append, same_Some, Capability, Void, Page}
 use Rattle.reach.proofs.Names.{Node, Space, Process, Start, Resume, Bank, Content, Object, IsConfinedBut, AreBy, with_free, slots_in, annex_at, content_at}
 use Rattle.reach.proofs.Names.{root_at, Found, Levels, Step, Way, Conveys, IsChain, IsPath, IsShortest, IsStep, IsWay, held_by, StepsAreAuthority, IsAfter}
-use Rattle.reach.proofs.Names.{IsFoundIn, IsFrom, IsSearched, found_at, IsReach, slice_index_or, named, BoundsRuns, run_confined, IsClosedBut}
-use Rattle.reach.proofs.Names.{StartsOne, StaysBut, ClosedSetsAre, IsFollowed, slot_at, Purpose, IsClosedFor, Links, StaysFor, StaysAs, links}
+use Rattle.reach.proofs.Names.{IsFoundIn, IsFrom, IsSearched, found_at, IsReach, slice_index_or, named, BoundsRuns, run_confined, IsClosedBut, StartsOne}
+use Rattle.reach.proofs.Names.{StaysBut, ClosedSetsAre, IsFollowed, slot_at, Purpose, IsClosedFor, Links, StaysFor, StaysAs, links}
 use Rattle.std.specs.Prelude.{suc, zero}
 use Rattle.std.proofs.Common.{◌≡◌, ◌+◌, ◌<◌, ◌∷◌, ◌++◌, ◌∙◌}
 use Rattle.model.specs.declared.object.Content.TheVariants as content

@@ -1,6 +1,6 @@
 -- The numbers of all processes.
-use Rattle.reach.proofs.Names.{ℕ, false, true, List, [], length, inl, inr, ⊎_elim, refl, sym, subst, arith, IsTrue, Contains, cases_lt, Object}
-use Rattle.reach.proofs.Names.{is_root, is_process, Contains-append_left, Contains-push, Contains-push_cases}
+use Rattle.reach.proofs.Names.{ℕ, false, true, List, [], length, inl, inr, ⊎_elim, refl, sym, subst, arith, IsTrue, Contains, cases_lt, Object, is_root}
+use Rattle.reach.proofs.Names.{is_process, Contains-append_left, Contains-push, Contains-push_cases}
 use Rattle.std.proofs.Common.{◌≡◌, ◌↔◌, ◌+◌, ◌<◌, ◌≤◌, ◌∷◌, ◌++◌, ◌∙◌}
 use Rattle.reach.proofs.Members.{known}
 

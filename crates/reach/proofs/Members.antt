@@ -1,7 +1,6 @@
 -- What a member of a closed set holds, in a sound world.
-use Rattle.reach.proofs.Names.{ℕ, zero, suc, Bool, false, List, [], length, refl, sym, ap, arith, IsTrue, All, get_or_default, Capability}
-use Rattle.reach.proofs.Names.{Void, Content, Object, free}
-use Rattle.reach.proofs.Names.{is_root, slots_in, content_at, slot_at, NamesWithin, AreSoundObjects}
+use Rattle.reach.proofs.Names.{ℕ, zero, suc, Bool, false, List, [], length, refl, sym, ap, arith, IsTrue, All, get_or_default, Capability, Void, Content}
+use Rattle.reach.proofs.Names.{Object, free, is_root, slots_in, content_at, slot_at, NamesWithin, AreSoundObjects}
 use Rattle.std.specs.Prelude.{slice_index_or}
 use Rattle.std.proofs.Common.{◌≡◌, ◌<◌, ◌∷◌, ◌∙◌}
 use Rattle.model.specs.declared.object.Content.TheVariants as content

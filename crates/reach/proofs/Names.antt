@@ -5,11 +5,9 @@ pub use Rattle.collections.specs.Marks.{is_marked}
 pub use Rattle.confinement.proofs.TrustedRuns.{run_confined}
 pub use Rattle.confinement.specs.Trusted.{IsClosedBut, IsConfinedBut, StartsOne, StaysBut}
 pub use Rattle.json_lines.specs.Objects.{number_line}
-pub use Rattle.model.specs.Capability.{IsWeak, named}
-pub use Rattle.model.specs.Closed.{StaysInside}
-pub use Rattle.model.specs.Object.{free, is_bank, is_free, is_node, is_page, is_root, root_in, slots_in}
+pub use Rattle.model.specs.Capability.{named}
+pub use Rattle.model.specs.Object.{free, is_bank, is_free, is_root, root_in, slots_in}
 pub use Rattle.model.specs.Revoke.{is_member}
-pub use Rattle.model.specs.Sound.{NamesItsKind}
 pub use Rattle.model.specs.Text.{line_of}
 pub use Rattle.model.specs.World.{annex_at, content_at, is_process, object_at, owner_at, root_at, slot_at}
 pub use Rattle.model.specs.declared.capability.Capability.{Capability}
@@ -18,12 +16,12 @@ pub use Rattle.model.specs.declared.object.Content.{Content}
 pub use Rattle.model.specs.declared.object.Object.{Object}
 pub use Rattle.model.specs.declared.object.Root.{Root}
 pub use Rattle.model_laws.specs.Confinement.{AreBy, with_free}
-pub use Rattle.script.proofs.Fronts.{first_front, second_front, text_fails, writes_after, writes_fail, wrote_trans}
+pub use Rattle.script.proofs.Fronts.{text_fails, writes_after, writes_fail, wrote_trans}
 pub use Rattle.script.proofs.NumberedLines.{lines_all, lines_more, lines_split}
-pub use Rattle.script.specs.Writing.{Writes, Wrote}
-pub use Rattle.std.proofs.Common.{Bool, List, None, Option, Some, Vec, [], add-one, ap, append-nil, arith, codes, drop, false, get_or, inl, inr, is_some}
-pub use Rattle.std.proofs.Common.{length, length-set, max, not, option_and_then, refl, replicate, reverse, rules, slice_index_or, slice_set, subst, suc, sym}
-pub use Rattle.std.proofs.Common.{take, true, zero, ℕ, ⊎_elim}
+pub use Rattle.script.specs.Writing.{Wrote}
+pub use Rattle.std.proofs.Common.{Bool, List, None, Option, Some, [], add-one, ap, append-nil, arith, codes, drop, false, get_or, inl, inr, is_some, length}
+pub use Rattle.std.proofs.Common.{length-set, max, not, option_and_then, refl, replicate, reverse, rules, slice_index_or, slice_set, subst, suc, sym, take}
+pub use Rattle.std.proofs.Common.{true, zero, ℕ, ⊎_elim}
 pub use Rattle.std.proofs.Math.Seq.{take-suc}
 pub use Rattle.std.proofs.lemmas.Bool.{cases_eq, cases_lt}
 pub use Rattle.std.proofs.lemmas.Bool.Decides.{nat_tests}
@@ -35,7 +33,6 @@ pub use Rattle.std.proofs.lemmas.Option.{same_Some}
 pub use Rattle.std.proofs.lemmas.Result.{err_from_is_err_and}
 pub use Rattle.std.specs.List.{All, Contains, count_by, enumerate_from, find, flat_map}
 pub use Rattle.std.specs.Prelude.{IsTrue}
-pub use Rattle.std.specs.declared.alloc.Global.{Global}
 pub use Rattle.reach.specs.Backward.{AddsOwners, AllChange, ConveysInto, Grows, HasOwners, IsClosedAt, LeadsInto, Widens, others, unmarked}
 pub use Rattle.reach.specs.Chain.{Conveys, IsChain, IsFollowed, IsPath, IsShortest, IsStep, IsWay, held_by}
 pub use Rattle.reach.specs.ChainLines.{step_line}

@@ -1,9 +1,8 @@
 -- What holds while levels are followed.
 use Rattle.reach.proofs.Names.{ℕ, Bool, zero, suc, true, false, Option, None, Some, List, [], length, replicate, inl, inr, ⊎_elim, sym, subst, arith, Contains}
 use Rattle.reach.proofs.Names.{cases_lt, nat_tests, get_or_default, length-replicate, Object, Found, Levels, Step, Begins, FindsBy, IsAfter, IsAt, IsFirst}
-use Rattle.reach.proofs.Names.{IsFoundBy, IsFoundIn, IsFrom, IsFromLevel, IsSearched, found_at, has_level, missing, slice_index_or, All, refl, add-one}
-use Rattle.reach.proofs.Names.{cases_eq, ap, get_or-set_other, get_or-set_same, is_marked, is_member, length-set, slice_set, take, take_all, Links}
-use Rattle.reach.proofs.Names.{links, Purpose}
+use Rattle.reach.proofs.Names.{IsFoundBy, IsFoundIn, IsFrom, IsFromLevel, IsSearched, found_at, has_level, missing, slice_index_or, cases_eq, get_or-set_other}
+use Rattle.reach.proofs.Names.{get_or-set_same, is_marked, is_member, slice_set, take, Links, links, Purpose}
 use Rattle.std.proofs.Common.{◌≢◌, ◌==◌, ◌||◌, ◌≡◌, ◌+◌, ◌<◌, ◌≤◌, ◌∷◌, ◌∙◌}
 use Rattle.reach.proofs.Finding.{finds_both, finds_same, missing_most}
 
@@ -116,14 +115,6 @@ module _ (os : List Object) (follows : Links) (starts : List ℕ) (level : ℕ) 
 
 -- the set of some numbers
 
-member_more : (xs : List ℕ) (i n : ℕ) → i < length xs → is_member (take (suc i) xs) n
-    ≡ (is_member (take i xs) n || (n == slice_index_or xs i 0))
-member_more [] i n lt = absurd (omega (arith, lt))
-member_more (x ∷ xs) zero n lt = grind (arith, nat_tests)
-member_more (x ∷ xs) (suc i) n lt =
-    let later : i < length xs = omega (arith, lt) in
-    let rest = member_more xs i n later in grind (arith, nat_tests)
-
 marked_more : (marks : List Bool) (x n : ℕ) → x < length marks → is_marked (slice_set marks x true) n ≡ (is_marked marks n || (n == x))
 marked_more marks x n lt = elim (cases_eq n x) [
   | inl same ↦ rw same (get_or-set_same marks x true false lt ∙ sym (or_same (is_marked marks x) x))
@@ -140,33 +131,6 @@ marked_more marks x n lt = elim (cases_eq n x) [
 pub record IsSetOf (numbers : List ℕ) (at total : ℕ) (set : List Bool) : Type 0 where
   pub count : length set ≡ total
   pub each : (n : ℕ) → is_marked set n ≡ is_member (take at numbers) n
-
-pub set_first : (numbers : List ℕ) (total : ℕ) (set : List Bool) → set ≡ replicate total false → IsSetOf numbers 0 total set
-set_first numbers total set is = record {
-  count = ap (λ (l : List Bool). length l) is ∙ length-replicate total false;
-  each = λ n. ap (λ (l : List Bool). is_marked l n) is ∙ unmarked total n;
-}
-  where
-    unmarked : (total n : ℕ) → is_marked (replicate total false) n ≡ false
-    unmarked zero n = refl
-    unmarked (suc total) zero = refl
-    unmarked (suc total) (suc n) = unmarked total n
-
-pub set_next : (numbers : List ℕ) (at total : ℕ) (old : List Bool) → IsSetOf numbers at total old → All (λ n. n < total) numbers →
-    at < length numbers → IsSetOf numbers (at + 1) total (slice_set old (slice_index_or numbers at 0) true)
-set_next numbers at total old set known lt =
-    let x = slice_index_or numbers at 0 in
-    let there : x < length old = subst (λ (k : ℕ). x < k) (sym set.count) (known at 0 lt) in
-    record {
-      count = length-set old x true ∙ set.count;
-      each = λ n.
-          marked_more old x n there ∙ ap (λ (b : Bool). b || (n == x)) (set.each n)
-          ∙ sym (ap (λ (k : ℕ). is_member (take k numbers) n) (add-one at) ∙ member_more numbers at n lt);
-    }
-
-pub set_whole : (numbers : List ℕ) (at total : ℕ) (set : List Bool) → IsSetOf numbers at total set → length numbers ≤ at → (n : ℕ)
-    → is_marked set n ≡ is_member numbers n
-set_whole numbers at total set is whole n = is.each n ∙ ap (λ (l : List ℕ). is_member l n) (take_all at numbers whole)
 
 -- a search that follows no marked number is one that follows none of these numbers
 pub searched_without : (os : List Object) (p : Purpose) (trusted starts : List ℕ) (marks : List Bool) (level : ℕ) (l : Levels)

@@ -1,11 +1,11 @@
 -- The objects that can change an object.
 use Rattle.reach.proofs.Names.{nat_tests, ℕ, zero, suc, Bool, true, false, not, List, [], length, slice_set, slice_index_or, inl, inr, ⊎_elim, refl, sym, ap}
-use Rattle.reach.proofs.Names.{subst, arith, IsTrue, All, get_or_default, Contains, is_marked, Object, is_free, is_bank, content_at, owner_at, is_process}
-use Rattle.reach.proofs.Names.{AreSoundObjects, AddsOwners, AllChange, Grows, HasOwners, IsClosedAt, LeadsInto, Widens, others, unmarked, AreChangers, ConveysInto}
-use Rattle.reach.proofs.Names.{slots_in, is_root, root_in, Void, CanChange, ReachIsChange, Capability, Content, cases_lt, length-set, replicate}
-use Rattle.reach.proofs.Names.{Conveys, same_Some, IsClosedFor, Links, StaysFor}
+use Rattle.reach.proofs.Names.{subst, arith, IsTrue, All, Contains, is_marked, Object, is_free, is_bank, content_at, owner_at, is_process, AreSoundObjects}
+use Rattle.reach.proofs.Names.{AddsOwners, AllChange, Grows, HasOwners, IsClosedAt, LeadsInto, Widens, others, unmarked, AreChangers, ConveysInto, slots_in}
+use Rattle.reach.proofs.Names.{is_root, root_in, Void, CanChange, ReachIsChange, Capability, Content, cases_lt, length-set, replicate, Conveys, IsClosedFor}
+use Rattle.reach.proofs.Names.{Links, StaysFor}
 use Rattle.std.proofs.Common.{◌≡◌, ◌⊎◌, ◌↔◌, ◌+◌, ◌<◌, ◌≤◌, ◌∷◌, ◌∙◌}
-use Rattle.reach.proofs.Chains.{named_inside, stays_inside, void_stays}
+use Rattle.reach.proofs.Chains.{stays_inside, void_stays}
 use Rattle.model.specs.declared.object.Content.TheVariants as content
 
 pub reach_is_change : ReachIsChange
@@ -92,17 +92,6 @@ pub record Adds (os : List Object) (number at : ℕ) (old new : List Bool) : Typ
       IsTrue (is_marked new (owner_at os n)) ⊎ (owner_at os n ≡ at)
   pub begun : ((at ≡ number) × (new ≡ old)) ⊎ (IsTrue (is_marked new number) × (unmarked new < unmarked old))
 
-pub adds_first : (os : List Object) (number : ℕ) (old : List Bool) → is_free (content_at os number) ≡ false → Adds os number number old old
-adds_first os number old there = record {
-  count = refl;
-  there = there;
-  change = λ follows inside closed member. member;
-  kept = λ n is. is;
-  each = λ follows n is. inl is;
-  owners = λ has n is free. inl (has n is free);
-  begun = inl (refl, refl);
-}
-
 module _ (os : List Object) (number at : ℕ) (old mid : List Bool) (adds : Adds os number at old mid) where
   pub adds_next : AreSoundObjects os → at < length mid → is_marked mid at ≡ false →
       Adds os number (owner_at os at) old (slice_set mid at true)
@@ -167,18 +156,6 @@ grows_by os follows i old new leads adds = record {
   each = λ o all n is. ⊎_elim (λ before. all n before) (λ change. λ inside closed member.
       let into = leads inside closed (change inside closed member) in all into.0 into.1 inside closed into.2) (adds.each follows n is);
   owners = adds.owners;
-}
-
--- the objects below a number were tried
-pub widens_first : (os : List Object) (follows : Links) (old : List Bool) → Widens os follows 0 false old old
-widens_first os follows old = record {
-  count = refl;
-  kept = λ n is. is;
-  each = λ o all. all;
-  owners = λ has. has;
-  fewer = λ grew. absurd (cc);
-  same = λ none. refl;
-  settled = λ none n lt. absurd (omega (arith, lt));
 }
 
 module _ (os : List Object) (follows : Links) (i : ℕ) (grew : Bool) (old mid : List Bool) (widens : Widens os follows i grew old mid) where
@@ -268,11 +245,6 @@ abbrev pub work : Bool → List Bool → ℕ
 work true marks = unmarked marks + 1
 work false marks = unmarked marks
 
-pub work_less : (os : List Object) (follows : Links) (count : ℕ) (grew : Bool) (old new : List Bool) →
-    Widens os follows count grew old new → work grew new < work true old
-work_less os follows count true old new widens = omega (arith, widens.fewer refl)
-work_less os follows count false old new widens = omega (arith, ap unmarked (widens.same refl))
-
 -- a number past all objects has no authority
 past_closed : (os : List Object) (follows : Links) (inside : ℕ → Bool) (n : ℕ) → length os ≤ n → IsClosedAt os follows inside n
 past_closed [] follows inside n past = record {
@@ -327,54 +299,6 @@ pub record Picks (inside : List Bool) (numbers : List ℕ) (at : ℕ) (set : Lis
   pub all : (k d : ℕ) → k < at → IsTrue (is_marked inside (slice_index_or numbers k d)) →
       IsTrue (is_marked set (slice_index_or numbers k d))
 
-pub picks_first : (inside : List Bool) (numbers : List ℕ) (count : ℕ) (set : List Bool) → set ≡ replicate count false →
-    length set ≡ length inside → Picks inside numbers 0 set
-picks_first inside numbers count set is long = record {
-  count = long;
-  some = λ n member. absurd (none_marked count n (subst (λ (l : List Bool). IsTrue (is_marked l n)) is member));
-  all = λ k d lt. absurd (omega (arith, lt));
-}
-
-module _ (inside : List Bool) (numbers : List ℕ) (i : ℕ) (set : List Bool) (picks : Picks inside numbers i set) (lt : i < length numbers)
-  where
-    pub picks_skip : is_marked inside (slice_index_or numbers i 0) ≡ false → Picks inside numbers (i + 1) set
-    picks_skip none = record {
-      count = picks.count;
-      some = picks.some;
-      all = λ k d below. grind
-          (arith, nat_tests, cases_lt, get_or_default, picks.all);
-    }
-
-    pub picks_more : IsTrue (is_marked inside (slice_index_or numbers i 0)) → slice_index_or numbers i 0 < length set →
-        Picks inside numbers (i + 1) (slice_set set (slice_index_or numbers i 0) true)
-    picks_more member known = record {
-      count = length-set set (slice_index_or numbers i 0) true ∙ picks.count;
-      some = λ n is. ⊎_elim (λ here. (
-        (i, lt, get_or_default numbers i n 0 lt ∙ sym here),
-        subst (λ (m : ℕ). IsTrue (is_marked inside m)) (sym here) member,
-      ))
-          (λ before. picks.some n before) (marked_each set (slice_index_or numbers i 0) n is);
-      all = λ k d below is. elim (cases_lt k i) [
-        | inl before ↦ marked_kept set (slice_index_or numbers i 0) (slice_index_or numbers k d) (picks.all k d before is)
-        | inr past ↦
-            let here : i ≡ k = omega (arith, past, below) in
-            let same : slice_index_or numbers i 0 ≡ slice_index_or numbers k d =
-            get_or_default numbers i 0 d lt ∙ ap (λ (j : ℕ). slice_index_or numbers j d) here in
-            subst (λ (m : ℕ). IsTrue (is_marked (slice_set set (slice_index_or numbers i 0) true) m)) same
-            (marked_here set (slice_index_or numbers i 0) known)
-      ];
-    }
-
-pub picks_whole : (inside : List Bool) (numbers : List ℕ) (i : ℕ) (set : List Bool) → Picks inside numbers i set → length numbers ≤ i →
-    (n : ℕ) → IsTrue (is_marked set n) ↔ (Contains numbers n × IsTrue (is_marked inside n))
-picks_whole inside numbers i set picks whole n = (
-  picks.some n,
-  λ both.
-      let marked = picks.all both.0.0 n (omega (arith, whole, both.0.1)) (subst (λ (m : ℕ). IsTrue (is_marked inside m)) (sym both.0.2)
-      both.1) in
-      subst (λ (m : ℕ). IsTrue (is_marked set m)) both.0.2 marked,
-)
-
 -- those of some numbers that can change the object
 pub changers_are : (os : List Object) (follows : Links) (starts : List ℕ) (o : ℕ) (inside set : List Bool) →
     ((n : ℕ) → IsTrue (is_marked inside n) ↔ CanChange os follows n o) → ((n : ℕ) →
@@ -383,16 +307,6 @@ changers_are os follows starts o inside set can each n = (
   λ member. let both = (each n).0 member in (both.0, (can n).0 both.1),
   λ both. (each n).1 (both.0, (can n).1 both.1),
 )
-
--- a capability to a member conveys into the set; one that conveys to no member stays outside
-pub conveys_to : (follows : Links) (inside : ℕ → Bool) (c : Capability) (n : ℕ) → Conveys follows c n → IsTrue (inside n) →
-    ConveysInto follows inside c
-conveys_to follows inside c n conveys member = λ other stays. (n, member, named_inside follows other c n conveys stays)
-
-pub conveys_elsewhere : (follows : Links) (inside : ℕ → Bool) (c : Capability) (n : ℕ) → Conveys follows c n → inside n ≡ false →
-    StaysFor follows (others inside) c
-conveys_elsewhere follows inside c n conveys out = stays_inside follows (others inside) c (λ m also.
-    let same : n ≡ m = same_Some n m (sym conveys.2 ∙ also.2) in ap not (subst (λ (k : ℕ). inside k ≡ false) same out))
 
 pub conveys_nowhere : (follows : Links) (inside : ℕ → Bool) (c : Capability) → ((n : ℕ) → Conveys follows c n → ⊥) →
     StaysFor follows (others inside) c

@@ -1,7 +1,7 @@
 -- The ways from an object, by what it holds.
-use Rattle.reach.proofs.Names.{common_steps, nat_tests, ℕ, zero, suc, List, [], length, inl, inr, refl, sym, ap, subst, arith, Capability}
-use Rattle.reach.proofs.Names.{Void, Content, Object, Root, slots_in, content_at, Levels, Step, Way, Conveys, IsWay, FindsBy, IsBy}
-use Rattle.reach.proofs.Names.{IsFrom, IsHeldIn, IsOwnedBelow, IsTheStep, slice_index_or, named, None, Some, Links}
+use Rattle.reach.proofs.Names.{common_steps, nat_tests, ℕ, zero, suc, List, [], length, inl, inr, refl, sym, ap, subst, arith, Capability, Void, Content}
+use Rattle.reach.proofs.Names.{Object, Root, slots_in, content_at, Levels, Step, Way, Conveys, IsWay, FindsBy, IsBy, IsFrom, IsHeldIn, IsOwnedBelow, IsTheStep}
+use Rattle.reach.proofs.Names.{slice_index_or, named, None, Some, Links}
 use Rattle.std.proofs.Common.{◌≡◌, ◌⊎◌, ◌<◌, ◌∷◌, ◌∙◌}
 use Rattle.model.specs.declared.object.Content.TheVariants as content
 use Rattle.reach.specs.declared.step.Way.TheVariants as way

@@ -1,7 +1,7 @@
 -- Chains of steps: by each step one object has authority over another.
-use Rattle.reach.specs.Names.{ℕ, StartsOne, false, Option, None, Some, List, [], Vec, length, slice_index_or}
-use Rattle.reach.specs.Names.{IsTrue, Contains, Global, Capability, Void, Content, Object, IsWeak, named, is_bank}
-use Rattle.reach.specs.Names.{is_free, is_root, root_in, slots_in, content_at, owner_at}
+use Rattle.reach.specs.Names.{ℕ, StartsOne, false, Option, None, Some, List, [], Vec, length, slice_index_or, IsTrue}
+use Rattle.reach.specs.Names.{Contains, Global, Capability, Void, Content, Object, IsWeak, named, is_bank, is_free}
+use Rattle.reach.specs.Names.{is_root, root_in, slots_in, content_at, owner_at}
 use Rattle.std.specs.Prelude.{◌≡◌, ◌≤◌, ◌∷◌}
 use Rattle.model.specs.declared.object.Content.TheVariants as content
 use Rattle.reach.specs.declared.authority.Purpose.{Purpose}

@@ -1,6 +1,6 @@
 -- What is in reach of processes.
-use Rattle.reach.specs.Names.{ℕ, Bool, List, IsTrue, All, Contains, Geometry, Object, Running, Up, IsRun, Turn}
-use Rattle.reach.specs.Names.{IsSound, AreBy, with_free, IsConfinedBut}
+use Rattle.reach.specs.Names.{ℕ, Bool, List, IsTrue, All, Contains, Geometry, Object, Running, Up, IsRun, Turn, IsSound}
+use Rattle.reach.specs.Names.{AreBy, with_free, IsConfinedBut}
 use Rattle.std.specs.Prelude.{◌≡◌, ◌↔◌}
 use Rattle.reach.specs.Links.{IsClosedFor, Links}
 

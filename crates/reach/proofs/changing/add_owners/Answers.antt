@@ -1,4 +1,5 @@
-use Rattle.reach.proofs.Names.{arith, ap, not, refl, subst, sym, get_or_default, Bool, Capability, Content, List, Object, free, is_free, length, length-set, true}
+use Rattle.reach.proofs.Names.{arith, ap, not, refl, subst, sym, get_or_default, Bool, Capability, Content, List, Object, free, is_free, length, length-set}
+use Rattle.reach.proofs.Names.{true}
 use Rattle.std.proofs.Common.{◌∙◌}
 use Rattle.reach.proofs.Members.{known}
 use Rattle.reach.proofs.Sources.{Adds, adds_fewer, adds_next, adds_whole}

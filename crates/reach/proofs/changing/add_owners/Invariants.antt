@@ -1,5 +1,4 @@
-use Rattle.reach.specs.Backward.{unmarked}
-use Rattle.reach.proofs.Names.{length}
+use Rattle.reach.proofs.Names.{unmarked, length}
 use Rattle.std.proofs.Common.{◌≡◌}
 use Rattle.reach.proofs.Sources.{Adds}
 use Rattle.reach.proofs.changing.add_owners.Given as goal

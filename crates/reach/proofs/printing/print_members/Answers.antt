@@ -1,5 +1,4 @@
-use Rattle.reach.proofs.Names.{subst, arith, wrote_trans, err_from_is_err_and, Wrote, member_line, writes_fail}
-use Rattle.reach.proofs.Names.{lines_split, lines_more, lines_all}
+use Rattle.reach.proofs.Names.{subst, arith, wrote_trans, err_from_is_err_and, Wrote, member_line, writes_fail, lines_split, lines_more, lines_all}
 use Rattle.reach.proofs.printing.print_members.Goals as goal
 
 pub returns-in_err-print_member : goal.returns-in_err-print_member

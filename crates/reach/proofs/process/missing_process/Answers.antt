@@ -1,5 +1,5 @@
-use Rattle.reach.proofs.Names.{common_steps, ℕ, zero, suc, true, false, not, List, [], length, Some, None, refl, sym, ap, arith, IsTrue}
-use Rattle.reach.proofs.Names.{find, cases_lt, get_or_default, Object, is_process, slice_index_or}
+use Rattle.reach.proofs.Names.{common_steps, ℕ, zero, suc, true, false, not, List, [], length, Some, None, refl, sym, ap, arith, IsTrue, find, cases_lt}
+use Rattle.reach.proofs.Names.{get_or_default, Object, is_process, slice_index_or}
 use Rattle.std.proofs.Common.{◌≡◌, ◌<◌, ◌∷◌}
 use Rattle.reach.proofs.process.missing_process.Goals as goal
 
