@@ -1,5 +1,5 @@
 -- Places of numbers in ranges that cover them.
-use Rattle.home_ranges.proofs.Names.{ℕ, zero, suc, Option, Some, None, List, [], length, get_or, sym, ap, subst, inl, inr, arith, true, false, nat_lt}
+use Rattle.home_ranges.proofs.Names.{ℕ, zero, suc, Option, Some, None, List, [], length, get_or, sym, ap, subst, inl, inr, arith, nat_lt}
 use Rattle.home_ranges.proofs.Names.{min, cases_lt, length-map, get_or_append_left, get_or-map, nat_tests, Geometry, Image, Extent, HomeRange, Half}
 use Rattle.home_ranges.proofs.Names.{First, Second, Shape, Version, row, page_shape, shape_end, AreBeside, IsFirstOf, frames_in_block, half_of, range_with, place_in, place_by, home_place, rank_in}
 use Rattle.home_ranges.proofs.Names.{shape_of, place_length, sectors_from, node_shape, shape_length, Plan, IsPlan, Cover, IsOfOneKind, IsWithin}
@@ -20,12 +20,6 @@ pub record IsFound (g : Geometry) (rs : List HomeRange) (number i : ℕ) : Type 
   pub within : i < length rs
   pub has : Has g (range_at rs i) number
   pub found : range_with rs number ≡ Some (range_at rs i)
-
-pub lt_true : (a b : ℕ) → a < b → nat_lt a b ≡ true
-lt_true a b lt = grind (arith, nat_tests)
-
-pub lt_false : (a b : ℕ) → b ≤ a → nat_lt a b ≡ false
-lt_false a b le = grind (arith, nat_tests)
 
 find_in : (g : Geometry) (n : ℕ) {number : ℕ} (rs : List HomeRange) → Cover g n rs → n ≤ number → number < g.nodes + g.pages →
     (i : ℕ) × IsFound g rs number i
@@ -68,10 +62,6 @@ extent_of sector length = record { sector = sector; length = length }
 -- the sectors of a number in a range
 abbrev extent_in : Version → Geometry → HomeRange → ℕ → Extent
 extent_in v g r number = extent_of (place_in v g r number) (shape_length (shape_in v g r number))
-
--- the numbers of a range are all nodes or all pages
-pub node_in : {g : Geometry} {r : HomeRange} {a : ℕ} → Has g r a → r.first + r.count ≤ g.nodes → nat_lt a g.nodes ≡ true
-node_in {g} {r} {a} has nodes = lt_true a g.nodes (omega (arith, nodes, has.high))
 
 apart_in_one : (v : Version) {g : Geometry} {r : HomeRange} {a b : ℕ} → Has g r a → Has g r b → (place_in v g r a ≡ place_in v g r b → ⊥) →
     IsApart (extent_in v g r a) (extent_in v g r b)
