@@ -24,8 +24,8 @@ none g found sums es is = record {
   none = λ same. absurd (omega (arith, ap count_of (sym is ∙ same)));
 }
 
-pub other : (g : Geometry) (found : Option Sums) (found_sums sums : Sums) (es : List Entry) → found ≡ Some found_sums → (found_sums ≡ sums → ⊥) →
-    IsNoDirectory g found sums es BadDirectory
+pub other : (g : Geometry) (found : Option Sums) (found_sums sums : Sums) (es : List Entry) → found ≡ Some found_sums →
+    (found_sums ≡ sums → ⊥) → IsNoDirectory g found sums es BadDirectory
 other g found found_sums sums es is apart = record {
   reason = refl;
   none = λ same. absurd (apart (ap (λ (o : Option Sums). seal_or o sums) (sym is ∙ same)));

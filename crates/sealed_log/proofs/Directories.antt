@@ -1,5 +1,5 @@
 -- A directory that is read.
-use Rattle.std.proofs.Common.{◌≡◌, ℕ, ◌+◌, ◌-◌, ◌*◌, ◌^◌, ◌<◌, ◌≤◌, List, [], ◌∷◌, ◌++◌, length, take, drop, zero, suc, ap, refl, sym, subst, ◌∙◌, inl, inr}
+use Rattle.std.proofs.Common.{◌≡◌, ℕ, ◌+◌, ◌-◌, ◌*◌, ◌^◌, ◌<◌, ◌≤◌, List, ◌∷◌, ◌++◌, length, take, drop, zero, suc, ap, refl, sym, subst, ◌∙◌, inl, inr}
 use Rattle.std.proofs.Common.{arith, Result}
 use Rattle.std.specs.Prelude.{IfNone, IfOk, IfSome, None, Option, Some}
 use Rattle.std.proofs.Math.Seq.{take-add}

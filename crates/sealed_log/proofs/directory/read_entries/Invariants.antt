@@ -1,4 +1,4 @@
-use Rattle.std.proofs.Common.{◌≡◌, length}
+use Rattle.std.proofs.Common.{◌≡◌}
 use Rattle.layout.specs.Calls.{ReadsOnly}
 use Rattle.layout.specs.sealed.Root.{directory_sums}
 use Rattle.sealed_log.specs.Directory.{HaveEntries, seals_of}
