@@ -78,7 +78,8 @@ module _ (old new : Session) (kernel : HostKernel) (same : new.kernel ≡ kernel
           let each = length-map raws command_of in
           (front (map command_of raws) serves (Ok tt) collects, grind (arith, nat_tests))
 
-      pub batch_bad : CollectsCalls old new (Ok tt) → nat_lt n (length raws) ≡ true → ServesBatch old new raws before after n status.BadCommand
+      pub batch_bad : CollectsCalls old new (Ok tt) → nat_lt n (length raws) ≡ true →
+          ServesBatch old new raws before after n status.BadCommand
       batch_bad collects some = (
         front (map command_of raws) serves (Ok tt) collects,
         grind (arith, nat_tests),
