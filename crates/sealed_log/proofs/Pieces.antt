@@ -8,16 +8,9 @@ use Rattle.device.proofs.Images.{elsewhere_on, elsewhere_same}
 use Rattle.device.proofs.Moments.{OnlyNow, leaves_on, leaves_weaker, started}
 use Rattle.layout.specs.Calls.{WritesAt}
 use Rattle.layout.specs.declared.directory.Entry.{Entry}
-<<<<<<< ours
-use Rattle.seal.specs.declared.sums.Sums.{Sums}
 use Rattle.layout.specs.sealed.Directory.{entries_bytes}
 use Rattle.layout.specs.sealed.Root.{directory_sums}
-use Rattle.sealed_log.specs.Directory.{AreEntries, HaveEntries, TouchesAt, directory_length, piece, seal_in, seals_of, sums_of_entries}
-=======
-use Rattle.sealed_layout.specs.Directory.{entries_bytes}
-use Rattle.sealed_layout.specs.Root.{directory_sums}
 use Rattle.sealed_log.specs.Directory.{AreEntries, HaveEntries, TouchesAt, piece, seals_of}
->>>>>>> theirs
 use Rattle.sealed_log.proofs.Commits.{beside}
 
 -- ---- what is touched
