@@ -15,13 +15,17 @@ StartsOne trusted _ = ⊥
 abbrev pub StaysBut : (ℕ → Bool) → (ℕ → Bool) → Capability → Type 0
 StaysBut trusted inside c = StaysInside inside c ⊎ StartsOne trusted c
 
--- a set that is closed, except that its members may start trusted processes
-pub record IsClosedBut (trusted : ℕ → Bool) (os : List Object) (inside : ℕ → Bool) : Type 0 where
+-- a set that contains its members' annexes and what its banks own, and whose members hold only some capabilities
+pub record IsClosedBy (MayHold : Capability → Type 0) (os : List Object) (inside : ℕ → Bool) : Type 0 where
   pub annexes : (p : ℕ) → IsTrue (inside p) → IsTrue (is_process os p) → IsTrue (inside (annex_at os p))
   pub owned : (b n : ℕ) → IsTrue (inside b) → IsTrue (is_bank (content_at os b)) →
       is_free (content_at os n) ≡ false → owner_at os n ≡ b → IsTrue (inside n)
-  pub slots : (n i : ℕ) → IsTrue (inside n) → StaysBut trusted inside (slot_at os n i)
-  pub spaces : (p : ℕ) → IsTrue (inside p) → StaysBut trusted inside (root_at os p).space
+  pub slots : (n i : ℕ) → IsTrue (inside n) → MayHold (slot_at os n i)
+  pub spaces : (p : ℕ) → IsTrue (inside p) → MayHold (root_at os p).space
+
+-- a closed set, but that its members may start trusted processes
+abbrev pub IsClosedBut : (ℕ → Bool) → List Object → (ℕ → Bool) → Type 0
+IsClosedBut trusted os inside = IsClosedBy (StaysBut trusted inside) os inside
 
 -- where a trusted process receives a message: its root and its annex
 abbrev pub IsInbox : (ℕ → Bool) → List Object → ℕ → Type 0

@@ -448,18 +448,18 @@ module _ (g : Geometry) (trusted inside : ℕ → Bool) where
       (looks_line inside x s l looks at first.1) (subst (λ m. Replies g l m x.reply x.after) at first.2)
       (subst (λ k. Replies g k (Up q) y.reply y.after) one (subst (λ m. Replies g second.0 m y.reply y.after) there second.2)) up above
 
-  -- the objects of a machine that is up
-  abbrev objects_in : Machine → List Object
-  objects_in (Up s) = s.now.objects
-  objects_in (Down saved) = []
+  -- machines that are up and linked, or that aren't both up
+  abbrev AreLinkedIfUp : Machine → Machine → Type 0
+  AreLinkedIfUp (Up s) (Up q) = IsLinked g trusted inside s q
+  AreLinkedIfUp m n = Unit {0}
 
   runs_alike : (t r : Running) (turns others : List Turn) (s q : Running) → IsLinked g trusted inside s q → IsRun g (Up s) turns (Up t)
       → IsRun g (Up q) others (Up r) → lines others ≡ lines turns → EachBy inside turns → EachBy inside others →
       All (LooksInside inside) turns
-      → All HasRoom turns → All HasRoom others → (replies others ≡ replies turns) × HaveSame inside t.now.objects r.now.objects
+      → All HasRoom turns → All HasRoom others → (replies others ≡ replies turns) × IsLinked g trusted inside t r
   runs_alike t r [] [] s q h run other e by too looks room rooms = (
     refl,
-    λ n in_n. ap (λ m. object_at (objects_in m) n) other ∙ h.link.same n in_n ∙ sym (ap (λ m. object_at (objects_in m) n) run),
+    subst (λ m. AreLinkedIfUp m (Up r)) (sym run) (subst (AreLinkedIfUp (Up s)) (sym other) h),
   )
   runs_alike t r [] (y ∷ ys) s q h run other e by too looks room rooms = cc
   runs_alike t r (x ∷ xs) [] s q h run other e by too looks room rooms = cc
@@ -508,6 +508,10 @@ invocation_noninterferent g trusted inside w v i same fits runs in_p looks =
 pub runs_noninterferent : RunsAreNoninterferent
 runs_noninterferent g trusted inside s t q r turns others same run other e by looks room rooms =
     let each = each_by inside turns by in
-    runs_alike g trusted inside t r turns others s q
+    let done = runs_alike g trusted inside t r turns others s q
     (record { left = same.sound.0; right = same.sound.1; link = linked g trusted inside s.now q.now same }) run other e each
-    (by_too inside turns others e each) looks room rooms
+    (by_too inside turns others e each) looks room rooms in
+    let last = done.1 in (
+      done.0,
+      record { sound = (last.left, last.right); closed = (last.link.left, last.link.right); same = last.link.same },
+    )

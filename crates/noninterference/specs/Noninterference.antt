@@ -58,11 +58,11 @@ HasRoom t = (t.reply ≡ Reported (answer.Refused refusal.Worn) → ⊥)
     × (t.reply ≡ Reported (answer.Refused refusal.LogFull) → ⊥)
 
 -- noninterference: two runs of the same lines by members, from machines whose worlds have the same objects in the set,
--- are answered the same and end with the same objects in it, if none of their turns looks outside or lacks room
+-- are answered the same and end in two such worlds, if none of their turns looks outside or lacks room
 abbrev pub RunsAreNoninterferent : Type 0
 RunsAreNoninterferent = (g : Geometry) (trusted inside : ℕ → Bool) (s t q r : Running) (turns others : List Turn) →
     AreSameInside g trusted inside s.now q.now →
     IsRun g (Up s) turns (Up t) → IsRun g (Up q) others (Up r) →
     map (λ x. x.line) others ≡ map (λ x. x.line) turns → AreBy inside turns →
     All (LooksInside inside) turns → All HasRoom turns → All HasRoom others →
-    (map (λ x. x.reply) others ≡ map (λ x. x.reply) turns) × HaveSame inside t.now.objects r.now.objects
+    (map (λ x. x.reply) others ≡ map (λ x. x.reply) turns) × AreSameInside g trusted inside t.now r.now

@@ -9,9 +9,9 @@ pub fn invocation_is_noninterferent()
     ensures { InvocationIsNoninterferent }
 {}
 
-/// Two runs of the same invocations and memory references by members get the same answers, and end with the same
-/// objects in the set. None of their turns may look outside, or be refused because the log is full or the machine
-/// worn.
+/// Two runs of the same invocations and memory references by members are answered the same, and end
+/// with the same objects in the set, which stays closed for reading. None of their turns may look
+/// outside, or be refused because the log is full or the machine worn.
 pub fn runs_are_noninterferent()
     ensures { RunsAreNoninterferent }
 {}

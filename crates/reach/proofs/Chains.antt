@@ -152,16 +152,7 @@ closed_to_change os follows inside h = record {
 }
 
 pub closed_sets_are : ClosedSetsAre
-closed_sets_are os trusted inside = (
-  (
-    closed_to_change os (links purpose.Change trusted) inside,
-    λ h. record { annexes = h.annexes; owned = h.owned; slots = h.slots; spaces = h.spaces },
-  ),
-  (
-    λ h. record { annexes = h.annexes; owned = h.owned; slots = h.slots; spaces = h.spaces },
-    λ h. record { annexes = h.annexes; owned = h.owned; slots = h.slots; spaces = h.spaces },
-  ),
-)
+closed_sets_are os trusted inside = ((λ h. h, λ h. h), (λ h. h, λ h. h))
 
 pub bounds_runs : (os : List Object) (follows : Links) (inside : ℕ → Bool) → IsClosedFor follows os inside →
     BoundsRuns os follows.trusted inside

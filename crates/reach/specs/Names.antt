@@ -1,6 +1,6 @@
 -- The names of other crates that the definitions here cite.
 pub use Rattle.collections.specs.Marks.{is_marked}
-pub use Rattle.confinement.specs.Trusted.{IsClosedBut, IsConfinedBut, StartsOne, StaysBut}
+pub use Rattle.confinement.specs.Trusted.{IsClosedBut, IsClosedBy, IsConfinedBut, StartsOne, StaysBut}
 pub use Rattle.json_lines.specs.Objects.{key_text, number_line, text_object}
 pub use Rattle.json_lines.specs.declared.format.Format.{Format}
 pub use Rattle.json_lines.specs.declared.key.Key.{Key}
