@@ -1,6 +1,6 @@
 -- Capabilities as bytes.
 use Rattle.layout.specs.Names.{ℕ, List, [], Access, Cap, Capability, Void, Number, Page, Node, Space, Process, Start}
-use Rattle.layout.specs.Names.{Resume, Bank, Discrim, tag_of, access_bits}
+use Rattle.layout.specs.Names.{Resume, Bank, Discrim, named, tag_of, access_bits, unwrap_or}
 use Rattle.std.specs.Prelude.{◌+◌, ◌*◌, ◌<◌, ◌==◌, if◌then◌else◌, ◌∷◌, ◌++◌}
 use Rattle.layout.specs.Bytes.{number, short_number}
 
@@ -14,16 +14,8 @@ height_of (Space o h a) = h
 height_of _ = 0
 
 abbrev pub number_of : Capability → ℕ
-number_of Void = 0
 number_of (Number n) = n
-number_of (Page o a) = o
-number_of (Node o a) = o
-number_of (Space o h a) = o
-number_of (Process p) = p
-number_of (Start p key) = p
-number_of (Resume p) = p
-number_of (Bank b) = b
-number_of Discrim = 0
+number_of c = unwrap_or (named c) 0
 
 -- tag, access, two bytes of key, height, and three zeros
 unfoldable pub head_bytes : Capability → List ℕ

@@ -3,7 +3,7 @@ pub use Rattle.byteorder.specs.Endian.{little_bytes, little_number}
 pub use Rattle.device.specs.Calls.{Agrees, Elsewhere, IsTorn, Narrows, Tears}
 pub use Rattle.device.specs.Disk.{Disk, Image}
 pub use Rattle.device.specs.Moments.{Elapses, LeavesOnly, Peeks}
-pub use Rattle.model.specs.Capability.{access_bits, tag_of}
+pub use Rattle.model.specs.Capability.{access_bits, named, tag_of}
 pub use Rattle.model.specs.Frame.{frame_at, void_held}
 pub use Rattle.model.specs.Keepable.{AreKeptSlots, AreKeptWords, IsCount, IsKeepable, IsKeptCap}
 pub use Rattle.model.specs.Object.{is_free, role_number, role_of, state_number}
@@ -27,4 +27,4 @@ unfoldable pub use Rattle.seal.specs.Sums.{sums_bytes, sums_of}
 pub use Rattle.seal.specs.declared.sums.Sums.{Sums}
 pub use Rattle.std.specs.List.{All, between, flat_map, range_with_len}
 pub use Rattle.std.specs.Prelude.{Bool, IsTrue, List, None, Option, Some, [], codes, drop, length, map, nat_le, nat_lt}
-pub use Rattle.std.specs.Prelude.{replicate, slice_index, slice_index_or, suc, take, zero, ℕ, ⊤}
+pub use Rattle.std.specs.Prelude.{replicate, slice_index_or, suc, take, unwrap_or, zero, ℕ, ⊤}
