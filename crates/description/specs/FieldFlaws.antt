@@ -58,7 +58,8 @@ process_of (part.Space k) = k
 process_of (part.Registers k flaw) = k
 process_of _ = 0
 
--- the first bad field of the first bad process; if all are good, of the first bad node; else of the first bad page
+-- the first bad field: of the first bad process; if no process is bad, of the first bad node; if no node is bad either,
+-- of the first bad page
 abbrev pub BreaksField : Description → Part → Type 0
 BreaksField d (part.Slots k flaw) = All IsProcessEntry d.processes.items
     × IsFirst (λ n. AreSlots 0 n.slots.items) (λ n. BreaksSlots 0 n.slots.items flaw) d.nodes.items k

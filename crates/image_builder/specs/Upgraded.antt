@@ -92,7 +92,8 @@ pub record IsWhole {D : Type 0} (disk : D → Disk) (parts : Parts) (s : Durable
   pub sound : IsSoundSaved (saved_by disk s).plan.geometry (kept_of (saved_by disk s))
   pub present : frames_of parts ≡ (saved_by disk s).frames
 
--- a store was made of an old device, which was only read and didn't fail: it saves what the device does
+-- a store was made of an old device, which was only read and didn't fail: the store's saved frames are those that the
+-- old device holds
 pub record IsOpenedFrom {D : Type 0} (disk : D → Disk) (old : D) (s : DurableState D) : Type 0 where
   pub saves : Encodes (disk old).seen (disk old).sectors (saved_by disk s)
   pub only_reads : OnlyReads (disk old) (disk s.beneath)

@@ -61,7 +61,8 @@ puts = record {
   left = left_of;
 }
 
--- the frozen and the saved state, without the working frames; then a stage of a checkpoint, which leaves these alone
+-- the frozen and the saved state, without the working frames. `on_snapshots`: a stage of a checkpoint changes only these
+-- two, and which frames are to move
 abbrev pub snapshots_in : Stored → Snapshots FrozenPuts
 snapshots_in s = record { frozen = s.frozen; saved = s.saved; to_move = s.to_move }
 

@@ -177,7 +177,7 @@ body_changes : (m : Memory) (n : ℕ) (f : Content Cap → Content Cap) → n < 
     Changes m m.headers (with_entry (changing f) n m.entries) n
 body_changes m n f within = search (arith, length-set, get_or-set_other, present_kept)
 
--- the object's content then; if it is free and has no entry, none
+-- after the body is replaced by c, the present body is c; if there is no entry, the object is free and c is `Free`
 edited_body : (c : Content Cap) (o : Option Entry) (r : Role) (newest : Content Cap) → (o ≡ None → (r ≡ role.Free) × (c ≡ content.Free)) →
     present_body (option_map (changing (λ x. c)) o) r newest ≡ c
 edited_body c o r newest free = search arith
