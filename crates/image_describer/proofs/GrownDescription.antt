@@ -1,4 +1,4 @@
--- A description that was renumbered is that of the world in an image of other sizes.
+-- A renumbered description describes the same world in an image with more or fewer nodes or pages.
 use Rattle.image_describer.proofs.Names.{nat_tests, inl, inr, ℕ, List, [], map, length, sym, ap, subst, arith, Vec, Global, All, Contains, cases_lt, length-map}
 use Rattle.image_describer.proofs.Names.{All-append, All-contains, All-map, Contains-append_cases, Contains-append_left, Contains-append_right, Capability}
 use Rattle.image_describer.proofs.Names.{Frame, Geometry, Object, State, blank_frame, frame_at, object_count, fresh_cap, BankEntry, Description, NodeEntry}

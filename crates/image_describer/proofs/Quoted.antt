@@ -26,7 +26,7 @@ safe_digits (c ∷ cs) digits = grind (arith, nat_tests, safe_digits cs digits.1
 safe_decimal : (n : ℕ) → n < 2 ^ 64 → are_safe (decimal n) ≡ true
 safe_decimal n small = safe_digits (decimal n) (decimal_is_IsNumeral n small).0.1
 
--- no test of the writer finds such a byte
+-- a test that is false for each safe byte finds nothing in a text of safe bytes
 none_found : (test : ℕ → Bool) (text : List ℕ) → ((c : ℕ) → is_safe c ≡ true → test c ≡ false) → are_safe text ≡ true →
     list_any test text ≡ false
 none_found test [] other safe = refl

@@ -41,7 +41,7 @@ pub record IsFirstMisnamed (fs : List Frame) (m : Misnamed) : Type 0 where
   pub here : (k : ℕ) → k < m.index → IsNamed fs (cap_at (caps_in (frame_at fs m.holder).content) k)
   pub before : (n : ℕ) → n < m.holder → All (IsNamed fs) (caps_in (frame_at fs n).content)
 
--- if number p is a root, its annex is one for it, and no later root has the same annex
+-- if number p is a root, the object that it names as its annex is an annex for p, and no later root names the same one
 abbrev pub IsMatched : List Frame → ℕ → Type 0
 IsMatched fs p = (a : ℕ) → IsRootOf fs p a → IsAnnexFor fs p a × ((q : ℕ) → p < q → IsRootOf fs q a → ⊥)
 

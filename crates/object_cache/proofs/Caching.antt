@@ -231,7 +231,7 @@ module _ {D : Type 0} (disk : D → Disk) {d : DurableState D} {m : Memory} {all
           (frozen_state_new is n c there (no_entry n uncached) present_there)) ∙ ap (with_cached n) view,
     )
 
--- ---- what an object was frozen as is kept apart from what it holds
+-- ---- an object's frozen body is kept apart from its present body
 
 -- a shared body belongs to an object that is pending and wasn't written since the freeze
 shared_frozen_state : (e : Entry) (pending touched : Bool) → frozen_state_of (Some e) pending touched ≡ Shared →

@@ -367,7 +367,7 @@ fn refuse_file<C: Display + Drop>(rt: &HostRuntime, file: &str, cause: C) -> End
     End::of_status(1)
 }
 
-// Does this for an error of the system. If memory ran out, returns a fault instead.
+// Refuses a file, as `refuse_file` does, because of an error of the system. If memory ran out, returns a fault instead.
 fn refuse_for(rt: &HostRuntime, file: &str, error: &io::Error) -> Result<End, Refusal> {
     if error.kind() == ErrorKind::OutOfMemory {
         Err(Refusal::from(Fault::NoMemory))

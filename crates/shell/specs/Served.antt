@@ -38,7 +38,7 @@ IsHelp topics word text = Any (λ t. (t.word.now ≡ word) × (text ≡ t.text.n
 abbrev pub WritesHelp : List Topic → List ℕ → Written → Written → Type 0
 WritesHelp topics word old new = (text : List ℕ) × IsHelp topics word text × WritesNote old new text
 
--- the lines that a read took: one, or none if the input ended
+-- the lines that a read took: one, or none if the input ended before any byte
 abbrev pub lines_to : LineEnd → List ℕ → List (List ℕ)
 lines_to end.Newline line = line ∷ []
 lines_to end.Input [] = []

@@ -101,7 +101,7 @@ CopiesOut bytes old new size true =
     (size ≡ length bytes) × (length bytes ≤ length old) × (new ≡ bytes ++ drop (length bytes) old)
 CopiesOut bytes old new size false = (size ≡ length bytes) × (length old < length bytes) × (new ≡ old)
 
--- a text was run and its answers are kept; its device calls wait for the host, or why not
+-- a text was run and its answers are kept; its device calls wait for the host, or `kept` says why not
 pub record RunsSession (old new : Session) (text : List ℕ) (ran : Result (Unit {0}) RunFault)
     (kept : Result (Unit {0}) CallsFault) : Type 0 where
   pub kernel : RunsKernel old.kernel new.kernel text [] new.answer.items ran
