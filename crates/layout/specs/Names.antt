@@ -27,4 +27,4 @@ unfoldable pub use Rattle.seal.specs.Sums.{sums_bytes, sums_of}
 pub use Rattle.seal.specs.declared.sums.Sums.{Sums}
 pub use Rattle.std.specs.List.{All, between, flat_map, range_with_len}
 pub use Rattle.std.specs.Prelude.{Bool, IsTrue, List, None, Option, Some, [], codes, drop, length, map, nat_le, nat_lt}
-pub use Rattle.std.specs.Prelude.{replicate, slice_index_or, suc, take, unwrap_or, zero, ℕ, ⊤}
+pub use Rattle.std.specs.Prelude.{replicate, slice_index, slice_index_or, suc, take, unwrap_or, zero, ℕ, ⊤}
