@@ -83,7 +83,10 @@ before the next checkpoint.
     },
     Topic {
         word: b"migrate",
-        text: b"migrate N: copies up to N saved objects from the log to their home places.\n",
+        text: b"\
+migrate N: copies up to N saved objects from the log to their home places. Commit them first; the next
+checkpoint must wait until none is left.
+",
     },
     Topic {
         word: b"journal",
