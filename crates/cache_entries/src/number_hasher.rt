@@ -8,7 +8,7 @@ use std::hash::Hasher;
 const MULTIPLIER: u64 = 0x9e37_79b9_7f4a_7c15;
 
 /// Hashes 8 bytes, as one number, by one multiplication (Fibonacci hashing). Places are few and close together, so
-/// this spreads them well. Of any other number of bytes only that number is hashed.
+/// this spreads them well. If there are not 8 bytes, hashes how many there are.
 #[derive(Clone, Copy)]
 pub struct NumberHasher {
     hash: u64,

@@ -11,7 +11,7 @@ use crate::{BankEntry, NodeEntry, PageEntry, ProcessEntry, SlotEntry, WordEntry}
 use model::{Cap, Capability, Content, Root, Slots, State, Words};
 use std::alloc::{AllocError, Global};
 
-// Returns a capability as it is stored in a new image: with count 0.
+// Returns a capability with count 0, the count of every object in a new image.
 fn fresh_cap(what: Capability) -> Cap
     ensures { result ≡ fresh_cap what }
 {

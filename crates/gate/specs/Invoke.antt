@@ -8,7 +8,7 @@ use Rattle.std.specs.Prelude.{◌≡◌, ◌↔◌, ◌+◌, ◌^◌, ◌<◌, �
 use Rattle.model.specs.declared.answer.Refusal.TheVariants as refusal
 use Rattle.gate.specs.declared.gates.Gate.{Gate}
 
--- the objects after an invocation, and the touched numbers, all of which half of the log holds
+-- the objects after an invocation, and which are touched then: no more than a half of the log has slots
 abbrev pub Invokes : Geometry → Invocation → List Object → List Bool → List Object → List Bool → Type 0
 Invokes g i before touched after touched_after =
     (effect : Effect) × (invoke g before i ≡ Some effect) × (after ≡ effect.objects)

@@ -34,8 +34,8 @@ pub fn sectors_needed(alloc: Global, table: &Table) -> Result<u64, BuildFault>
 /// After `Ok` a read returns that image, each crash leaves it, and its frames stand for a sound world. Sectors beyond
 /// the image stay.
 ///
-/// Returns the least of the faults that hold: `Shape` if the table isn't that of a description; `Limits` if no image
-/// may have so many objects or slots, such ranges, such an age or such a version of the layout; `Number` if a number
+/// Returns the least of the faults that hold: `Shape` if the table isn't that of a description; `Limits` if its
+/// sizes, ranges, age or version are outside the limits of images; `Number` if a number
 /// isn't one of its kind or occurs twice; `Field` if a field is malformed; `Target` if a capability names an object
 /// of another kind, or resumes a process that doesn't wait; `Owner` if the banks aren't a tree that owns all objects
 /// within their limits; `Small` if the device has fewer sectors than `sectors_needed` says; `Failed` exactly if the

@@ -1,4 +1,4 @@
-// Tests of which calls open or make a device.
+// Tests of the system calls that open or make a device.
 use crate::recorded::{Made, Recorded};
 use devices::{Access, CopiedFile, FileFault, HostFile};
 use std::fmt::{self, Display, Formatter, Write};

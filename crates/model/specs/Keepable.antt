@@ -93,7 +93,7 @@ pub record IsKeepable (g : Geometry) (age n : ℕ) (f : Frame) : Type 0 where
   pub kind : IsOfKind g n f.content
   pub kept : IsKept g age f
 
--- frames of all objects, each of which can be kept
+-- there is a frame for each object number, and each frame can be kept
 pub record AreKeepable (g : Geometry) (age : ℕ) (fs : List Frame) : Type 0 where
   pub count : length fs ≡ object_count g
   pub each : (n : ℕ) → n < object_count g → IsKeepable g age n (frame_at fs n)

@@ -63,7 +63,7 @@ pub fn steps_are_allowed()
     ensures { StepsAllowed }
 {}
 
-/// Of the other commands, only a `show`, a `restart` and a `cut` may be answered `no memory`.
+/// Only `show`, `restart` and `cut` may be answered `no memory`.
 #[tactic(auto, using(crate::proofs::Stepping::wants_memory_to_show))]
 pub fn wants_memory_to_show()
     ensures { WantsMemoryToShow }

@@ -18,7 +18,7 @@ abbrev pub begins_with_digit : List ℕ → Bool
 begins_with_digit [] = false
 begins_with_digit (b ∷ bs) = is_ascii_digit b
 
--- a name, as it is written after its number
+-- what is written after a number: its name in parentheses, or nothing if it has none
 abbrev pub suffix_of : Option (List ℕ) → List ℕ
 suffix_of None = []
 suffix_of (Some name) = codes " (" ++ name ++ codes ")"

@@ -43,7 +43,7 @@ fn goes_first(slots: &[SlotNumbers], i: u64, j: u64) -> bool
     }
 }
 
-// Returns the order of all three slots. Of the other two, slot `i` goes before slot `j`; neither is slot 2.
+// Returns the order of all three slots. Slots 0 and 1 are `i` and `j`, and `i` goes before `j`.
 fn with_last(slots: &[SlotNumbers], i: u64, j: u64) -> Order
     requires slots { length slots.now ≡ 3 }
     requires first { i < 2 }

@@ -67,7 +67,7 @@ fn spaced_words(text: &[u8]) -> ArrayVec<u8, MOST>
 }
 
 /// Returns a line of at most 257 bytes without its comment, and with one space between words. A line of 257 bytes
-/// stays as it is, since it is bad.
+/// isn't changed: it is too long, so it is a bad line anyway.
 #[tactic(auto, using(crate::proofs::ShellLines::read_short, crate::proofs::ShellLines::read_whole))]
 pub(crate) fn reading_of(line: &[u8]) -> ArrayVec<u8, MOST>
     requires { length line.now ≤ 257 }
