@@ -1,9 +1,10 @@
 -- Directories: empty ones, how they are read back, and why they are refused.
 use Rattle.ckpt_log.proofs.Names.{nat_tests, ℕ, List, [], length, take, drop, replicate, refl, arith, drop-replicate, take-replicate, Image, Entry}
-use Rattle.ckpt_log.proofs.Names.{directory_bytes, IsDirectory, Plan, directory_in, directory_length, sectors_from, Frame, IsFrameOf, frame_bytes, Geometry}
-use Rattle.ckpt_log.proofs.Names.{one_directory, directory_fits, one_frame, OpenFault, Failed, NoMemory, Bad, IsRefused, IsBadDirectory, SlotsAreReadBack}
-use Rattle.ckpt_log.proofs.Names.{DirectoriesAreReadBack, take-append_seam, CheckpointHeader, HasHeader, HasCommitted, HasNoCommitted}
-use Rattle.std.proofs.Common.{◌≡◌, ◌+◌, ◌-◌, ◌*◌, ◌/◌, ◌≤◌, ◌∷◌, ◌++◌}
+use Rattle.ckpt_log.proofs.Names.{directory_bytes, IsDirectory, Plan, directory_in, sectors_from, Frame, IsFrameOf, frame_bytes, Geometry, one_directory}
+use Rattle.ckpt_log.proofs.Names.{directory_fits, one_frame, OpenFault, Failed, NoMemory, Bad, IsRefused, IsBadDirectory, SlotsAreReadBack}
+use Rattle.ckpt_log.proofs.Names.{DirectoriesAreReadBack, take-append_seam, CheckpointHeader, HasHeader, HasCommitted, HasNoCommitted, directory_length}
+use Rattle.ckpt_log.proofs.Names.{no_sectors, Version, ap, sym}
+use Rattle.std.proofs.Common.{◌∙◌, ◌≡◌, ◌+◌, ◌-◌, ◌*◌, ◌/◌, ◌≤◌, ◌∷◌, ◌++◌}
 
 -- a directory without entries is encoded by no bytes
 pub no_entries : (p : Plan) (generation : ℕ) (image : Image) (es : List Entry) → length es ≡ 0 →
@@ -20,24 +21,26 @@ no_entries p generation image [] none = (
 no_entries p generation image (e ∷ es) none = absurd (omega (arith, none))
 
 -- a directory without entries has no sectors, so nothing lies after it
-nothing_behind : (image : Image) (at : ℕ) → drop (16 * 0) (sectors_from image at (directory_length 0))
-    ≡ replicate (512 * directory_length 0 - 16 * 0) 0
+nothing_behind : (image : Image) (at n : ℕ) → n ≡ 0 → drop (16 * 0) (sectors_from image at n) ≡ replicate (512 * n - 16 * 0) 0
 unfolding sectors_from
-nothing_behind image at = refl
+nothing_behind image at n none = rw none refl
 
-pub none_behind : (image : Image) (at : ℕ) {n : ℕ} → n ≡ 0 → drop (16 * n) (sectors_from image at (directory_length n)) ≡ replicate
-    (512 * directory_length n - 16 * n) 0
-none_behind image at none = rw none (nothing_behind image at)
+pub none_behind : (v : Version) (image : Image) (at : ℕ) {n : ℕ} → n ≡ 0 →
+    drop (16 * n) (sectors_from image at (directory_length v n)) ≡ replicate (512 * directory_length v n - 16 * n) 0
+none_behind v image at none = rw none (nothing_behind image at (directory_length v 0) (no_sectors v))
 
 -- if a directory is written over zeros, zeros follow its entries
-pub zeros_behind : (image : Image) (at n : ℕ) {most : ℕ} {run zeros : List ℕ} → 512 * directory_length n ≤ most → zeros ≡ replicate most 0
-    → sectors_from image at ((n + 32 - 1) / 32) ≡ run → drop (16 * n) run ≡ drop (16 * n) (take (512 * ((n + 32 - 1) / 32)) zeros) →
-    drop (16 * n) (sectors_from image at (directory_length n)) ≡ replicate (512 * directory_length n - 16 * n) 0
-zeros_behind image at n {most} {run} {zeros} room blank written rest = grind (arith, nat_tests, take-replicate, drop-replicate)
+pub zeros_behind : (image : Image) (at n : ℕ) {k long most : ℕ} {run zeros : List ℕ} → k ≡ long → 512 * long ≤ most →
+    zeros ≡ replicate most 0 → sectors_from image at k ≡ run → drop (16 * n) run ≡ drop (16 * n) (take (512 * k) zeros) →
+    drop (16 * n) (sectors_from image at long) ≡ replicate (512 * long - 16 * n) 0
+zeros_behind image at n {k} {long} {most} {run} {zeros} same room blank written rest =
+    grind (arith, nat_tests, take-replicate, drop-replicate)
 
--- how many bytes a directory's sectors have
-pub few_bytes : {n most : ℕ} → n ≤ most → most ≤ 4096 → 512 * ((n + 32 - 1) / 32) ≤ 65536
-few_bytes few least = omega arith
+-- its sectors begin with its bytes
+pub entries_written : (image : Image) (at n : ℕ) {k long : ℕ} {run bytes : List ℕ} → k ≡ long → sectors_from image at k ≡ run →
+    take (16 * n) run ≡ bytes → take (16 * n) (sectors_from image at long) ≡ bytes
+entries_written image at n {k} {long} {run} {bytes} same written front =
+    rw (sym same) (ap (take (16 * n)) written ∙ front)
 
 -- ---- what was written is read
 

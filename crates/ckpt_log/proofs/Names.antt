@@ -5,11 +5,12 @@ pub use Rattle.device.specs.Calls.{Agrees, AreSectors, Elsewhere, Narrows, secto
 pub use Rattle.device.specs.Disk.{Disk, Image}
 pub use Rattle.device.specs.Moments.{Elapses, LeavesOnly, Peeks}
 pub use Rattle.layout.proofs.Directories.{directory_fits, one_directory}
-pub use Rattle.layout.proofs.Halves.{half_apart, half_within}
+pub use Rattle.layout.proofs.Halves.{half_apart, half_lies, half_within}
 pub use Rattle.layout.proofs.Headers.{one_more, six}
 pub use Rattle.layout.proofs.Images.{one_frame}
 pub use Rattle.layout.proofs.Sectors.{one_from, same_sectors}
 pub use Rattle.layout.proofs.Shapes.{few_sectors, same_shaped}
+pub use Rattle.layout.proofs.Versions.{fewer_entries, half_has, no_sectors}
 unfoldable pub use Rattle.layout.specs.Bytes.{number, number_from, zeros}
 pub use Rattle.layout.specs.Directory.{IsDirectory}
 unfoldable pub use Rattle.layout.specs.Directory.{directory_bytes}
@@ -19,15 +20,17 @@ pub use Rattle.layout.specs.Gate.{gate_bytes, is_open}
 pub use Rattle.layout.specs.Header.{IsHeader}
 unfoldable pub use Rattle.layout.specs.Header.{header_bytes}
 pub use Rattle.layout.specs.Homes.{place_length, shape_of}
-pub use Rattle.layout.specs.Image.{Encodes, HasHeader, HasNoHeader, SavedState, committed_bytes, committed_of, committed_slot, directory_in, directory_length}
-pub use Rattle.layout.specs.Image.{directory_sector, does_count, frame_sector, frame_slot_in, half_sector, option_at, sector_or, sequence_in, slot_sector}
+pub use Rattle.layout.specs.Image.{Encodes, HasHeader, HasNoHeader, SavedState, committed_bytes, committed_of, committed_slot, directory_in, directory_sector}
+pub use Rattle.layout.specs.Image.{does_count, frame_sector, frame_slot_in, half_sector, option_at, sector_or, sequence_in, slot_sector}
 unfoldable pub use Rattle.layout.specs.Image.{sectors_from}
 pub use Rattle.layout.specs.Superblock.{IsPlan, Plan}
+unfoldable pub use Rattle.layout.specs.Version.{directory_length}
 pub use Rattle.layout.specs.declared.directory.Entry.{Entry}
 pub use Rattle.layout.specs.declared.gate.Gate.TheVariants.{Closed, Open}
 pub use Rattle.layout.specs.declared.header.CheckpointHeader.{CheckpointHeader}
 pub use Rattle.layout.specs.declared.open_fault.OpenFault.{OpenFault}
 pub use Rattle.layout.specs.declared.open_fault.OpenFault.TheVariants.{Bad, Failed, NoMemory}
+pub use Rattle.layout.specs.declared.version.Version.{Version}
 pub use Rattle.model.specs.Frame.{frame_at}
 pub use Rattle.model.specs.declared.frame.Frame.{Frame}
 pub use Rattle.model.specs.declared.geometry.Geometry.{Geometry}

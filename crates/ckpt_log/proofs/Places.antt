@@ -1,19 +1,24 @@
 -- Where slots and directories lie.
 use Rattle.ckpt_log.proofs.Names.{nat_tests, inl, arith, half_within, half_apart, few_sectors, SlotsAreInside, FramesAreInSlots, DirectoriesAreInside}
 use Rattle.ckpt_log.proofs.Names.{HalvesAreWithin, HalvesAreApart, SlotsAreApart, SlotsSpareDirectories, ℕ, Plan, IsPlan, place_length, frame_sector}
-use Rattle.ckpt_log.proofs.Names.{half_sector, slot_sector, directory_sector, directory_length, same_sectors, same_shaped, SequencesAreReported, NextFollows}
-use Rattle.ckpt_log.proofs.Names.{HeadersSpareSectors, HeadersSpareFrames, HeadersSpareSlots, HeadersSpareDirectories}
+use Rattle.ckpt_log.proofs.Names.{half_sector, slot_sector, directory_sector, same_sectors, same_shaped, SequencesAreReported, NextFollows, HeadersSpareSectors}
+use Rattle.ckpt_log.proofs.Names.{HeadersSpareFrames, HeadersSpareSlots, HeadersSpareDirectories, directory_length, half_lies, fewer_entries, half_has}
 use Rattle.std.proofs.Common.{◌+◌, ◌≤◌}
 use Rattle.ckpt_log.proofs.Commits.{sequence_of, next_fits, precedes}
 
 pub slots_inside : SlotsAreInside
-slots_inside p generation slot lt = record { starts = omega arith; ends = omega arith }
+slots_inside p generation slot lt =
+    let has = half_has p.version p.geometry in
+    record { starts = omega arith; ends = omega (arith, has, lt) }
 
 pub frames_in_slots : FramesAreInSlots
 frames_in_slots p generation slot object = let le = few_sectors p object in record { starts = omega arith; ends = omega (arith, le) }
 
 pub directories_inside : DirectoriesAreInside
-directories_inside p generation n le = record { starts = omega arith; ends = omega arith }
+directories_inside p generation n le =
+    let has = half_has p.version p.geometry in
+    let fewer = fewer_entries p.version n p.geometry.log le in
+    record { starts = omega arith; ends = omega (arith, has, fewer) }
 
 pub slots_apart : SlotsAreApart
 slots_apart = grind (arith, nat_tests)
@@ -52,7 +57,7 @@ pub spare_frames : HeadersSpareFrames
 spare_frames = grind (arith, nat_tests, same_shaped, spare_sectors)
 
 pub half_behind : (p : Plan) (generation : ℕ) → IsPlan p → 5 ≤ half_sector p generation
-half_behind p generation fits = (half_within p generation fits).0
+half_behind p generation fits = (half_lies p generation fits).0
 
 pub spare_slots : HeadersSpareSlots
 spare_slots = grind (arith, nat_tests, half_behind, same_shaped, spare_sectors)

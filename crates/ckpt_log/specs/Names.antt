@@ -11,9 +11,9 @@ unfoldable pub use Rattle.layout.specs.Header.{header_bytes}
 pub use Rattle.layout.specs.Homes.{home_place, place_length}
 pub use Rattle.layout.specs.Image.{Encodes, HasBadDirectory, HasBadHeader, HasDirectory, HasHeader, HasNoHeader}
 pub use Rattle.layout.specs.Image.{HasPlan, SavedState, bytes_at, committed_bytes, committed_slot, directory_in}
-pub use Rattle.layout.specs.Image.{directory_length, directory_sector, frame_in, frame_sector, half_sector, sequence_in}
-pub use Rattle.layout.specs.Image.{slot_sector}
+pub use Rattle.layout.specs.Image.{directory_sector, frame_in, frame_sector, half_sector, sequence_in, slot_sector}
 pub use Rattle.layout.specs.Superblock.{IsApart, IsInside, IsPlan, IsWithin, Plan, half_extent}
+unfoldable pub use Rattle.layout.specs.Version.{directory_length}
 pub use Rattle.layout.specs.declared.bad_image.BadImage.{BadImage}
 pub use Rattle.layout.specs.declared.bad_image.BadImage.TheVariants.{BadDirectory}
 pub use Rattle.layout.specs.declared.directory.Entry.{Entry}

@@ -14,12 +14,15 @@ place_extent p generation slot object =
 
 -- the sectors of a directory of n entries
 abbrev pub directory_extent : Plan → ℕ → ℕ → Extent
-directory_extent p generation n = record { sector = directory_sector p generation; length = directory_length n }
+directory_extent p generation n = record {
+  sector = directory_sector p generation;
+  length = directory_length p.version n;
+}
 
 -- slots lie inside their half, frames inside their slot, and directories inside their half
 abbrev pub SlotsAreInside : Type 0
 SlotsAreInside = (p : Plan) (generation slot : ℕ) → slot < p.geometry.log →
-    IsInside (slot_extent p generation slot) (half_extent p.geometry (half_sector p generation))
+    IsInside (slot_extent p generation slot) (half_extent p.version p.geometry (half_sector p generation))
 
 abbrev pub FramesAreInSlots : Type 0
 FramesAreInSlots = (p : Plan) (generation slot object : ℕ) → IsInside (place_extent p generation slot object)
@@ -27,17 +30,17 @@ FramesAreInSlots = (p : Plan) (generation slot object : ℕ) → IsInside (place
 
 abbrev pub DirectoriesAreInside : Type 0
 DirectoriesAreInside = (p : Plan) (generation n : ℕ) → n ≤ p.geometry.log →
-    IsInside (directory_extent p generation n) (half_extent p.geometry (half_sector p generation))
+    IsInside (directory_extent p generation n) (half_extent p.version p.geometry (half_sector p generation))
 
 -- each half lies after the headers and before the end
 abbrev pub HalvesAreWithin : Type 0
 HalvesAreWithin = (p : Plan) (generation : ℕ) → IsPlan p →
-    IsWithin p.total (half_extent p.geometry (half_sector p generation))
+    IsWithin p.total (half_extent p.version p.geometry (half_sector p generation))
 
 -- no sector is in both halves
 abbrev pub HalvesAreApart : Type 0
 HalvesAreApart = (p : Plan) (a b : ℕ) → IsPlan p → (a % 2 ≡ b % 2 → ⊥) →
-    IsApart (half_extent p.geometry (half_sector p a)) (half_extent p.geometry (half_sector p b))
+    IsApart (half_extent p.version p.geometry (half_sector p a)) (half_extent p.version p.geometry (half_sector p b))
 
 -- no sector is in two slots of a half, nor in a slot and the directory
 abbrev pub SlotsAreApart : Type 0

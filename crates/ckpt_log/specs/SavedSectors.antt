@@ -1,7 +1,7 @@
 -- The sectors that a saved state is read from.
 use Rattle.ckpt_log.specs.Names.{ℕ, List, Entry, CheckpointHeader, Image, place_length, HasDirectory, frame_in}
-use Rattle.ckpt_log.specs.Names.{frame_sector, directory_sector, directory_length, SavedState, Encodes, committed_slot}
-use Rattle.ckpt_log.specs.Names.{committed_bytes, Plan}
+use Rattle.ckpt_log.specs.Names.{frame_sector, directory_sector, SavedState, Encodes, committed_slot, committed_bytes}
+use Rattle.ckpt_log.specs.Names.{Plan, directory_length}
 use Rattle.std.specs.Prelude.{◌≡◌, ◌+◌, ◌<◌}
 
 -- the same bytes in the n sectors from `at` on
@@ -11,7 +11,7 @@ SameFrom at n old new = (i : ℕ) → i < n → new (at + i) ≡ old (at + i)
 -- the same bytes in the header slots and their gates, in the directory of h, and in the frame of each object
 pub record SameWhereRead (p : Plan) (h : CheckpointHeader) (es : List Entry) (old new : Image) : Type 0 where
   pub headers : SameFrom 1 4 old new
-  pub directory : SameFrom (directory_sector p h.generation) (directory_length h.entries) old new
+  pub directory : SameFrom (directory_sector p h.generation) (directory_length p.version h.entries) old new
   pub frames : (object : ℕ) → object < p.geometry.nodes + p.geometry.pages →
       SameFrom (frame_sector p h.generation es object) (place_length p object) old new
 
@@ -23,7 +23,7 @@ SameHeader = (old new : Image) → SameFrom 1 4 old new →
 -- images that agree in the sectors of a directory have the same directory
 abbrev pub SameDirectory : Type 0
 SameDirectory = (old new : Image) (p : Plan) (h : CheckpointHeader) (es : List Entry) →
-    SameFrom (directory_sector p h.generation) (directory_length h.entries) old new
+    SameFrom (directory_sector p h.generation) (directory_length p.version h.entries) old new
     → HasDirectory old p h es → HasDirectory new p h es
 
 -- images that agree in the sectors of a frame have the same frame

@@ -1,7 +1,8 @@
 // The directories of the log.
 ghost use Rattle.std.specs.Prelude.{◌≡◌, ◌+◌, ◌-◌, ◌*◌, ◌<◌, ◌≤◌, List, length, replicate, take, drop, IfErr, OnOk};
 ghost use Rattle.layout.specs.Directory.{directory_bytes, IsDirectory};
-ghost use Rattle.layout.specs.Image.{directory_sector, directory_length, directory_in, sectors_from};
+ghost use Rattle.layout.specs.Image.{directory_sector, directory_in, sectors_from};
+ghost use Rattle.layout.specs.Version.{directory_length};
 ghost use Rattle.device.specs.Calls.{Counts};
 ghost use Rattle.layout.specs.Calls.{ReadsOnly, WritesAt};
 ghost use Rattle.layout.specs.Fault.{CountsOpen};
@@ -16,10 +17,7 @@ use layout::{
 use model::Geometry;
 
 // How many bytes the greatest directory takes.
-const MAX_BYTES: usize = 65536;
-
-// How many entries a sector has.
-const ENTRIES_IN_SECTOR: usize = 32;
+const MAX_BYTES: usize = 70144;
 
 // Writes the bytes of a directory, 16 for each entry. The bytes after them stay.
 fn put_entries(entries: &[Entry], into: &mut [u8])
@@ -30,33 +28,6 @@ fn put_entries(entries: &[Entry], into: &mut [u8])
     ensures size { length into.new ≡ length into.old }
 {
     encode_directory(entries, &mut into[..ENTRY_BYTES * entries.len()]);
-}
-
-// Writes a directory into the sectors from `at` on, through a buffer of zeros that is large enough.
-fn write_entries<D: Device>(
-    device: &mut D,
-    at: u64,
-    entries: &[Entry],
-    zeros: &mut [u8],
-) -> Result<(), Failed>
-    requires zeros { zeros.old ≡ replicate (length zeros.old) 0 }
-    requires few { length entries.now ≤ 4096 }
-    requires room { 512 * directory_length (length entries.now) ≤ length zeros.old }
-    requires inside { at + directory_length (length entries.now) ≤ (D.disk device.old).sectors }
-    ensures written { OnOk result (take (16 * length entries.now)
-        (sectors_from (D.disk device.new).seen at (directory_length (length entries.now)))
-        ≡ directory_bytes entries.now) }
-    ensures rest { OnOk result (drop (16 * length entries.now)
-        (sectors_from (D.disk device.new).seen at (directory_length (length entries.now)))
-        ≡ replicate (512 * directory_length (length entries.now) - 16 * length entries.now) 0) }
-    ensures writes { WritesAt at (directory_length (length entries.now))
-        (D.disk device.old) (D.disk device.new) }
-    ensures cause { Counts (D.disk device.old) (D.disk device.new) result }
-{
-    let sectors = (entries.len() + ENTRIES_IN_SECTOR - 1) / ENTRIES_IN_SECTOR;
-    let run = &mut zeros[..SECTOR_SIZE * sectors];
-    put_entries(entries, run);
-    write_sectors(device, at, sectors, run)
 }
 
 // Reads a directory of `into.len()` entries from the first of the bytes. Returns `BadDirectory` if they encode none.
@@ -73,6 +44,34 @@ fn entries_in(bytes: &[u8], geometry: Geometry, into: &mut [Entry]) -> Result<()
 }
 
 impl<'a> Log<'a> {
+    // Writes a directory into the sectors from `at` on, through a buffer of zeros that has space for them.
+    fn write_entries<D: Device>(
+        &self,
+        device: &mut D,
+        at: u64,
+        entries: &[Entry],
+        zeros: &mut [u8],
+    ) -> Result<(), Failed>
+        requires zeros { zeros.old ≡ replicate (length zeros.old) 0 }
+        requires few { length entries.now ≤ self.now.geometry.log }
+        requires room { 512 * directory_length self.now.version (length entries.now) ≤ length zeros.old }
+        requires inside { at + directory_length self.now.version (length entries.now) ≤ (D.disk device.old).sectors }
+        ensures written { OnOk result (take (16 * length entries.now)
+            (sectors_from (D.disk device.new).seen at (directory_length self.now.version (length entries.now)))
+            ≡ directory_bytes entries.now) }
+        ensures rest { OnOk result (drop (16 * length entries.now)
+            (sectors_from (D.disk device.new).seen at (directory_length self.now.version (length entries.now)))
+            ≡ replicate (512 * directory_length self.now.version (length entries.now) - 16 * length entries.now) 0) }
+        ensures writes { WritesAt at (directory_length self.now.version (length entries.now))
+            (D.disk device.old) (D.disk device.new) }
+        ensures cause { Counts (D.disk device.old) (D.disk device.new) result }
+    {
+        let sectors = self.directory_length(entries.len());
+        let run = &mut zeros[..SECTOR_SIZE * sectors];
+        put_entries(entries, run);
+        write_sectors(device, at, sectors, run)
+    }
+
     /// Writes the directory of the half of a generation. After its last entry, the rest of the last sector is 0. All
     /// other sectors keep their bytes, and a crash may leave nothing new in them.
     ///
@@ -91,10 +90,10 @@ impl<'a> Log<'a> {
             ≡ directory_bytes entries.now) }
         ensures rest { OnOk result (drop (16 * length entries.now)
             (sectors_from (D.disk device.new).seen (directory_sector self.now generation)
-            (directory_length (length entries.now)))
-            ≡ replicate (512 * directory_length (length entries.now) - 16 * length entries.now) 0) }
+            (directory_length self.now.version (length entries.now)))
+            ≡ replicate (512 * directory_length self.now.version (length entries.now) - 16 * length entries.now) 0) }
         ensures writes { WritesAt (directory_sector self.now generation)
-            (directory_length (length entries.now)) (D.disk device.old) (D.disk device.new) }
+            (directory_length self.now.version (length entries.now)) (D.disk device.old) (D.disk device.new) }
         ensures untouched { length entries.now ≡ 0 → device.new ≡ device.old }
         ensures cause { Counts (D.disk device.old) (D.disk device.new) result }
     {
@@ -102,10 +101,10 @@ impl<'a> Log<'a> {
             return Ok(());
         }
         let at = self.directory_sector(generation);
-        if entries.len() <= ENTRIES_IN_SECTOR {
-            return write_entries(device, at, entries, &mut [0; SECTOR_SIZE]);
+        if self.directory_length(entries.len()) == 1 {
+            return self.write_entries(device, at, entries, &mut [0; SECTOR_SIZE]);
         }
-        write_entries(device, at, entries, &mut [0; MAX_BYTES])
+        self.write_entries(device, at, entries, &mut [0; MAX_BYTES])
     }
 
     /// Reads a directory of `into.len()` entries from the half of a generation. It allocates nothing. If there are no
@@ -135,7 +134,7 @@ impl<'a> Log<'a> {
         }
         let at = self.directory_sector(generation);
         let mut bytes = [0; MAX_BYTES];
-        let sectors = (into.len() + ENTRIES_IN_SECTOR - 1) / ENTRIES_IN_SECTOR;
+        let sectors = self.directory_length(into.len());
         let run = &mut bytes[..SECTOR_SIZE * sectors];
         read_sectors(device, at, sectors, run)?;
         entries_in(run, self.geometry(), into)?;

@@ -1,11 +1,12 @@
 // Where the log lies.
-ghost use Rattle.std.specs.Prelude.{◌≡◌, ◌+◌, ◌<◌, ◌≤◌};
+ghost use Rattle.std.specs.Prelude.{◌≡◌, ◌+◌, ◌*◌, ◌<◌, ◌≤◌};
 ghost use Rattle.layout.specs.Homes.{shape_of};
 ghost use Rattle.layout.specs.Shape.{IsShapeFor, shape_length};
 ghost use Rattle.layout.specs.Superblock.{IsWithin, half_extent};
-ghost use Rattle.layout.specs.Image.{half_sector, slot_sector, directory_sector, directory_length};
+ghost use Rattle.layout.specs.Image.{half_sector, slot_sector, directory_sector};
+ghost use Rattle.layout.specs.Version.{directory_length};
 
-use layout::{Half, Shape, Superblock};
+use layout::{Half, Shape, Superblock, directory_length};
 use model::Geometry;
 use std::marker::Model;
 
@@ -41,6 +42,18 @@ impl<'a> Log<'a> {
         self.superblock.geometry()
     }
 
+    // Returns how many sectors a directory of this number of entries takes.
+    #[tactic(auto, using(layout::proofs::Versions::fewer_entries))]
+    pub(crate) fn directory_length(&self, entries: usize) -> usize
+        requires { entries ≤ self.now.geometry.log }
+        ensures value { result ≡ directory_length self.now.version entries }
+        ensures few { result ≤ 137 }
+        ensures holds { 16 * entries ≤ 512 * result }
+        ensures most { result ≤ directory_length self.now.version self.now.geometry.log }
+    {
+        directory_length(self.superblock.version(), entries as u64) as usize
+    }
+
     // Returns where the frame of an object lies in its slot. A slot has space for any block.
     pub(crate) fn shape(&self, number: u64) -> Shape
         ensures value { result ≡ shape_of self.now number }
@@ -51,11 +64,13 @@ impl<'a> Log<'a> {
     }
 
     // Returns the first sector of the half of a generation.
-    #[tactic(auto, using(layout::proofs::Halves::half_within))]
+    #[tactic(auto, using(layout::proofs::Halves::half_within, layout::proofs::Halves::half_lies))]
     fn half_sector(&self, generation: u64) -> u64
         ensures value { result ≡ half_sector self.now generation }
         ensures within { IsWithin self.now.total
-            (half_extent self.now.geometry (half_sector self.now generation)) }
+            (half_extent self.now.version self.now.geometry (half_sector self.now generation)) }
+        ensures lies { half_sector self.now generation + 9 * self.now.geometry.log
+            + directory_length self.now.version self.now.geometry.log ≤ self.now.total }
         ensures total { self.now.total ≤ 131072 }
     {
         self.superblock.half(Half::of(generation))
@@ -73,7 +88,7 @@ impl<'a> Log<'a> {
     // Returns the first sector of the directory of a generation.
     pub(crate) fn directory_sector(&self, generation: u64) -> u64
         ensures value { result ≡ directory_sector self.now generation }
-        ensures inside { result + directory_length self.now.geometry.log ≤ self.now.total }
+        ensures inside { result + directory_length self.now.version self.now.geometry.log ≤ self.now.total }
         ensures room { self.now.geometry.log ≤ 4096 }
     {
         self.half_sector(generation) + 9 * self.geometry().log

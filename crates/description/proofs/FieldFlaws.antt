@@ -1,10 +1,9 @@
 -- What is wrong with the fields of a description: the search finds it, and the rule is broken there.
-use Rattle.description.proofs.Names.{ℕ, zero, suc, List, [], length, map, Option, None, Some, slice_get, slice_index, slice_index_or, IsSomeAnd, refl}
-use Rattle.description.proofs.Names.{sym, ap, arith, All, All-cons, All-head, All-map, All-tail, none-some, same_Some, slice_get_within, AreDistinct, AreSlots}
-use Rattle.description.proofs.Names.{AreWords, HasFields, IsProcessEntry, IsSomeCapability, Description, NodeEntry, PageEntry, ProcessEntry, SlotEntry}
-use Rattle.description.proofs.Names.{WordEntry, process_of, BreaksField, BreaksIndexed, BreaksProcess, BreaksSlots, IsFirst, IsTwice, Indexed, Part, SlotFlaw}
-use Rattle.description.proofs.Names.{inl, inr, slice_get-get_or, take, take_more, subst}
-use Rattle.description.proofs.Names.{Contains, Contains-append_cases}
+use Rattle.description.proofs.Names.{ℕ, zero, suc, List, [], length, map, Option, None, Some, slice_get, slice_index, slice_index_or, IsSomeAnd, refl, sym, ap}
+use Rattle.description.proofs.Names.{arith, All, All-cons, All-head, All-map, All-tail, none-some, same_Some, slice_get_within, AreDistinct, AreSlots, AreWords}
+use Rattle.description.proofs.Names.{HasFields, IsProcessEntry, IsSomeCapability, Description, NodeEntry, PageEntry, ProcessEntry, SlotEntry, WordEntry}
+use Rattle.description.proofs.Names.{process_of, BreaksField, BreaksIndexed, BreaksProcess, BreaksSlots, IsFirst, IsTwice, Indexed, Part, SlotFlaw, inl, inr}
+use Rattle.description.proofs.Names.{slice_get-get_or, take, take_more, subst, Contains, Contains-append_cases}
 use Rattle.std.proofs.Common.{◌≡◌, ◌≢◌, ◌+◌, ◌<◌, ◌≤◌, ◌∷◌, ◌++◌, ◌∙◌}
 use Rattle.description.specs.declared.flaw.Indexed.TheVariants as indexed
 use Rattle.description.specs.declared.flaw.Part.TheVariants as part

@@ -1,12 +1,11 @@
 -- The first flaw of a table, from what a reader found.
-use Rattle.description.proofs.Names.{nat_tests, ℕ, zero, suc, inl, inr, List, [], length, get_or, take, map, None, Some, refl, sym, subst}
-use Rattle.description.proofs.Names.{ap, arith, false, true≢false, IsTrue, IsErrAnd, MatchOption, Result, none-some, same_Some, Data}
-use Rattle.description.proofs.Names.{Items, item, no_items, Members, member, no_members, array, table, get_member, items_view, view, Value, AreItems, HasList}
-use Rattle.description.proofs.Names.{IsTable, has_only, Ok, Err, Key, TableName, Flaw, ShapePlace, Misread, Unknown, Misfit}
-use Rattle.description.proofs.Names.{Item, key_name, keys_of, FitsAt, IsItem, IsFormless, is_list, first_unknown, FitsBefore, IsFirstItem, IsFirstFlaw}
-use Rattle.description.proofs.Names.{IsFirstInside, BreaksAt, BreaksShape, At, IsNumber, HasNumberAndOwner, HasProcessFields, ProcessFields}
-use Rattle.description.proofs.Names.{ObjectNumber, ObjectOwner, ProcessRegisters, codes, Misses, Reads, IsMisfit, IsIn, IsUnknown, IsStranger, IsBadList}
-use Rattle.description.proofs.Names.{AreBadEntries, IsBadTable, AreBadTables, AtKey}
+use Rattle.description.proofs.Names.{nat_tests, ℕ, zero, suc, inl, inr, List, [], length, get_or, take, map, None, Some, refl, sym, subst, ap, arith, false}
+use Rattle.description.proofs.Names.{true≢false, IsTrue, IsErrAnd, MatchOption, Result, none-some, same_Some, Data, Items, item, no_items, Members, member}
+use Rattle.description.proofs.Names.{no_members, array, table, get_member, items_view, view, Value, AreItems, HasList, IsTable, has_only, Ok, Err, Key}
+use Rattle.description.proofs.Names.{TableName, Flaw, ShapePlace, Misread, Unknown, Misfit, Item, key_name, keys_of, FitsAt, IsItem, IsFormless, is_list}
+use Rattle.description.proofs.Names.{first_unknown, FitsBefore, IsFirstItem, IsFirstFlaw, IsFirstInside, BreaksAt, BreaksShape, At, IsNumber, HasNumberAndOwner}
+use Rattle.description.proofs.Names.{HasProcessFields, ProcessFields, ObjectNumber, ObjectOwner, ProcessRegisters, codes, Misses, Reads, IsMisfit, IsIn}
+use Rattle.description.proofs.Names.{IsUnknown, IsStranger, IsBadList, AreBadEntries, IsBadTable, AreBadTables, AtKey}
 use Rattle.std.proofs.Common.{◌≡◌, ◌<◌, ◌∷◌, ◌∙◌}
 use Rattle.description.specs.declared.place.Misread.TheVariants as misread
 use Rattle.description.specs.declared.place.TableName.TheVariants as name

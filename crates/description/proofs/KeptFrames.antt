@@ -6,8 +6,7 @@ use Rattle.description.proofs.Names.{IsKeptCap, IsKeepable, IsOfKind, IsSpace, o
 use Rattle.description.proofs.Names.{ProcessEntry, SlotEntry, WordEntry, World, AreSlots, AreWords, HasFields, HasNamedWords, HasNumbers, HoldsNamed}
 use Rattle.description.proofs.Names.{IsSomeCapability, IsDescribed, IsProcessEntry, IsSpaceEntry, first_named, AllHave, AllIn, AllOfProcess, Entry, IfNamed}
 use Rattle.description.proofs.Names.{IsLaid, OfAnnex, OfBank, OfNode, OfPage, OfRoot, entries, frame_of, laid, number_of, slot_held, slots_of, IsTarget}
-use Rattle.description.proofs.Names.{words_of, Fits}
-use Rattle.layout.specs.Superblock.{IsGeometry}
+use Rattle.description.proofs.Names.{words_of, Fits, IsGeometry}
 use Rattle.std.proofs.Common.{◌≡◌, ◌≢◌, ◌+◌, ◌^◌, ◌<◌, ◌≤◌, ◌∙◌}
 use Rattle.description.proofs.Entries.{IsFrameOf, IsOf, entries_distinct, entries_of, in_range, numbers_are, of_entries}
 use Rattle.description.proofs.LaidFrames.{laid_both}

@@ -1,8 +1,8 @@
 -- Distinct numbers, and writes at them.
 use Rattle.description.proofs.Names.{ℕ, zero, suc, inl, inr, List, [], map, length, replicate, Some, slice_get, drop, slice_index_or, slice_set, refl, sym, ap}
 use Rattle.description.proofs.Names.{subst, arith, All, Contains, cases_eq, nat_tests, get_or-set_same, get_or-set_other, length-set, drop_all, drop_more}
-use Rattle.description.proofs.Names.{All-head, All-set, All-tail, Contains-get_or, AreDistinct, first_named, set_each}
-use Rattle.description.proofs.Names.{Contains-append_left, Contains-append_right}
+use Rattle.description.proofs.Names.{All-head, All-set, All-tail, Contains-get_or, AreDistinct, first_named, set_each, Contains-append_left}
+use Rattle.description.proofs.Names.{Contains-append_right}
 use Rattle.std.proofs.Common.{◌≡◌, ◌≢◌, ◌⊎◌, ◌+◌, ◌<◌, ◌≤◌, ◌∷◌, ◌++◌, ◌∙◌}
 
 pub contains_here : {X : Type 0} → (x : X) (xs : List X) → Contains (x ∷ xs) x

@@ -1,10 +1,10 @@
 -- The capabilities that a description names, and those that its frames hold.
-use Rattle.description.proofs.Names.{ℕ, inl, inr, List, [], Option, None, Some, slice_get, take, unwrap_or, IsSomeAnd, refl, sym, ap, subst, arith}
-use Rattle.description.proofs.Names.{All, FirstLacks, IsFirst, LacksIt, NamesItsObject, OneOf, OneOfProcess, ProcessEntry, cases_eq, All-cons}
-use Rattle.description.proofs.Names.{All-contains, All-head, All-tail, get_or_from_slice_get, Cap, Capability, Void, Frame, frame_at, caps_in}
-use Rattle.description.proofs.Names.{fresh_cap, AreNamed, IsNamed, NamesItsRole, Description, NodeEntry, SlotEntry, AreSlots, HasFields, HasNumbers}
-use Rattle.description.proofs.Names.{HoldsNamed, IsDescribed, IsProcessEntry, named_at, Entry, OfAnnex, OfBank, OfNode, OfPage, OfRoot, IsTarget}
-use Rattle.description.proofs.Names.{Held, BreaksTarget, AllHave, AllIn, AllOfProcess, IfNamed, OneLacks}
+use Rattle.description.proofs.Names.{ℕ, inl, inr, List, [], Option, None, Some, slice_get, take, unwrap_or, IsSomeAnd, refl, sym, ap, subst, arith, All}
+use Rattle.description.proofs.Names.{FirstLacks, IsFirst, LacksIt, NamesItsObject, OneOf, OneOfProcess, ProcessEntry, cases_eq, All-cons, All-contains}
+use Rattle.description.proofs.Names.{All-head, All-tail, get_or_from_slice_get, Cap, Capability, Void, Frame, frame_at, caps_in, fresh_cap, AreNamed, IsNamed}
+use Rattle.description.proofs.Names.{NamesItsRole, Description, NodeEntry, SlotEntry, AreSlots, HasFields, HasNumbers, HoldsNamed, IsDescribed, IsProcessEntry}
+use Rattle.description.proofs.Names.{named_at, Entry, OfAnnex, OfBank, OfNode, OfPage, OfRoot, IsTarget, Held, BreaksTarget, AllHave, AllIn, AllOfProcess}
+use Rattle.description.proofs.Names.{IfNamed, OneLacks}
 use Rattle.std.proofs.Common.{◌≡◌, ◌<◌, ◌≤◌, ◌∷◌, ◌∙◌}
 use Rattle.description.specs.declared.flaw.Held.TheVariants as held
 use Rattle.description.proofs.DescribedOnce.{described_once}

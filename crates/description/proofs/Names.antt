@@ -6,7 +6,8 @@ pub use Rattle.capability.specs.Plain.{fresh_cap}
 pub use Rattle.collections.specs.Marks.{is_marked}
 pub use Rattle.home_ranges.specs.Laid.{MayBeLaid, placed}
 pub use Rattle.home_ranges.specs.declared.number_range.NumberRange.{NumberRange}
-pub use Rattle.layout.specs.Superblock.{Cover, version_number}
+pub use Rattle.layout.specs.Superblock.{Cover, IsGeometry, version_number}
+pub use Rattle.layout.specs.Version.{IsOpened}
 pub use Rattle.layout.specs.declared.version.Version.{Version}
 pub use Rattle.model.specs.Capability.{IsWellFormed, named}
 pub use Rattle.model.specs.Frame.{blank_frame, blank_header, current_count, frame_at, header_at, headers, void_held}
@@ -30,8 +31,9 @@ pub use Rattle.model.specs.declared.object.State.{State}
 pub use Rattle.model.specs.declared.object.State.TheVariants.{Available, Running, Waiting}
 pub use Rattle.script.proofs.CapabilityTexts.{text_once}
 pub use Rattle.std.proofs.Common.{Bool, Bor, Err, Global, IfNone, IfSome, IsErrAnd, IsSomeAnd, List, MatchOption, None, Ok, Option, Result, Some, Vec, [], ap}
-pub use Rattle.std.proofs.Common.{option_map, arith, codes, drop, false, get_or, inl, inr, is_eq, is_some, length, map, nat_cmp, nat_eq, pos, refl, replicate, rules}
-pub use Rattle.std.proofs.Common.{slice_get, slice_index, slice_index_or, slice_set, subst, suc, sym, take, true, true≢false, unwrap_or, vec_len, zero, ℕ, ℤ}
+pub use Rattle.std.proofs.Common.{arith, codes, drop, false, get_or, inl, inr, is_eq, is_some, length, map, nat_cmp, nat_eq, option_map, pos, refl, replicate}
+pub use Rattle.std.proofs.Common.{rules, slice_get, slice_index, slice_index_or, slice_set, subst, suc, sym, take, true, true≢false, unwrap_or, vec_len, zero}
+pub use Rattle.std.proofs.Common.{ℕ, ℤ}
 pub use Rattle.std.proofs.Math.ListN.{get_or-map}
 pub use Rattle.std.proofs.lemmas.Bool.{cases_eq, cases_lt, false≢true}
 pub use Rattle.std.proofs.lemmas.Bool.Decides.{nat_tests}
@@ -56,31 +58,30 @@ pub use Rattle.toml.specs.Data.{Data, Items, Members, array, as_array, as_intege
 pub use Rattle.toml.specs.Data.{string, table}
 pub use Rattle.toml.specs.View.{items_view, members_view, table_view, view}
 pub use Rattle.toml.specs.declared.value.Value.{Value}
-pub use Rattle.description.specs.Broken.{AllHave, AllIn, AllOfProcess, BreaksGeometry, BreaksLimit, BreaksNumber, BreaksRanges, BreaksTarget, BreaksWorld}
-pub use Rattle.description.specs.Broken.{FirstLacks, GoOn, GoesOn, IfNamed, IsFirstOutside, LacksIt, NamesItsObject, OneLacks, OneOf, count_in, is_node}
-pub use Rattle.description.specs.Broken.{number_at, place_of}
+pub use Rattle.description.specs.Broken.{AllHave, AllIn, AllOfProcess, BreaksGeometry, BreaksLimit, BreaksNumber, BreaksRanges, BreaksTarget, FirstLacks, GoOn}
+pub use Rattle.description.specs.Broken.{GoesOn, IfNamed, IsFirstOutside, LacksIt, NamesItsObject, OneLacks, OneOf, count_in, is_node, number_at, place_of}
 unfoldable pub use Rattle.description.specs.Broken.{OneOfProcess}
 pub use Rattle.description.specs.Described.{AreDistinct, AreSlots, AreWords, HasFields, HasNamedWords, HasNumbers, HoldsNamed, IsDescribed, IsDescribedAnnex}
-pub use Rattle.description.specs.Described.{IsDescribedNode, IsDescribedPage, IsDescribedRoot, IsProcessEntry, IsSomeCapability, IsSpaceEntry, IsWorldFault, first_frame}
+pub use Rattle.description.specs.Described.{IsDescribedNode, IsDescribedPage, IsDescribedRoot, IsProcessEntry, IsSomeCapability, IsSpaceEntry, first_frame}
 pub use Rattle.description.specs.Described.{first_named, named_at, node_numbers, page_numbers}
 pub use Rattle.description.specs.Describes.{plain_frame}
 unfoldable pub use Rattle.description.specs.Describes.{plain_frames}
 pub use Rattle.description.specs.Faults.{fault_number}
 pub use Rattle.description.specs.FieldFlaws.{BreaksField, IsFirst, IsFirstTwice, IsOutside, IsTwice, process_of}
 unfoldable pub use Rattle.description.specs.FieldFlaws.{BreaksIndexed, BreaksProcess, BreaksSlots}
-pub use Rattle.description.specs.Laid.{AreLaid, Entry, Fits, IsLaid, IsPut, OfAnnex, OfBank, OfNode, OfPage, OfRoot}
-pub use Rattle.description.specs.Laid.{entries, frame_of, frames_of, number_of, set_each, slot_held}
+pub use Rattle.description.specs.Laid.{AreLaid, Entry, Fits, IsLaid, IsPut, OfAnnex, OfBank, OfNode, OfPage, OfRoot, entries, frame_of, frames_of, number_of}
+pub use Rattle.description.specs.Laid.{set_each, slot_held}
 unfoldable pub use Rattle.description.specs.Laid.{laid, slots_of, words_of}
 pub use Rattle.description.specs.Laws.{Each, IsSame, IsSameNode, IsSamePage, IsSameProcess, NoFault, NumberIsSpelledOnce, OneFault}
 pub use Rattle.description.specs.Outcomes.{AreBadEntries, AreBadTables, AtKey, Finds, IsBadList, IsBadTable, IsIn, IsMisfit, IsStranger, IsUnknown, Misses}
-pub use Rattle.description.specs.Outcomes.{Reads, world_fault}
+pub use Rattle.description.specs.Outcomes.{Reads}
 pub use Rattle.description.specs.Reading.{AreFour, AreItems, At, AtOr, HasList, HasNumberAndOwner, HasProcessFields, IsBank, IsCapability, IsDescription}
-pub use Rattle.description.specs.Reading.{IsGeometry, IsList, IsNode, IsNumber, IsPage, IsPair, IsProcess, IsRange, IsSlot, IsState, IsTable, IsWord, has_only}
+pub use Rattle.description.specs.Reading.{IsList, IsNode, IsNumber, IsPage, IsPair, IsProcess, IsRange, IsSlot, IsState, IsTable, IsWord, has_only}
 pub use Rattle.description.specs.Reading.{whole_ranges}
 unfoldable pub use Rattle.description.specs.Reading.{IsWideNumber}
 pub use Rattle.description.specs.Rules.{IsAccepted, IsFirstBroken, IsWithinLimits, Rule}
 pub use Rattle.description.specs.Shapes.{BreaksAt, BreaksShape, FitAll, FitsAt, FitsBefore, HasFirstItem, IsFirstFlaw, IsFirstInside, IsFirstItem, IsFormless}
-pub use Rattle.description.specs.Shapes.{IsItem, first_unknown, is_list, key_name, keys_of, misfit}
+pub use Rattle.description.specs.Shapes.{IsItem, first_unknown, is_list, key_name, keys_of}
 pub use Rattle.description.specs.declared.entry.BankEntry.{BankEntry}
 pub use Rattle.description.specs.declared.entry.Description.{Description}
 pub use Rattle.description.specs.declared.entry.NodeEntry.{NodeEntry}
@@ -97,7 +98,6 @@ pub use Rattle.description.specs.declared.flaw.Misnumbered.{Misnumbered}
 pub use Rattle.description.specs.declared.flaw.Named.{Named}
 pub use Rattle.description.specs.declared.flaw.Part.{Part}
 pub use Rattle.description.specs.declared.flaw.SlotFlaw.{SlotFlaw}
-pub use Rattle.description.specs.declared.flaw.WorldFault.{WorldFault}
 pub use Rattle.description.specs.declared.object.ProcessFields.{ProcessFields}
 pub use Rattle.description.specs.declared.place.Flaw.{Flaw}
 pub use Rattle.description.specs.declared.place.Flaw.TheVariants.{Item, Misfit, Unknown}

@@ -1,8 +1,8 @@
 -- The numbers of a description, by their places in the list of all.
 use Rattle.description.proofs.Names.{ℕ, zero, suc, List, [], length, map, Option, Some, option_map, slice_get, IsSomeAnd, refl, sym, ap, subst, arith}
-use Rattle.description.proofs.Names.{length-append, length-map, slice_get-map, object_count, Description, AreDistinct, HasNumbers, node_numbers}
-use Rattle.description.proofs.Names.{page_numbers, MatchOption, Misnumbered, Named, BreaksNumber, number_at, IsFirstOutside, IsFirstTwice, IsOutside, place_of}
-use Rattle.description.proofs.Names.{All, IsTrue, false≢true, is_node}
+use Rattle.description.proofs.Names.{length-append, length-map, slice_get-map, object_count, Description, AreDistinct, HasNumbers, node_numbers, page_numbers}
+use Rattle.description.proofs.Names.{MatchOption, Misnumbered, Named, BreaksNumber, number_at, IsFirstOutside, IsFirstTwice, IsOutside, place_of, All, IsTrue}
+use Rattle.description.proofs.Names.{false≢true, is_node}
 use Rattle.std.proofs.Common.{◌≡◌, ◌+◌, ◌-◌, ◌<◌, ◌≤◌, ◌∷◌, ◌++◌, ◌∙◌}
 use Rattle.description.specs.declared.flaw.Misnumbered.TheVariants as misnumbered
 use Rattle.description.specs.declared.flaw.Named.TheVariants as named

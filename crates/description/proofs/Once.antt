@@ -2,8 +2,9 @@
 use Rattle.description.proofs.Names.{nat_tests, inl, inr, ℕ, pos, Option, Some, None, List, [], codes, refl, sym, ap, subst, arith, bytes_eq, same_Some}
 use Rattle.description.proofs.Names.{capability_text, state_text, Capability, Number, Void, Geometry, State, Available, Running, Waiting, Data, integer, string}
 use Rattle.description.proofs.Names.{array, Items, no_items, item, Members, get_member, text_once, Each, IsSame, IsSameNode, IsSamePage, IsSameProcess}
-use Rattle.description.proofs.Names.{NumberIsSpelledOnce, AreFour, AreItems, At, AtOr, IsBank, IsCapability, IsDescription, IsGeometry, IsList, IsNode}
-use Rattle.description.proofs.Names.{IsNumber, IsPage, IsPair, IsProcess, IsRange, IsSlot, IsState, IsTable, IsWideNumber, IsWord, whole_ranges, Description}
+use Rattle.description.proofs.Names.{NumberIsSpelledOnce, AreFour, AreItems, At, AtOr, IsBank, IsCapability, IsDescription, IsList, IsNode, IsNumber, IsPage}
+use Rattle.description.proofs.Names.{IsPair, IsProcess, IsRange, IsSlot, IsState, IsTable, IsWideNumber, IsWord, whole_ranges, Description}
+use Rattle.description.specs.Reading.{IsGeometry}
 use Rattle.std.proofs.Common.{◌≡◌, if◌then◌else◌, ◌∷◌, ◌∙◌}
 
 -- ---- values

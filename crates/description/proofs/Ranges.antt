@@ -1,7 +1,6 @@
 -- Ranges that follow one another without a gap.
-use Rattle.description.proofs.Names.{ℕ, List, [], length, map, get_or, take, drop, sym, ap, arith, drop_more, get_or_default, take_more, Geometry}
-use Rattle.description.proofs.Names.{object_count, Cover, placed, NumberRange, GoesOn, GoOn, count_in, IsSomeAnd, cases_eq, inl, inr, slice_get}
-use Rattle.description.proofs.Names.{slice_get-get_or, subst}
+use Rattle.description.proofs.Names.{ℕ, List, [], length, map, get_or, take, drop, sym, ap, arith, drop_more, get_or_default, take_more, Geometry, object_count}
+use Rattle.description.proofs.Names.{Cover, placed, NumberRange, GoesOn, GoOn, count_in, IsSomeAnd, cases_eq, inl, inr, slice_get, slice_get-get_or, subst}
 use Rattle.std.proofs.Common.{◌≡◌, ◌+◌, ◌<◌, ◌≤◌, ◌∷◌, ◌++◌, ◌∙◌}
 
 count_more : (rs : List NumberRange) (r : NumberRange) → count_in (rs ++ r ∷ []) ≡ count_in rs + r.count

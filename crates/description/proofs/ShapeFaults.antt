@@ -1,10 +1,9 @@
 -- A table with a flaw isn't that of a description.
-use Rattle.description.proofs.Names.{ℕ, zero, suc, List, [], map, Some, slice_get, subst, false≢true, IsTrue, none-some, same_Some}
-use Rattle.description.proofs.Names.{Data, Items, item, no_items, Members, array, table, AreItems, HasList, IsList, IsTable, IsBank, IsDescription, IsNode}
-use Rattle.description.proofs.Names.{IsPage, IsProcess, IsRange, IsSlot, IsWord, has_only, Description}
-use Rattle.description.proofs.Names.{whole_ranges, Key, TableName, Flaw, ShapePlace, Unknown, Misfit, Item, Banks, NodeList, NodeSlots, PageList, PageWords}
-use Rattle.description.proofs.Names.{Processes, ProcessRegisters, Ranges, key_name, keys_of, FitsAt, IsItem, IsFormless, is_list, FitAll, HasFirstItem}
-use Rattle.description.proofs.Names.{IsFirstItem, IsFirstFlaw, IsFirstInside, BreaksAt, BreaksShape, refl}
+use Rattle.description.proofs.Names.{ℕ, zero, suc, List, [], map, Some, slice_get, subst, false≢true, IsTrue, none-some, same_Some, Data, Items, item, no_items}
+use Rattle.description.proofs.Names.{Members, array, table, AreItems, HasList, IsList, IsTable, IsBank, IsDescription, IsNode, IsPage, IsProcess, IsRange}
+use Rattle.description.proofs.Names.{IsSlot, IsWord, has_only, Description, whole_ranges, Key, TableName, Flaw, ShapePlace, Unknown, Misfit, Item, Banks}
+use Rattle.description.proofs.Names.{NodeList, NodeSlots, PageList, PageWords, Processes, ProcessRegisters, Ranges, key_name, keys_of, FitsAt, IsItem}
+use Rattle.description.proofs.Names.{IsFormless, is_list, FitAll, HasFirstItem, IsFirstItem, IsFirstFlaw, IsFirstInside, BreaksAt, BreaksShape, refl}
 use Rattle.std.proofs.Common.{◌≡◌, ◌∷◌}
 use Rattle.description.specs.declared.place.TableName.TheVariants as name
 use Rattle.description.proofs.Elements.{same_items}

@@ -1,7 +1,7 @@
 -- How frames are laid: object by object, over free ones.
 use Rattle.description.specs.Names.{ℕ, List, [], map, replicate, slice_set, unwrap_or, vec_len, All, Cap, Void, Frame}
-use Rattle.description.specs.Names.{Content, Available, frames_in, void_held, AreKeptWords}
-use Rattle.description.specs.Names.{fresh_cap, length, AreKeepable, ObjectHeader, object_count}
+use Rattle.description.specs.Names.{Content, Available, frames_in, void_held, AreKeptWords, fresh_cap, length}
+use Rattle.description.specs.Names.{AreKeepable, ObjectHeader, object_count}
 use Rattle.std.specs.Prelude.{◌≡◌, ◌^◌, ◌<◌, ◌∷◌, ◌++◌}
 use Rattle.description.specs.declared.entry.BankEntry.{BankEntry}
 use Rattle.description.specs.declared.entry.Description.{Description}

@@ -4,6 +4,7 @@ pub use Rattle.capability.specs.Plain.{fresh_cap}
 pub use Rattle.home_ranges.specs.Laid.{MayBeLaid, placed, plan_from}
 pub use Rattle.home_ranges.specs.declared.number_range.NumberRange.{NumberRange}
 pub use Rattle.layout.specs.Superblock.{IsGeometry, IsNext, Plan, version_number}
+pub use Rattle.layout.specs.Version.{IsOpened}
 pub use Rattle.layout.specs.declared.version.Version.{Version}
 pub use Rattle.layout.specs.declared.version.Version.TheVariants.{One, Two}
 pub use Rattle.model.specs.Capability.{IsWellFormed, named}
@@ -27,7 +28,7 @@ pub use Rattle.model.specs.declared.object.State.{State}
 pub use Rattle.model.specs.declared.object.State.TheVariants.{Available}
 pub use Rattle.std.specs.List.{All, Contains, list_any}
 pub use Rattle.std.specs.Prelude.{Bool, Err, IfSome, IsSomeAnd, IsTrue, List, MatchOption, None, Ok, Option, Result}
-pub use Rattle.std.specs.Prelude.{Some, [], codes, false, length, map, option_map, pos, replicate, slice_get, slice_set, suc}
-pub use Rattle.std.specs.Prelude.{take, true, unwrap_or, vec_len, zero, ℕ}
+pub use Rattle.std.specs.Prelude.{Some, [], codes, false, length, map, option_map, pos, replicate, slice_get, slice_set}
+pub use Rattle.std.specs.Prelude.{suc, take, true, unwrap_or, vec_len, zero, ℕ}
 pub use Rattle.toml.specs.Data.{Data, Items, Members, array, get_member, integer, item, member, no_items, no_members}
 pub use Rattle.toml.specs.Data.{same_key, string, table}

@@ -1,6 +1,6 @@
 -- Which rule a description breaks first, and with which fault its image isn't built.
 use Rattle.description.specs.Names.{ℕ, List, Frame, AreNamed, Version, version_number, MayBeLaid, plan_from, Plan, One}
-use Rattle.description.specs.Names.{Two, AreBanked, Members}
+use Rattle.description.specs.Names.{Two, AreBanked, Members, IsOpened}
 use Rattle.std.specs.Prelude.{◌≡◌, ◌^◌, ◌<◌, ◌≤◌, ◌==◌, if◌then◌else◌}
 use Rattle.description.specs.declared.fault.BuildFault.{BuildFault}
 use Rattle.description.specs.declared.fault.BuildFault.TheVariants.{Shape, NoMemory}
@@ -18,9 +18,9 @@ version_of n = if n == 2 then Two else One
 abbrev pub plan_for : Description → Plan
 plan_for d = plan_from (version_of d.layout) d.geometry d.ranges.items
 
--- the layout, sizes, ranges and age of a description are some that an image may have
+-- a version that programs open, and objects, ranges and an age that an image may have
 pub record IsWithinLimits (d : Description) : Type 0 where
-  pub layout : (v : Version) × (d.layout ≡ version_number v)
+  pub layout : (v : Version) × (d.layout ≡ version_number v) × IsOpened v
   pub laid : MayBeLaid d.geometry d.ranges.items
   pub age : d.age ≤ 2 ^ 62
 

@@ -1,8 +1,9 @@
 -- Blocks are filled frame by frame.
 use Rattle.home_ranges.proofs.Names.{ℕ, List, length, drop, ap, sym, subst, inl, inr, arith, cases_lt, drop-drop, drop-replicate, length-replicate, replicate}
-use Rattle.home_ranges.proofs.Names.{Shape, IsObject, IsPlan, Plan, home_place, shape_of, shape_bytes, shape_end, IsBlankFrom, zeros, EndsInZeros, HaveHome, IsFirstOf}
-use Rattle.home_ranges.proofs.Places.{frames_rise}
+use Rattle.home_ranges.proofs.Names.{Shape, IsObject, IsPlan, Plan, home_place, shape_of, shape_bytes, shape_end, IsBlankFrom, zeros, EndsInZeros, HaveHome}
+use Rattle.home_ranges.proofs.Names.{IsFirstOf}
 use Rattle.std.proofs.Common.{◌≡◌, ◌+◌, ◌-◌, ◌<◌, ◌≤◌, ◌∙◌}
+use Rattle.home_ranges.proofs.Places.{frames_rise}
 
 -- zeros from a byte on are zeros from any later one on
 blank_later : (end at : ℕ) (xs : List ℕ) → end ≤ at → IsBlankFrom end xs → IsBlankFrom at xs

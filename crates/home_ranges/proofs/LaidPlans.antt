@@ -1,7 +1,8 @@
 -- Parts that are laid out one after the other make a plan.
 use Rattle.home_ranges.proofs.Names.{nat_tests, ℕ, zero, suc, Bool, List, [], length, map, refl, sym, subst, arith, lt-ltb, le-ltb, All, Geometry, Extent}
 use Rattle.home_ranges.proofs.Names.{Version, One, Two, Cover, IsPlan, IsWithin, AreApart, extent_at, extents, half_extent, nodes_length, range_extent}
-use Rattle.home_ranges.proofs.Names.{NumberRange, MayBeLaid, behind, half_length, laid, placed, plan_from, sectors_of, cover_within, IfSome, IfNone, Plan}
+use Rattle.home_ranges.proofs.Names.{NumberRange, MayBeLaid, behind, laid, placed, plan_from, sectors_of, cover_within, IfSome, IfNone, Plan, IsOpened}
+use Rattle.home_ranges.proofs.Names.{opened_begin, opened_half, half_length, get_or}
 use Rattle.std.proofs.Common.{◌≡◌, ◌⊎◌, ◌+◌, ◌-◌, ◌*◌, ◌<◌, ◌≤◌, ◌∷◌, ◌++◌}
 use Rattle.std.specs.Prelude.{if◌then◌else◌, Option, Some, None}
 use Rattle.home_ranges.proofs.Laying.{cons_behind, cons_laid, length_laid, none_behind, none_laid}
@@ -97,33 +98,39 @@ behind_few v g n at (r ∷ rs) c = grind (
   behind_few v g (n + r.count) (at + sectors_of v g r) rs c.1,
 )
 
-module _ (v : Version) (g : Geometry) (rs : List NumberRange) (may : MayBeLaid g rs) where
+module _ (v : Version) (g : Geometry) (rs : List NumberRange) (opened : IsOpened v) (may : MayBeLaid g rs) where
   abbrev halves : List Extent
-  halves = half_extent g (behind v g 5 rs) ∷ half_extent g (behind v g 5 rs + half_length g) ∷ []
+  halves = half_extent v g (behind v g 5 rs) ∷ half_extent v g (behind v g 5 rs + half_length v g) ∷ []
 
   follow : Follow 5 (extents (plan_from v g rs))
   follow = laid_follow v g 5 rs halves (refl, (refl, tt))
 
   -- numbers within the limits take at most as many sectors as a device may have
   total_few : (plan_from v g rs).total ≤ 131072
-  total_few = let end = behind_few v g 0 5 rs may.cover in omega (
+  total_few = let end = behind_few v g 0 5 rs may.cover in let half = opened_half v g opened in omega (
     arith,
     end,
+    half,
     may.few,
     may.geometry.most_nodes,
     may.geometry.most_pages,
     may.geometry.most_log,
   )
 
+  all_within : All (IsWithin (plan_from v g rs).total) (extents (plan_from v g rs))
+  all_within = follow_within (plan_from v g rs).total 5 (extents (plan_from v g rs)) (omega arith) (omega (arith, laid_end v g 5 rs halves))
+      follow
+
   is_plan : IsPlan (plan_from v g rs)
   is_plan = record {
+    unsealed = opened;
     geometry = may.geometry;
     some = omega (arith, may.some, length_laid v g 5 rs);
     few = omega (arith, may.few, length_laid v g 5 rs);
     total = total_few;
     cover = cover_laid v g 0 5 rs may.cover;
-    within = follow_within (plan_from v g rs).total 5 (extents (plan_from v g rs)) (omega arith) (omega (arith, laid_end v g 5 rs halves))
-        follow;
+    within = all_within;
+    begin = λ k d lt. opened_begin v (get_or (extents (plan_from v g rs)) k d) opened (all_within k d lt).0;
     apart = follow_apart 5 (extents (plan_from v g rs)) follow;
   }
 
@@ -137,8 +144,8 @@ laid_out v g rs None is fits = tt
 laid_out v g rs (Some s) is fits = may_be v g rs (subst IsPlan is fits)
 
 pub not_laid_out : (v : Version) (g : Geometry) (rs : List NumberRange) (r : Option Plan) → IfNone r (IsPlan (plan_from v g rs) → ⊥) →
-    IfNone r (MayBeLaid g rs → ⊥)
-not_laid_out v g rs None none = λ may. none (is_plan v g rs may)
+    IfNone r (IsOpened v → MayBeLaid g rs → ⊥)
+not_laid_out v g rs None none = λ opened may. none (is_plan v g rs opened may)
 not_laid_out v g rs (Some s) none = tt
 
 -- ---- version 2 beside version 1
@@ -159,7 +166,11 @@ second_behind g one two (r ∷ rs) = grind (
 )
 
 pub second_total : (g : Geometry) (rs : List NumberRange) → (plan_from Two g rs).total ≤ (plan_from One g rs).total + 8 * length rs
-second_total g rs = let end = second_behind g 5 5 rs in omega (arith, end)
+second_total g rs =
+    let end = second_behind g 5 5 rs in
+    let one = opened_half One g refl in
+    let two = opened_half Two g refl in
+    omega (arith, end, one, two)
 
 -- ---- the count of each range is at most that of all numbers
 

@@ -1,10 +1,10 @@
 -- Places of numbers in ranges that cover them.
-use Rattle.home_ranges.proofs.Names.{ℕ, zero, suc, Option, Some, None, List, [], length, get_or, sym, ap, subst, inl, inr, arith, nat_lt}
-use Rattle.home_ranges.proofs.Names.{min, cases_lt, length-map, get_or_append_left, get_or-map, nat_tests, Geometry, Image, Extent, HomeRange, Half}
-use Rattle.home_ranges.proofs.Names.{First, Second, Shape, Version, row, page_shape, shape_end, AreBeside, IsFirstOf, frames_in_block, half_of, range_with, place_in, place_by, home_place, rank_in}
-use Rattle.home_ranges.proofs.Names.{shape_of, place_length, sectors_from, node_shape, shape_length, Plan, IsPlan, Cover, IsOfOneKind, IsWithin}
-use Rattle.home_ranges.proofs.Names.{IsApart, IsInside, extent_at, extents, range_extent, half_extent, half_start, itself, apart_inside, apart_turned, many}
-use Rattle.home_ranges.proofs.Names.{half_at, IsObject, HaveHome, HoldsHome, home_extent, PlacesAreWithin, PlacesAreApart, NumbersAreApart}
+use Rattle.home_ranges.proofs.Names.{ℕ, zero, suc, Option, Some, None, List, [], length, get_or, sym, ap, subst, inl, inr, arith, true, false, nat_lt, min}
+use Rattle.home_ranges.proofs.Names.{cases_lt, length-map, get_or_append_left, get_or-map, nat_tests, Geometry, Image, Extent, HomeRange, Half, First, Second}
+use Rattle.home_ranges.proofs.Names.{Shape, Version, row, page_shape, shape_end, AreBeside, IsFirstOf, frames_in_block, half_of, range_with, place_in, place_by}
+use Rattle.home_ranges.proofs.Names.{home_place, rank_in, shape_of, place_length, sectors_from, node_shape, shape_length, Plan, IsPlan, Cover, IsOfOneKind}
+use Rattle.home_ranges.proofs.Names.{IsWithin, IsApart, IsInside, extent_at, extents, range_extent, half_extent, half_start, itself, apart_inside, apart_turned}
+use Rattle.home_ranges.proofs.Names.{many, half_at, IsObject, HaveHome, HoldsHome, home_extent, PlacesAreWithin, PlacesAreApart, NumbersAreApart}
 use Rattle.home_ranges.proofs.Names.{PlacesSpareLog, same_Some, range_at}
 use Rattle.std.proofs.Common.{◌≡◌, ◌⊎◌, ◌+◌, ◌-◌, ◌*◌, ◌/◌, ◌%◌, ◌<◌, ◌≤◌, ◌∷◌, ◌∙◌}
 use Rattle.std.specs.Prelude.{if◌then◌else◌}
@@ -142,16 +142,18 @@ pub numbers_apart : NumbersAreApart
 numbers_apart = grind (arith, nat_tests, apart_by, apart_in_one)
 
 spares_at : {p : Plan} {a : ℕ} (k : ℕ) → IsPlan p → IsObject p.geometry a → k < 2 →
-    IsApart (home_extent p a) (extent_at (half_extent p.geometry p.half_0 ∷ half_extent p.geometry p.half_1 ∷ []) k)
+    IsApart (home_extent p a) (extent_at (half_extent p.version p.geometry p.half_0 ∷ half_extent p.version p.geometry p.half_1 ∷ []) k)
 spares_at {p} {a} k fits is few =
     let at = found a fits is in
     let range : Extent = range_extent p.version p.geometry (range_at p.ranges at.0) in
-    let half : Extent = extent_at (half_extent p.geometry p.half_0 ∷ half_extent p.geometry p.half_1 ∷ []) k in
+    let half : Extent = extent_at (half_extent p.version p.geometry p.half_0 ∷ half_extent p.version p.geometry p.half_1 ∷ []) k in
     let apart = fits.apart at.0 (length p.ranges + k) (omega (arith, at.1.within)) (omega (arith, many p)) in
-    grind (arith, nat_tests, apart_inside, home_inside, itself, half_at, ranges_extent)
+    let one = subst (λ (e : Extent). IsApart e (extent_at (extents p) (length p.ranges + k))) (ranges_extent p at.1.within) apart in
+    let there = subst (IsApart range) (half_at p k) one in
+    apart_inside (home_extent p a) half range half (home_inside p at.1) (itself half) there
 
 spares_half : {p : Plan} {a : ℕ} (h : Half) → IsPlan p → IsObject p.geometry a →
-    IsApart (home_extent p a) (half_extent p.geometry (half_start p h))
+    IsApart (home_extent p a) (half_extent p.version p.geometry (half_start p h))
 spares_half First fits is = spares_at 0 fits is (omega arith)
 spares_half Second fits is = spares_at 1 fits is (omega arith)
 

@@ -1,6 +1,6 @@
 -- What the sectors of a home hold, and which objects have it.
-use Rattle.home_ranges.specs.Names.{ℕ, List, nat_lt, Geometry, Version, Image, home_place, shape_of, bytes_at, shape_bytes, Plan}
-use Rattle.home_ranges.specs.Names.{IsBlankFrom, IsObject, row, shape_end}
+use Rattle.home_ranges.specs.Names.{ℕ, List, nat_lt, Geometry, Version, Image, home_place, shape_of, bytes_at}
+use Rattle.home_ranges.specs.Names.{shape_bytes, Plan, IsBlankFrom, IsObject, row, shape_end}
 use Rattle.std.specs.Prelude.{◌≡◌, ◌+◌, ◌<◌, ◌≤◌, if◌then◌else◌}
 
 -- in an image, each object with the home of `number` has the frame there that these bytes have

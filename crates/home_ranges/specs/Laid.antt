@@ -1,6 +1,6 @@
 -- Where the parts of an image lie if its home ranges follow one another.
 use Rattle.home_ranges.specs.Names.{ℕ, List, [], length, map, Geometry, HomeRange, Version, Plan, plan_of, IsGeometry}
-use Rattle.home_ranges.specs.Names.{Cover, half_extent, range_extent}
+use Rattle.home_ranges.specs.Names.{Cover, range_extent, half_length}
 use Rattle.std.specs.Prelude.{◌+◌, ◌≤◌, ◌∷◌}
 use Rattle.home_ranges.specs.declared.number_range.NumberRange.{NumberRange}
 
@@ -8,12 +8,9 @@ use Rattle.home_ranges.specs.declared.number_range.NumberRange.{NumberRange}
 abbrev pub placed : ℕ → NumberRange → HomeRange
 placed at r = record { first = r.first; count = r.count; sector = at }
 
--- how many sectors the frames of a range take, wherever they lie; how many a half of the log takes
+-- how many sectors its frames take, wherever they lie
 abbrev pub sectors_of : Version → Geometry → NumberRange → ℕ
 sectors_of v g r = (range_extent v g (placed 0 r)).length
-
-abbrev pub half_length : Geometry → ℕ
-half_length g = (half_extent g 0).length
 
 -- ranges whose frames lie one after the other, from sector `at` on
 unfoldable pub laid : Version → Geometry → ℕ → List NumberRange → List HomeRange
@@ -27,8 +24,8 @@ behind v g at (r ∷ rs) = behind v g (at + sectors_of v g r) rs
 
 -- the plan with ranges from sector 5 on, after them the halves of the log, and nothing after those
 abbrev pub plan_from : Version → Geometry → List NumberRange → Plan
-plan_from v g rs = plan_of v g (laid v g 5 rs) (behind v g 5 rs) (behind v g 5 rs + half_length g)
-    (behind v g 5 rs + half_length g + half_length g)
+plan_from v g rs = plan_of v g (laid v g 5 rs) (behind v g 5 rs) (behind v g 5 rs + half_length v g)
+    (behind v g 5 rs + half_length v g + half_length v g)
 
 -- the numbers of a home range
 abbrev pub numbers_of : HomeRange → NumberRange

@@ -1,7 +1,7 @@
 -- Homes lie apart from one another and from the log. In version 2 an image takes at most 8 sectors per range more than
 -- in version 1.
-use Rattle.home_ranges.specs.Names.{ℕ, List, None, row, Image, Elsewhere, Entry, Extent, One, home_place, place_length, Plan}
-use Rattle.home_ranges.specs.Names.{IsPlan, IsWithin, IsApart, half_extent, frame_slot_in, bytes_at, frame_in}
+use Rattle.home_ranges.specs.Names.{ℕ, List, None, row, Image, Elsewhere, Entry, Extent, One, home_place, place_length}
+use Rattle.home_ranges.specs.Names.{Plan, IsPlan, IsWithin, IsApart, half_extent, frame_slot_in, bytes_at, frame_in}
 use Rattle.home_ranges.specs.Names.{half_sector, IsObject, length, Two, Geometry}
 use Rattle.std.specs.Prelude.{◌≡◌, ◌+◌, ◌*◌, ◌≤◌}
 use Rattle.home_ranges.specs.Laid.{plan_from}
@@ -28,7 +28,7 @@ NumbersAreApart = (p : Plan) (a b : ℕ) → IsPlan p → (row p.version).cluste
 -- no sector of a home is one of the log, in the half of any generation
 abbrev pub PlacesSpareLog : Type 0
 PlacesSpareLog = (p : Plan) (a generation : ℕ) → IsPlan p → IsObject p.geometry a →
-    IsApart (home_extent p a) (half_extent p.geometry (half_sector p generation))
+    IsApart (home_extent p a) (half_extent p.version p.geometry (half_sector p generation))
 
 -- a change outside a number's home leaves the frame there
 abbrev pub FramesStay : Type 0

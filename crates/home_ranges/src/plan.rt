@@ -2,6 +2,7 @@
 ghost use Rattle.std.specs.Prelude.{◌≡◌, ◌≤◌, length, map, IsTrue, IfSome, IfNone, ◌↔◌};
 ghost use Rattle.std.specs.List.{All};
 ghost use Rattle.layout.specs.Superblock.{IsPlan};
+ghost use Rattle.layout.specs.Version.{IsOpened};
 ghost use Rattle.home_ranges.specs.Laid.{MayBeLaid, behind, laid, laid_again, numbers_of, plan_from};
 
 use crate::number_range::NumberRange;
@@ -65,16 +66,17 @@ fn are_few(ranges: &[NumberRange]) -> bool
 ///
 /// Returns `None` exactly if one of these doesn't hold:
 ///
+/// - Programs open images of this version.
 /// - There are 16 to 4096 nodes, 1 to 4096 pages, and 16 to 4096 slots in a half of the log.
 /// - There are 1 to 8 ranges, which together have each number once, in rising order.
 /// - Each range has a number, and has nodes only or pages only.
 ///
-/// No such image takes more sectors than a device may have, in either version.
+/// No such image takes more sectors than a device may have, in any version.
 pub fn lay_out(version: Version, geometry: Geometry, ranges: &[NumberRange]) -> Option<Superblock>
     ensures laid { IfSome result (λ s. s ≡ plan_from version geometry ranges.now) }
     ensures fits { IfSome result (λ s. IsPlan s) }
     ensures allowed { IfSome result (λ _. MayBeLaid geometry ranges.now) }
-    ensures refused { IfNone result (MayBeLaid geometry ranges.now → ⊥) }
+    ensures refused { IfNone result (IsOpened version → MayBeLaid geometry ranges.now → ⊥) }
 {
     if geometry.log > MAX_LOG as u64 || ranges.len() > MAX_RANGES || !are_few(ranges) {
         return None;
@@ -82,7 +84,7 @@ pub fn lay_out(version: Version, geometry: Geometry, ranges: &[NumberRange]) -> 
     let mut homes = [UNUSED; MAX_RANGES];
     let used = &mut homes[..ranges.len()];
     let first = lay_ranges(version, geometry, ranges, used);
-    let half = half_extent(geometry, first);
+    let half = half_extent(version, geometry, first);
     let second = first + half.length;
     let total = second + half.length;
     Superblock::new(version, geometry, used, first, second, total)
@@ -102,8 +104,10 @@ fn put_numbers(ranges: &[HomeRange], into: &mut [NumberRange])
     }
 }
 
-/// Lays out an image of this version with the same objects and home ranges as another image, by `lay_out`.
+/// Lays out an image of this version, which programs open, with the objects and the home ranges of another image, as
+/// `lay_out` does.
 pub fn lay_out_again(version: Version, superblock: &Superblock) -> Superblock
+    requires { IsOpened version }
     ensures laid { result ≡ laid_again version superblock.now }
     ensures fits { IsPlan result }
 {

@@ -2,6 +2,7 @@
 pub use Rattle.capability.specs.Consistency.{AreBanked, AreNamed, AreWholeProcesses}
 pub use Rattle.checkpoint.specs.Opened.{OnlyReads}
 pub use Rattle.checkpoint.specs.Saved.{Holds, SavedFrames, kept_of}
+pub use Rattle.description.proofs.BrokenLimits.{limit_refuted}
 pub use Rattle.description.proofs.DescribedOnce.{described_once}
 pub use Rattle.description.proofs.Rules.{all_kept, field_broken, number_broken, owner_broken, small_broken, target_broken}
 pub use Rattle.description.proofs.ShapeFaults.{shape_refuted}

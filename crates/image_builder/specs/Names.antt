@@ -18,6 +18,7 @@ pub use Rattle.layout.specs.Superblock.{Plan}
 pub use Rattle.layout.specs.declared.directory.Entry.{Entry}
 pub use Rattle.layout.specs.declared.open_fault.OpenFault.{OpenFault}
 pub use Rattle.layout.specs.declared.version.Version.{Version}
+pub use Rattle.layout.specs.declared.version.Version.TheVariants.{Two}
 pub use Rattle.migrator.specs.Durable.{DurableState, saved_by}
 pub use Rattle.model.specs.Keepable.{IsSoundFrames}
 pub use Rattle.model.specs.declared.frame.Frame.{Frame}

@@ -2,7 +2,7 @@
 use Rattle.image_builder.specs.Names.{ℕ, List, [], Disk, Image, Elsewhere, LeavesOnly, Entry, Plan, Version, Encodes}
 use Rattle.image_builder.specs.Names.{SavedState, OnlyReads, Holds, SavedFrames, kept_of, frames_of, Parts}
 use Rattle.image_builder.specs.Names.{DurableState, saved_by, laid_again, IsLeftWriting, IsSoundSaved, OpenFault}
-use Rattle.image_builder.specs.Names.{RefusesToOpen, Result, IfErr, IfOk, IsErrOf, OnOk, EndInZeros}
+use Rattle.image_builder.specs.Names.{RefusesToOpen, Result, IfErr, IfOk, IsErrOf, OnOk, EndInZeros, Two}
 use Rattle.std.specs.Prelude.{◌≡◌, ◌≢◌, ◌⊎◌, ◌↔◌, ◌+◌, ◌<◌, ◌≤◌, ◌∷◌}
 use Rattle.layout.specs.declared.open_fault.OpenFault.TheVariants as opening
 use Rattle.image_builder.specs.declared.new_layout.NewLayout.{NewLayout}
@@ -17,7 +17,7 @@ numbered at (e ∷ es) = record { object = e.object; slot = at } ∷ numbered (a
 
 -- the version of the new image, given the plan of the old one
 abbrev pub version_in : NewLayout → Plan → Version
-version_in (layout.Of version) p = version
+version_in layout.Newest p = Two
 version_in layout.Kept p = p.version
 
 -- where the parts of the new image lie: the ranges from sector 5 on, in their order

@@ -8,8 +8,8 @@ use layout::{Superblock, Version};
 /// In which version of the layout the saved state of an old image is written to a new one.
 #[derive(Clone, Copy)]
 pub enum NewLayout {
-    /// In this version.
-    Of(Version),
+    /// Version 2, `Version::NEWEST`.
+    Newest,
     /// In the version of the old image.
     Kept,
 }
@@ -21,7 +21,7 @@ impl NewLayout {
         ensures { result ≡ new_plan self old.now }
     {
         match self {
-            NewLayout::Of(version) => lay_out_again(version, old),
+            NewLayout::Newest => lay_out_again(Version::NEWEST, old),
             NewLayout::Kept => lay_out_again(old.version(), old),
         }
     }

@@ -36,7 +36,7 @@ pub use Rattle.layout.proofs.Extents.{cover_within}
 pub use Rattle.layout.specs.Superblock.{Cover, IsGeometry, IsOfOneKind, IsPlan, Plan, version_number}
 pub use Rattle.layout.specs.declared.extent.HomeRange.{HomeRange}
 pub use Rattle.layout.specs.declared.version.Version.{Version}
-pub use Rattle.layout.specs.declared.version.Version.TheVariants.{One, Two}
+pub use Rattle.layout.specs.declared.version.Version.TheVariants.{One, Three, Two}
 pub use Rattle.model.specs.Capability.{IsWellFormed, named}
 pub use Rattle.model.specs.Frame.{blank_frame, conveyed, current_count, frame_at, header_at, headers, object_of, void_held}
 unfoldable pub use Rattle.model.specs.Frame.{objects_of}

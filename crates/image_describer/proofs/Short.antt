@@ -3,7 +3,7 @@ use Rattle.image_describer.proofs.Names.{nat_tests, ℕ, true, List, [], map, Op
 use Rattle.image_describer.proofs.Names.{All-contains, All-from_recursion, All-map, All-weaker, Contains-append_left, Contains-append_right, Cap, Capability}
 use Rattle.image_describer.proofs.Names.{Void, Frame, Geometry, Content, Object, named, frame_at, objects_of, AreKeptSlots, AreKeptWords, Follows, IsKeepable}
 use Rattle.image_describer.proofs.Names.{IsKeptCap, IsSoundFrames, MayBeKept, world_at, is_bank, is_free, map_content, role_of, IsOfKind, object_count}
-use Rattle.image_describer.proofs.Names.{content_at, object_at, owner_at, HomeRange, Version, One, Two, Cover, IsPlan, Plan, version_number, numbers_of}
+use Rattle.image_describer.proofs.Names.{content_at, object_at, owner_at, HomeRange, Version, One, Two, Three, Cover, IsPlan, Plan, version_number, numbers_of}
 use Rattle.image_describer.proofs.Names.{fresh_cap, mapped, BankEntry, Description, NodeEntry, PageEntry, ProcessEntry, SlotEntry, WordEntry, AreSlots}
 use Rattle.image_describer.proofs.Names.{AreWords, HasNamedWords, HoldsNamed, IsDescribedNode, IsDescribedPage, IsDescribedAnnex, IsDescribedRoot}
 use Rattle.image_describer.proofs.Names.{IsProcessEntry, first_frame, named_at, node_numbers, word_named_at, all_from, all_got, contains_map, first_of}
@@ -68,6 +68,7 @@ free_role other free = absurd cc
 version_short : (v : Version) → IsShort (version_number v)
 version_short One = omega arith
 version_short Two = omega arith
+version_short Three = omega arith
 
 module _ (p : Plan) (plan : IsPlan p) (age : ℕ) (fs : List Frame) (d : Description) (sound : IsSoundFrames p.geometry age fs)
     (describes : Describes p.geometry (world_at age fs) d) where

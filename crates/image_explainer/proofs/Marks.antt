@@ -50,6 +50,7 @@ module _ (p : Plan) (is : IsPlan p) where
           refl)
           ∙ take_at (half_number (version_number p.version)) (half_number (length p.ranges) ++ rest) 4
           (length-half (version_number p.version)),
+      is.unsealed,
     );
     blank = ap (drop 256) ends ∙ drop_at front (zeros 256) 256 front_long;
   }

@@ -19,6 +19,7 @@ use Rattle.layout.specs.Gate.{is_open}
 use Rattle.layout.specs.Header.{IsHeader, header_bytes}
 use Rattle.layout.specs.Image.{HasDirectory, HasHeader, HasPlan, IsBadBy, committed_slot, directory_in}
 use Rattle.layout.specs.Image.{directory_sector, frame_in, sequence_in, total_in}
+use Rattle.layout.specs.Version.{IsOpened}
 use Rattle.layout.specs.Superblock.{IsGeometry, IsPlan, Plan, superblock_bytes, version_number}
 use Rattle.image_explainer.specs.declared.sectors.fault.DirectoryPart.{DirectoryPart}
 use Rattle.image_explainer.specs.declared.sectors.fault.DirectoryPart.TheVariants as entry
@@ -49,14 +50,17 @@ sector_reason (fault.Frame number is_page part) = bad.BadFrame
 abbrev pub number_at : List ℕ → ℕ → ℕ
 number_at bytes at = number_from (drop at bytes)
 
+-- a version that programs open
+abbrev pub HasVersion : List ℕ → Type 0
+HasVersion bytes = (v : Version) × (take 4 (drop 8 bytes) ≡ half_number (version_number v)) × IsOpened v
+
 -- reason 2: the first wrong part of sector 0: the magic, the version, or the zeros at its end
 abbrev pub BreaksMark : List ℕ → SuperblockPart → Type 0
 BreaksMark bytes superblock.Magic = take 8 bytes ≡ codes "EROSCKPT" → ⊥
 BreaksMark bytes superblock.Version =
-    (take 8 bytes ≡ codes "EROSCKPT") × ((v : Version) → take 4 (drop 8 bytes) ≡ half_number (version_number v) → ⊥)
+    (take 8 bytes ≡ codes "EROSCKPT") × (HasVersion bytes → ⊥)
 BreaksMark bytes superblock.Tail =
-    (take 8 bytes ≡ codes "EROSCKPT") × ((v : Version) × (take 4 (drop 8 bytes) ≡ half_number (version_number v))) ×
-    (drop 256 bytes ≡ zeros 256 → ⊥)
+    (take 8 bytes ≡ codes "EROSCKPT") × HasVersion bytes × (drop 256 bytes ≡ zeros 256 → ⊥)
 
 -- a number isn't in a range
 abbrev pub IsOutside : ℕ → ℕ → ℕ → Type 0

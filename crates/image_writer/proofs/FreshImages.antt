@@ -4,11 +4,11 @@ use Rattle.image_writer.proofs.Names.{AreKeepable, object_count, Disk, Image, Le
 use Rattle.image_writer.proofs.Names.{CheckpointHeader, IsDirectory, directory_bytes, frame_bytes, is_open, IsHeader, header_bytes, Encodes, HasNoHeader}
 use Rattle.image_writer.proofs.Names.{committed_of, committed_bytes, directory_in, does_count, frame_in, sectors_from, sequence_in, Plan, IsPlan, half_within}
 use Rattle.image_writer.proofs.Names.{same_sectors, places_within, AreClosed, none_committed, Holds, SavedFrames, kept_of, half_behind, sequences_reported}
-use Rattle.image_writer.proofs.Names.{frames_behind, HasOpeningSectors, IsBeforeOrNone, IsLeftWriting, IsWritten, first_header, state_of}
-use Rattle.image_writer.proofs.Names.{subst, sym, entry_at, home_place, place_length, slot_sector, EndsInZeros, EndInZeros}
+use Rattle.image_writer.proofs.Names.{frames_behind, HasOpeningSectors, IsBeforeOrNone, IsLeftWriting, IsWritten, first_header, state_of, subst, sym, entry_at}
+use Rattle.image_writer.proofs.Names.{home_place, place_length, slot_sector, EndsInZeros, EndInZeros}
 use Rattle.std.proofs.Common.{◌≡◌, ◌⊎◌, ◌^◌, ◌<◌, ◌≤◌, ◌+◌, ◌-◌, ◌%◌, ◌∙◌}
-use Rattle.image_writer.proofs.SlotFrames.{slot_behind}
 use Rattle.std.specs.Prelude.{◌==◌, ◌&&◌}
+use Rattle.image_writer.proofs.SlotFrames.{slot_behind}
 
 -- of two headers the first is committed, if it counts and the other doesn't
 first_alone : (first second : Bool) (m n : ℕ) → first ≡ true → second ≡ false → committed_of first m second n ≡ Some 0

@@ -1,9 +1,8 @@
 -- Homes are written one after the other.
 use Rattle.image_writer.proofs.Names.{ℕ, List, length, arith, cases_eq, cases_lt, get_or_read, Cap, Frame, ObjectHeader, Content, frame_at, frames_in}
-use Rattle.image_writer.proofs.Names.{header_at, object_count, Image, Elsewhere, frame_bytes, home_place, place_length}
-use Rattle.image_writer.proofs.Names.{bytes_at, Plan, IsPlan, same_shaped, IsObject, IsFirstOf, one_length, places_within, places_apart, LieAt}
-use Rattle.image_writer.proofs.Names.{slice_index_or, EndAtHome, EndsInZeros, HasZeros, sectors_from, same_sectors}
-use Rattle.image_writer.proofs.Names.{inl, inr, ap, sym, subst, ⊎_elim}
+use Rattle.image_writer.proofs.Names.{header_at, object_count, Image, Elsewhere, frame_bytes, home_place, place_length, bytes_at, Plan, IsPlan, same_shaped}
+use Rattle.image_writer.proofs.Names.{IsObject, IsFirstOf, one_length, places_within, places_apart, LieAt, slice_index_or, EndAtHome, EndsInZeros, HasZeros}
+use Rattle.image_writer.proofs.Names.{sectors_from, same_sectors, inl, inr, ap, sym, subst, ⊎_elim}
 use Rattle.std.proofs.Common.{◌≡◌, ◌+◌, ◌-◌, ◌<◌, ◌∙◌}
 use Rattle.capability.proofs.FrameLists.{frame_in}
 

@@ -1,10 +1,10 @@
 -- Slots of the log are written one after the other, after the homes.
 use Rattle.image_writer.proofs.Names.{nat_tests, ℕ, Result, Option, Some, None, List, length, ⊎_elim, refl, sym, subst, ap, arith, OnOk, cases_lt, take, Frame}
-use Rattle.image_writer.proofs.Names.{frame_at, object_count, Image, Elsewhere, Entry, IsDirectory}
-use Rattle.image_writer.proofs.Names.{entry_at, frame_bytes, home_place, place_length, shape_of, bytes_at, directory_sector, frame_in, half_sector}
-use Rattle.image_writer.proofs.Names.{frame_slot_in, sectors_from, slot_sector, shape_bytes, shape_end, front_shape, front_blank, IsBlankFrom, Plan, IsPlan, half_extent, half_within, few_sectors, same_shaped}
-use Rattle.image_writer.proofs.Names.{IsObject, one_length, places_spare_log, frame_slot_entry, AreFramesOf, LieAt, AreHome, AreInSlots}
-use Rattle.image_writer.proofs.Names.{inl, inr, same_sectors, on_ok_weaker, EndsInZeros, EndAtHome, EndInZeros}
+use Rattle.image_writer.proofs.Names.{frame_at, object_count, Image, Elsewhere, Entry, IsDirectory, entry_at, frame_bytes, home_place, place_length, shape_of}
+use Rattle.image_writer.proofs.Names.{bytes_at, directory_sector, frame_in, half_sector, frame_slot_in, sectors_from, slot_sector, shape_bytes, shape_end}
+use Rattle.image_writer.proofs.Names.{front_shape, front_blank, IsBlankFrom, Plan, IsPlan, half_extent, half_within, few_sectors, same_shaped, IsObject}
+use Rattle.image_writer.proofs.Names.{one_length, places_spare_log, frame_slot_entry, AreFramesOf, LieAt, AreHome, AreInSlots, inl, inr, same_sectors}
+use Rattle.image_writer.proofs.Names.{on_ok_weaker, EndsInZeros, EndAtHome, EndInZeros, directory_length, fewer_entries, half_has}
 use Rattle.std.proofs.Common.{◌≡◌, ◌+◌, ◌-◌, ◌*◌, ◌<◌, ◌≤◌, ◌∙◌}
 
 -- ---- the block of one home
@@ -122,7 +122,8 @@ slots_stay p generation at long es frames mid new is place change so_far j lt = 
 
 -- each frame is in a slot or at home
 pub all_slotted : (p : Plan) (generation : ℕ) (es : List Entry) (frames : List Frame) (homes new : Image) → IsPlan p →
-    Elsewhere (half_sector p generation) (half_extent p.geometry 0).length homes new → AreHome p frames (object_count p.geometry) homes
+    Elsewhere (half_sector p generation) (half_extent p.version p.geometry 0).length homes new →
+        AreHome p frames (object_count p.geometry) homes
     → AreInSlots p generation es frames (length es) new → (a : ℕ) → a < object_count p.geometry →
     frame_in new p generation es a ≡ frame_bytes p.geometry a (frame_at frames a)
 all_slotted p generation es frames homes new fits change home slots a lt = by (frame_slot_in p es a) refl where
@@ -140,7 +141,7 @@ all_slotted p generation es frames homes new fits change home slots a lt = by (f
 
 -- each block has zeros after its frames
 pub all_end : (p : Plan) (generation : ℕ) (es : List Entry) (frames : List Frame) (homes new : Image) → IsPlan p →
-    Elsewhere (half_sector p generation) (half_extent p.geometry 0).length homes new → EndAtHome p (object_count p.geometry) homes
+    Elsewhere (half_sector p generation) (half_extent p.version p.geometry 0).length homes new → EndAtHome p (object_count p.geometry) homes
     → AreInSlots p generation es frames (length es) new → EndInZeros p generation es new
 all_end p generation es frames homes new fits change home slots = record {
   home = λ a lt.
@@ -153,7 +154,27 @@ all_end p generation es frames homes new fits change home slots = record {
   slots = λ j lt. (slots j lt).zeros;
 }
 
+-- the slots lie in the half
+pub slots_in_half : (p : Plan) (generation : ℕ) {old new : Image} → Elsewhere (half_sector p generation) (9 * p.geometry.log) old new →
+    Elsewhere (half_sector p generation) (half_extent p.version p.geometry 0).length old new
+slots_in_half p generation change =
+    let has = half_has p.version p.geometry in
+    record { before = λ i lt. change.before i lt; after = λ i le. change.after i (omega (arith, le, has)) }
+
+-- and the directory lies there too
+pub log_in_half : (p : Plan) (generation n : ℕ) {old mid new : Image} → n ≤ p.geometry.log →
+    Elsewhere (half_sector p generation) (9 * p.geometry.log) old mid →
+    Elsewhere (half_sector p generation + 9 * p.geometry.log) (directory_length p.version n) mid new →
+    Elsewhere (half_sector p generation) (half_extent p.version p.geometry 0).length old new
+log_in_half p generation n few first second =
+    let has = half_has p.version p.geometry in
+    let fewer = fewer_entries p.version n p.geometry.log few in
+    record {
+      before = λ i lt. second.before i (omega (arith, lt)) ∙ first.before i lt;
+      after = λ i le. second.after i (omega (arith, le, has, fewer)) ∙ first.after i (omega (arith, le, has));
+    }
+
 -- the log lies between the headers and the end
 pub log_between : (p : Plan) (generation : ℕ) (old mid new : Image) → IsPlan p → Elsewhere 5 (p.total - 5) old mid →
-    Elsewhere (half_sector p generation) (half_extent p.geometry 0).length mid new → Elsewhere 5 (p.total - 5) old new
+    Elsewhere (half_sector p generation) (half_extent p.version p.geometry 0).length mid new → Elsewhere 5 (p.total - 5) old new
 log_between p generation old mid new fits first second = search (arith, half_within, fits)

@@ -1,7 +1,6 @@
 -- What is written to a home, or to a slot of the log.
-use Rattle.image_writer.specs.Names.{ℕ, List, Frame, frame_at, Image, frame_bytes}
-use Rattle.image_writer.specs.Names.{home_place, place_length, shape_of, bytes_at, shape_bytes, Plan, IsObject, EndsInZeros}
-use Rattle.image_writer.specs.Names.{sectors_from}
+use Rattle.image_writer.specs.Names.{ℕ, List, Frame, frame_at, Image, frame_bytes, home_place, place_length, shape_of}
+use Rattle.image_writer.specs.Names.{bytes_at, shape_bytes, Plan, IsObject, EndsInZeros, sectors_from}
 use Rattle.std.specs.Prelude.{◌≡◌}
 
 -- these bytes have the frames of all objects with the home of `number`

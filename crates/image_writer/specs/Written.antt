@@ -2,8 +2,7 @@
 use Rattle.image_writer.specs.Names.{ℕ, List, [], length, Frame, Geometry, frame_at, object_count, Disk, Image, Entry}
 use Rattle.image_writer.specs.Names.{CheckpointHeader, directory_bytes, entry_at, frame_bytes, header_bytes, home_place}
 use Rattle.image_writer.specs.Names.{HasNoHeader, SavedState, bytes_at, directory_in, frame_in, slot_sector, Plan}
-use Rattle.image_writer.specs.Names.{IsPlan, superblock_bytes}
-use Rattle.image_writer.specs.Names.{AreClosed, KeepsImage, Holds, SavedFrames}
+use Rattle.image_writer.specs.Names.{IsPlan, superblock_bytes, AreClosed, KeepsImage, Holds, SavedFrames}
 use Rattle.std.specs.Prelude.{◌≡◌, ◌⊎◌, ◌<◌}
 use Rattle.image_writer.specs.Homes.{HasZeros, LieAt}
 

@@ -80,7 +80,7 @@ pub(crate) fn write_log<D: Device>(
         ≡ directory_bytes entries.now) }
     ensures closed { LeavesClosed (D.disk device.new) }
     ensures elsewhere { Elsewhere (half_sector home.now generation)
-        (half_extent home.now.geometry 0).length (D.disk device.old).seen
+        (half_extent home.now.version home.now.geometry 0).length (D.disk device.old).seen
         (D.disk device.new).seen }
     ensures size { (D.disk device.new).sectors ≡ (D.disk device.old).sectors }
     ensures any_moment { LeavesOnly (D.disk device.old) (D.disk device.new) (λ c. AreClosed c) }

@@ -46,7 +46,7 @@ BuildsImage disk ms old new output output_left (Err _) = ⊥
 
 -- the line for an image that was written in a new layout: it is a copy if the version is kept
 abbrev pub upgraded_text : NewLayout → ℕ → List ℕ
-upgraded_text (layout.Of version) total = spaced (codes "upgraded" ∷ decimal total ∷ codes "sectors" ∷ [])
+upgraded_text layout.Newest total = spaced (codes "upgraded" ∷ decimal total ∷ codes "sectors" ∷ [])
 upgraded_text layout.Kept total = spaced (codes "copied" ∷ decimal total ∷ codes "sectors" ∷ [])
 
 -- the total of such an image is written

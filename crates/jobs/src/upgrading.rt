@@ -20,7 +20,7 @@ fn total_line(layout: NewLayout, total: u64) -> LineText
     ensures short { length result ≤ 60 }
 {
     let mut line = match layout {
-        NewLayout::Of(_) => LineText::numbered(b"upgraded", total),
+        NewLayout::Newest => LineText::numbered(b"upgraded", total),
         NewLayout::Kept => LineText::numbered(b"copied", total),
     };
     line.word(b"sectors");

@@ -15,7 +15,7 @@ marked p is =
     let few = few_versions p.version in
     let e = plan_stream p is.few in
     mark_from (superblock_bytes p) magic (second_of p) p.version (rw e refl) (rw e refl) (omega (arith, is.few, few)) refl
-    (omega (arith, few))
+    (omega (arith, few)) is.unsealed
     (sym (drop-drop 192 64 (superblock_bytes p)) ∙ ap (λ (b : List ℕ). drop 192 (drop 64 b)) e ∙
     drop_at (ranges_bytes (eight_ranges p.ranges)) (zeros 256) 192 (length-ranges (eight_ranges p.ranges)
     ∙ omega (arith, eight_long p.ranges is.few)))

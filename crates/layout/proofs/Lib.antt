@@ -18,6 +18,7 @@ pub mod SlotsOf
 pub mod Totals
 pub mod Denoted
 pub mod Shapes
+pub mod Versions
 pub mod Blocks
 mod Runs
 pub mod GateCopies

@@ -75,10 +75,11 @@ unfoldable pub use Rattle.layout.specs.Image.{sectors_from}
 pub use Rattle.layout.specs.Shape.{AreBeside, HasZerosBeside, IsBlankFrom, IsShapeFor, node_shape, page_shape, shape_bytes, shape_end, shape_length}
 pub use Rattle.layout.specs.Spelt.{AreSpelt, IsSpelt, count_of, frame_read}
 unfoldable pub use Rattle.layout.specs.Spelt.{frames_read}
-pub use Rattle.layout.specs.Superblock.{AreApart, Cover, HasMark, IsApart, IsInside, IsNext, IsPlan, IsWithin, Plan, RangeFits, extent_at, extents, half_extent}
-pub use Rattle.layout.specs.Superblock.{half_start, plan_of, range_bytes, range_extent, unused, version_number}
-unfoldable pub use Rattle.layout.specs.Superblock.{ranges_bytes, superblock_bytes}
-pub use Rattle.layout.specs.Version.{row}
+pub use Rattle.layout.specs.Superblock.{AreApart, Cover, HasMark, IsApart, IsInside, IsNext, IsPlan, IsWithin, MayBegin, Plan, RangeFits, extent_at, extents}
+pub use Rattle.layout.specs.Superblock.{half_extent, half_start, plan_of, range_bytes, range_extent, unused, version_number}
+unfoldable pub use Rattle.layout.specs.Superblock.{half_length, ranges_bytes, superblock_bytes}
+pub use Rattle.layout.specs.Version.{IsOpened, aligned, row}
+unfoldable pub use Rattle.layout.specs.Version.{directory_length}
 pub use Rattle.layout.specs.declared.bad_image.BadImage.{BadImage}
 pub use Rattle.layout.specs.declared.bad_image.BadImage.TheVariants.{BadFrame}
 pub use Rattle.layout.specs.declared.body.Body.{Body}
@@ -95,6 +96,7 @@ pub use Rattle.layout.specs.declared.sealed.page.PageHeader.{PageHeader}
 pub use Rattle.layout.specs.declared.sealed.superblock.SuperblockRow.{SuperblockRow}
 pub use Rattle.layout.specs.declared.shape.Shape.{Shape}
 pub use Rattle.layout.specs.declared.version.Version.{Version}
+pub use Rattle.layout.specs.declared.version.Version.TheVariants.{One, Three, Two}
 pub use Rattle.layout.specs.sealed.Cluster.{IsCluster}
 pub use Rattle.layout.specs.sealed.Directory.{entry_numbers}
 unfoldable pub use Rattle.layout.specs.sealed.Directory.{entries_bytes}

@@ -5,7 +5,7 @@ use Rattle.layout.proofs.Names.{take_more, take_more_set, take_all, take_at, dro
 use Rattle.layout.proofs.Names.{length-take-le, length-drop, take-append-drop, length-map, get_or_append_left, get_or-append-add, get_or-map, take-add}
 use Rattle.layout.proofs.Names.{flat_map-append, All-same, All-push, All-nil, All-tail, All-head, All-append, All-replicate, Geometry, Extent, HomeRange}
 use Rattle.layout.proofs.Names.{Version, number, half_number, zeros, Plan, version_number, plan_of, range_extent, half_extent, IsWithin, range_bytes}
-use Rattle.layout.proofs.Names.{ranges_bytes, unused, superblock_bytes, HasMark, IsPlan, RangeFits, Option}
+use Rattle.layout.proofs.Names.{ranges_bytes, unused, superblock_bytes, HasMark, IsPlan, RangeFits, Option, IsOpened}
 use Rattle.std.proofs.Common.{◌≡◌, ◌+◌, ◌-◌, ◌*◌, ◌/◌, ◌%◌, ◌^◌, ◌<◌, ◌≤◌, ◌∷◌, ◌++◌, ◌∙◌}
 use Rattle.std.specs.Prelude.{Some, None}
 use borrow.Rule.Slice.PartMut.{put_mid}
@@ -147,7 +147,7 @@ half_reported : (m n : ℕ) → m < 2 ^ 32 → n < 2 ^ 32 → half_number m ≡ 
 unfolding half_number
 half_reported m n fm fn e = sym (from_le_bytes-to_le_bytes_4 m fm) ∙ ap (from_le_bytes w32) e ∙ from_le_bytes-to_le_bytes_4 n fn
 
-pub few_versions : (v : Version) → version_number v ≤ 2
+pub few_versions : (v : Version) → version_number v ≤ 3
 few_versions v = grind (arith, nat_tests)
 
 one_version : (v w : Version) → version_number v ≡ version_number w → v ≡ w
@@ -161,10 +161,10 @@ version_reported bytes second v next fits is = ap (take 4) next ∙ front_half s
 
 pub mark_from : (bytes : List ℕ) (m second : ℕ) (v : Version) → bytes ≡ number m ++ drop 8 bytes →
     drop 8 bytes ≡ number second ++ drop 16 bytes → second < 2 ^ 64
-    → m ≡ magic → second % 4294967296 ≡ version_number v → drop 256 bytes ≡ zeros 256 → HasMark bytes
-mark_from bytes m second v first next fits is reported blank = record {
+    → m ≡ magic → second % 4294967296 ≡ version_number v → IsOpened v → drop 256 bytes ≡ zeros 256 → HasMark bytes
+mark_from bytes m second v first next fits is reported opened blank = record {
   magic = ap (take 8) first ∙ take_at (number m) (drop 8 bytes) 8 (length-number m) ∙ ap number is ∙ sym magic_is;
-  version = (v, version_reported bytes second v next fits reported);
+  version = (v, version_reported bytes second v next fits reported, opened);
   blank = blank;
 }
 
@@ -184,18 +184,19 @@ version_from bytes second v next fits is = grind (arith, nat_tests, half_reporte
 module _ (bytes : List ℕ) (m second : ℕ) (first : bytes ≡ number m ++ drop 8 bytes) (next : drop 8 bytes ≡ number second ++ drop 16 bytes)
     (fits : second < 2 ^ 64) where
   pub marked : (found : Option Version) → m ≡ magic → drop 256 bytes ≡ zeros 256 →
-      IfSome found (λ v. second % 4294967296 ≡ version_number v) → IfSome found (λ _. HasMark bytes)
-  marked None is blank reported = reported
-  marked (Some v) is blank reported = mark_from bytes m second v first next fits is reported blank
+      IfSome found (λ v. second % 4294967296 ≡ version_number v) → IfSome found (λ v. IsOpened v) → IfSome found (λ _. HasMark bytes)
+  marked None is blank reported opened = reported
+  marked (Some v) is blank reported opened = mark_from bytes m second v first next fits is reported opened blank
 
   pub versions_reported : (found : Option Version) → IfSome found (λ v. second % 4294967296 ≡ version_number v) →
       IfSome found (λ v. take 4 (drop 8 bytes) ≡ half_number (version_number v))
   versions_reported None reported = reported
   versions_reported (Some v) reported = version_reported bytes second v next fits reported
 
-  pub unmarked : (found : Option Version) → IfNone found ((v : Version) → second % 4294967296 ≡ version_number v → ⊥) →
+  pub unmarked : (found : Option Version) → IfNone found ((v : Version) → IsOpened v → second % 4294967296 ≡ version_number v → ⊥) →
       IfNone found (HasMark bytes → ⊥)
-  unmarked None reported = λ mark. reported mark.version.0 (version_from bytes second mark.version.0 next fits mark.version.1)
+  unmarked None reported = λ mark. reported mark.version.0 mark.version.2 (version_from bytes second mark.version.0 next fits
+      mark.version.1)
   unmarked (Some v) reported = reported
 
 -- the bytes of a sector that has the magic begin with the magic's number
@@ -246,11 +247,12 @@ extent_of_range p k d lt is =
     (omega (
       arith,
       length-append (map (range_extent p.version p.geometry) p.ranges)
-          (half_extent p.geometry p.half_0 ∷ half_extent p.geometry p.half_1 ∷ []),
+          (half_extent p.version p.geometry p.half_0 ∷ half_extent p.version p.geometry p.half_1 ∷ []),
       length-map p.ranges (range_extent p.version p.geometry),
     )) in
     let same : get_or (extents p) k (range_extent p.version p.geometry d) ≡ range_extent p.version p.geometry (get_or p.ranges k d) =
-    get_or_append_left (map (range_extent p.version p.geometry) p.ranges) (half_extent p.geometry p.half_0 ∷ half_extent p.geometry p.half_1
+    get_or_append_left (map (range_extent p.version p.geometry) p.ranges) (half_extent p.version p.geometry p.half_0 ∷ half_extent p.version
+    p.geometry p.half_1
     ∷ [])
     (range_extent p.version p.geometry d) k (omega (arith, length-map p.ranges (range_extent p.version p.geometry)))
     ∙ get_or-map (range_extent p.version p.geometry) p.ranges k d (range_extent p.version p.geometry d) lt in
@@ -258,12 +260,13 @@ extent_of_range p k d lt is =
     omega (arith, bound.1)
 
 half_within : (p : Plan) (k : ℕ) → k < 2 → IsPlan p →
-    (get_or (half_extent p.geometry p.half_0 ∷ half_extent p.geometry p.half_1 ∷ []) k (half_extent p.geometry 0)).sector ≤ p.total
+    (get_or (half_extent p.version p.geometry p.half_0 ∷ half_extent p.version p.geometry p.half_1 ∷ []) k
+    (half_extent p.version p.geometry 0)).sector ≤ p.total
 half_within p k lt is =
     let front : List Extent = map (range_extent p.version p.geometry) p.ranges in
-    let back : List Extent = half_extent p.geometry p.half_0 ∷ half_extent p.geometry p.half_1 ∷ [] in
-    let e = is.within (length front + k) (half_extent p.geometry 0) (omega (arith, length-append front back)) in
-    let bound = subst (IsWithin p.total) (get_or-append-add front back k (half_extent p.geometry 0)) e in
+    let back : List Extent = half_extent p.version p.geometry p.half_0 ∷ half_extent p.version p.geometry p.half_1 ∷ [] in
+    let e = is.within (length front + k) (half_extent p.version p.geometry 0) (omega (arith, length-append front back)) in
+    let bound = subst (IsWithin p.total) (get_or-append-add front back k (half_extent p.version p.geometry 0)) e in
     omega (arith, bound.1)
 
 pub plan_fits : (p : Plan) → IsPlan p → PlanFits p

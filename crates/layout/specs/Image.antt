@@ -16,6 +16,7 @@ use Rattle.layout.specs.Half.{half_of}
 use Rattle.layout.specs.Homes.{home_place, shape_of}
 use Rattle.layout.specs.Shape.{shape_length, shape_bytes}
 use Rattle.layout.specs.Superblock.{Plan, superblock_bytes, HasMark, IsPlan, half_start}
+use Rattle.layout.specs.Version.{directory_length}
 
 -- the bytes of the n sectors from `at` on
 unfoldable pub sectors_from : Image → ℕ → ℕ → List ℕ
@@ -67,14 +68,10 @@ slot_sector p generation slot = half_sector p generation + 9 * slot
 abbrev pub directory_sector : Plan → ℕ → ℕ
 directory_sector p generation = half_sector p generation + 9 * p.geometry.log
 
--- how many sectors a directory of n entries takes
-abbrev pub directory_length : ℕ → ℕ
-directory_length n = (n + 31) / 32
-
 -- the bytes of a directory of n entries: those after the last entry don't matter
 abbrev pub directory_in : Image → Plan → ℕ → ℕ → List ℕ
 directory_in image p generation n = take (16 * n)
-    (sectors_from image (directory_sector p generation) (directory_length n))
+    (sectors_from image (directory_sector p generation) (directory_length p.version n))
 
 -- the slot that a directory gives an object
 abbrev pub slot_in : List Entry → ℕ → Option ℕ

@@ -1,7 +1,7 @@
 -- The superblock: how much a device holds, and where.
 use Rattle.layout.specs.Names.{ℕ, nat_lt, List, [], length, map, take, drop, replicate, slice_index_or, codes, All}
 use Rattle.layout.specs.Names.{flat_map, Geometry}
-use Rattle.std.specs.Prelude.{◌≡◌, ◌⊎◌, ◌+◌, ◌-◌, ◌*◌, ◌/◌, ◌<◌, ◌≤◌, ◌^◌, if◌then◌else◌, ◌∷◌, ◌++◌}
+use Rattle.std.specs.Prelude.{◌≡◌, ◌⊎◌, ◌+◌, ◌-◌, ◌*◌, ◌/◌, ◌%◌, ◌<◌, ◌≤◌, ◌^◌, if◌then◌else◌, ◌∷◌, ◌++◌}
 use Rattle.layout.specs.declared.bad_image.BadImage.{BadImage}
 use Rattle.layout.specs.declared.bad_image.BadImage.TheVariants.{NotASuperblock, BadGeometry}
 use Rattle.layout.specs.declared.extent.Extent.{Extent}
@@ -10,7 +10,7 @@ use Rattle.layout.specs.declared.half.Half.{Half}
 use Rattle.layout.specs.declared.half.Half.TheVariants.{First, Second}
 use Rattle.layout.specs.declared.version.Version.{Version}
 use Rattle.layout.specs.Bytes.{number, half_number, zeros}
-use Rattle.layout.specs.Version.{row}
+use Rattle.layout.specs.Version.{IsOpened, aligned, directory_length, row}
 
 -- the number for its version in a superblock
 abbrev pub version_number : Version → ℕ
@@ -43,10 +43,10 @@ superblock_bytes p =
     ++ number p.half_0 ++ number p.half_1 ++ number p.total
     ++ ranges_bytes (p.ranges ++ replicate (8 - length p.ranges) unused) ++ zeros 256
 
--- magic, version and the bytes from 256 on are those of a superblock
+-- magic, version and the bytes from 256 on are those of a superblock that programs open
 pub record HasMark (bytes : List ℕ) : Type 0 where
   pub magic : take 8 bytes ≡ codes "EROSCKPT"
-  pub version : (v : Version) × (take 4 (drop 8 bytes) ≡ half_number (version_number v))
+  pub version : (v : Version) × (take 4 (drop 8 bytes) ≡ half_number (version_number v)) × IsOpened v
   pub blank : drop 256 bytes ≡ zeros 256
 
 -- how much a device may hold
@@ -83,16 +83,24 @@ range_extent v g r = record {
       r.count;
 }
 
-abbrev pub half_extent : Geometry → ℕ → Extent
-half_extent g sector = record { sector = sector; length = 9 * g.log + (g.log + 31) / 32 }
+-- how many sectors a log half takes: its slots, and its directory
+unfoldable pub half_length : Version → Geometry → ℕ
+half_length v g = aligned v (9 * g.log + directory_length v g.log)
+
+abbrev pub half_extent : Version → Geometry → ℕ → Extent
+half_extent v g sector = record { sector = sector; length = half_length v g }
 
 abbrev pub extents : Plan → List Extent
-extents p = map (range_extent p.version p.geometry) p.ranges ++ half_extent p.geometry p.half_0 ∷ half_extent p.geometry
-    p.half_1 ∷ []
+extents p = map (range_extent p.version p.geometry) p.ranges
+    ++ half_extent p.version p.geometry p.half_0 ∷ half_extent p.version p.geometry p.half_1 ∷ []
 
--- these sectors lie after the header slots and before the end
+-- sectors after the headers of versions 1 and 2, and before the end
 abbrev pub IsWithin : ℕ → Extent → Type 0
 IsWithin total e = (5 ≤ e.sector) × (e.sector + e.length ≤ total)
+
+-- a range or a half may begin there: after the headers of the version, and at a multiple
+abbrev pub MayBegin : Version → Extent → Type 0
+MayBegin v e = ((row v).first_home ≤ e.sector) × (e.sector % (row v).alignment ≡ 0)
 
 -- no sector is in both extents
 abbrev pub IsApart : Extent → Extent → Type 0
@@ -109,14 +117,16 @@ extent_at es i = slice_index_or es i (record { sector = 0; length = 0 })
 abbrev pub AreApart : List Extent → Type 0
 AreApart es = (i j : ℕ) → i < j → j < length es → IsApart (extent_at es i) (extent_at es j)
 
--- what a superblock requires
+-- what a superblock needs; programs do not open version 3 yet
 pub record IsPlan (p : Plan) : Type 0 where
+  pub unsealed : IsOpened p.version
   pub geometry : IsGeometry p.geometry
   pub some : 1 ≤ length p.ranges
   pub few : length p.ranges ≤ 8
   pub total : p.total ≤ 131072
   pub cover : Cover p.geometry 0 p.ranges
   pub within : All (IsWithin p.total) (extents p)
+  pub begin : All (MayBegin p.version) (extents p)
   pub apart : AreApart (extents p)
 
 -- why a sector is refused as a superblock

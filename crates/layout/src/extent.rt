@@ -1,7 +1,9 @@
 // Ranges of objects and of sectors.
-ghost use Rattle.std.specs.Prelude.{◌≡◌, ◌+◌, ◌<◌, ◌≤◌, ◌++◌, ◌∷◌, ◌↔◌, [], length, map, IsTrue};
+ghost use Rattle.std.specs.Prelude.{◌≡◌, ◌+◌, ◌*◌, ◌<◌, ◌≤◌, ◌++◌, ◌∷◌, ◌↔◌, [], length, map, IsTrue};
 ghost use Rattle.std.specs.List.{All};
-ghost use Rattle.layout.specs.Superblock.{nodes_length, range_extent, half_extent, IsWithin, IsApart, AreApart};
+ghost use Rattle.layout.specs.Superblock.{nodes_length, range_extent, half_extent, IsWithin, MayBegin, IsApart};
+ghost use Rattle.layout.specs.Superblock.{AreApart};
+ghost use Rattle.layout.specs.Version.{aligned, directory_length};
 
 use crate::version::Version;
 use model::Geometry;
@@ -50,14 +52,39 @@ pub fn range_extent(version: Version, geometry: Geometry, range: HomeRange) -> E
     }
 }
 
-/// Returns the sectors of a log half that begins at `sector`: 9 for each slot, then those of its directory.
-pub fn half_extent(geometry: Geometry, sector: u64) -> Extent
-    requires { geometry.log ≤ 4096 }
-    ensures { result ≡ half_extent geometry sector }
+/// Returns how many sectors a directory of this number of entries takes.
+#[tactic(auto, unfolding(crate::specs::Version::directory_length), using(crate::proofs::Versions::entries_lie))]
+pub fn directory_length(version: Version, entries: u64) -> u64
+    requires { entries ≤ 4096 }
+    ensures value { result ≡ directory_length version entries }
+    ensures few { result ≤ 137 }
+    ensures holds { 16 * entries ≤ 512 * result }
 {
+    let in_sector = version.row().sector_entries;
+    (entries + in_sector - 1) / in_sector
+}
+
+// Returns the least multiple from `sectors` on at which a range or a half may begin.
+fn aligned(version: Version, sectors: u64) -> u64
+    requires { sectors ≤ 65536 }
+    ensures value { result ≡ aligned version sectors }
+    ensures few { result ≤ sectors + 7 }
+{
+    let multiple = version.row().alignment;
+    multiple * ((sectors + multiple - 1) / multiple)
+}
+
+/// Returns the sectors of a log half that begins at `sector`: 9 for each slot, then those of its directory.
+#[tactic(auto, unfolding(crate::specs::Superblock::half_length))]
+pub fn half_extent(version: Version, geometry: Geometry, sector: u64) -> Extent
+    requires { geometry.log ≤ 4096 }
+    ensures value { result ≡ half_extent version geometry sector }
+    ensures few { result.length ≤ 37008 }
+{
+    let sectors = 9 * geometry.log + directory_length(version, geometry.log);
     Extent {
         sector,
-        length: 9 * geometry.log + (geometry.log + 31) / 32,
+        length: aligned(version, sectors),
     }
 }
 
@@ -75,27 +102,42 @@ pub fn fill_extents(
     requires log { geometry.log ≤ 4096 }
     requires counts { All (λ r. r.count ≤ 8192) ranges.now }
     ensures { into.new ≡ map (range_extent version geometry) ranges.now
-        ++ half_extent geometry half_0 ∷ half_extent geometry half_1 ∷ [] }
+        ++ half_extent version geometry half_0 ∷ half_extent version geometry half_1 ∷ [] }
 {
     for (i, range) in ranges.iter().enumerate() {
         into[i] = range_extent(version, geometry, *range);
     }
-    into[ranges.len()] = half_extent(geometry, half_0);
-    into[ranges.len() + 1] = half_extent(geometry, half_1);
+    into[ranges.len()] = half_extent(version, geometry, half_0);
+    into[ranges.len() + 1] = half_extent(version, geometry, half_1);
 }
 
-// Whether an extent lies after the headers, which end before sector 5, and before sector `total`.
+// Whether an extent lies after the headers of versions 1 and 2, and before sector `total`.
 fn is_within(total: u64, extent: Extent) -> bool
     ensures { IsTrue result ↔ IsWithin total extent }
 {
     extent.sector >= 5 && extent.length <= total && extent.sector <= total - extent.length
 }
 
-/// Whether all extents lie after the headers, which end before sector 5, and before sector `total`.
+/// Whether all extents lie after the headers of versions 1 and 2, and before sector `total`.
 pub fn are_within(total: u64, extents: &[Extent]) -> bool
     ensures { IsTrue result ↔ All (IsWithin total) extents.now }
 {
     extents.iter().all(|extent| is_within(total, *extent))
+}
+
+// Whether a range or a log half of a version may begin where an extent begins.
+fn may_begin(version: Version, extent: Extent) -> bool
+    ensures { IsTrue result ↔ MayBegin version extent }
+{
+    let row = version.row();
+    extent.sector >= row.first_home && extent.sector % row.alignment == 0
+}
+
+/// Whether ranges and log halves of a version may begin where the extents begin.
+pub fn may_all_begin(version: Version, extents: &[Extent]) -> bool
+    ensures { IsTrue result ↔ All (MayBegin version) extents.now }
+{
+    extents.iter().all(|extent| may_begin(version, *extent))
 }
 
 // Whether no sector is in both extents.

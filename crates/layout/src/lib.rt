@@ -33,7 +33,7 @@ pub use body::{Body, Scratch};
 pub use bytes::{are_zeros, blank, blank_from};
 pub use capability::{CAPABILITY_BYTES, decode_capability, encode_capability};
 pub use directory::{ENTRY_BYTES, Entry, MAX_LOG, decode_directory, encode_directory};
-pub use extent::{Extent, HomeRange, half_extent, range_extent};
+pub use extent::{Extent, HomeRange, directory_length, half_extent, range_extent};
 pub use fields::{header_in, sequence_in, total_in};
 pub use frame::{decode_frame, decode_in_block, encode_frame};
 pub use frame_io::{read_frame, read_header, read_sectors, write_frame, write_page, write_sectors};

@@ -7,13 +7,14 @@ ghost use Rattle.layout.specs.Homes.{range_with, rank_in, shape_of};
 ghost use Rattle.layout.specs.Shape.{IsShapeFor};
 ghost use Rattle.layout.specs.Superblock.{Plan, version_number, superblock_bytes, ranges_bytes, unused, HasMark};
 ghost use Rattle.layout.specs.Superblock.{IsGeometry, IsNext, Cover, extents, IsPlan, IsPlanRefused, RangeFits};
-ghost use Rattle.layout.specs.Superblock.{half_start, plan_of};
-ghost use Rattle.layout.specs.Version.{row};
+ghost use Rattle.layout.specs.Superblock.{plan_of};
+ghost use Rattle.layout.specs.Superblock.{half_start};
+ghost use Rattle.layout.specs.Version.{IsOpened, row};
 
 use crate::bad_image::BadImage;
 use crate::bytes::{blank, is_blank_from, number_at, put_number};
 use crate::directory::MAX_LOG;
-use crate::extent::{Extent, HomeRange, are_apart, are_within, fill_extents};
+use crate::extent::{Extent, HomeRange, are_apart, are_within, fill_extents, may_all_begin};
 use crate::half::Half;
 use crate::homes::range_with;
 use crate::shape::Shape;
@@ -115,7 +116,7 @@ fn is_plan(
     if !is_geometry(geometry) || ranges.is_empty() || ranges.len() > MAX_RANGES {
         return false;
     }
-    if total > MAX_SECTORS || !do_cover(geometry, ranges) {
+    if version.row().sealed || total > MAX_SECTORS || !do_cover(geometry, ranges) {
         return false;
     }
     let mut extents = [Extent {
@@ -124,7 +125,7 @@ fn is_plan(
     }; 10];
     let used = &mut extents[..ranges.len() + 2];
     fill_extents(version, geometry, ranges, half_0, half_1, used);
-    are_within(total, used) && are_apart(used)
+    are_within(total, used) && may_all_begin(version, used) && are_apart(used)
 }
 
 /// How many objects a device holds, and where its parts lie. Each superblock is within the limits of the format: its
@@ -340,12 +341,13 @@ pub fn encode_superblock(superblock: &Superblock, into: &mut [u8])
     write_ranges(ranges, &mut into[RANGES_AT..end]);
 }
 
-// Returns the version in a superblock's sector. Returns `None` for another magic, a version other
-// than 1 and 2, or a byte after the ranges that isn't 0.
+// Returns the version in a superblock's sector. Returns `None` for another magic, a version that
+// programs do not open, or a byte after the ranges that isn't 0.
 fn version_in(bytes: &[u8]) -> Option<Version>
     requires { length bytes.now ≡ 512 }
     ensures mark { IfSome result (λ _. HasMark bytes.now) }
     ensures version { IfSome result (λ v. take 4 (drop 8 bytes.now) ≡ half_number (version_number v)) }
+    ensures opened { IfSome result (λ v. IsOpened v) }
     ensures none { IfNone result (HasMark bytes.now → ⊥) }
 {
     let magic = number_at(bytes, 0);
@@ -386,8 +388,8 @@ fn read_plan(version: Version, bytes: &[u8]) -> Option<Superblock>
 
 /// Reads the 512 bytes of a superblock's sector.
 ///
-/// Returns `NotASuperblock` for another magic, a version other than 1 and 2, or a byte after the ranges that isn't 0.
-/// Returns `BadGeometry` if the bytes encode no superblock for another reason.
+/// Returns `NotASuperblock` for another magic, a version that programs do not open, or a byte after the
+/// ranges that isn't 0. Returns `BadGeometry` if the bytes spell no superblock for another reason.
 pub fn decode_superblock(bytes: &[u8]) -> Result<Superblock, BadImage>
     requires { length bytes.now ≡ 512 }
     ensures found { IfOk result (λ s. bytes.now ≡ superblock_bytes s) }

@@ -1,6 +1,6 @@
 // The versions of the layout, and the numbers in which they differ.
 ghost use Rattle.std.specs.Prelude.{◌≡◌, ◌<◌, ◌≤◌, IfSome, IfNone};
-ghost use Rattle.layout.specs.Version.{row};
+ghost use Rattle.layout.specs.Version.{IsOpened, row};
 ghost use Rattle.layout.specs.Superblock.{version_number};
 
 /// A version of the layout.
@@ -8,6 +8,8 @@ ghost use Rattle.layout.specs.Superblock.{version_number};
 pub enum Version {
     One,
     Two,
+    /// Programs do not open it yet.
+    Three,
 }
 
 /// The numbers of a version. In each version the frames of nodes lie in clusters.
@@ -15,12 +17,26 @@ pub enum Version {
 pub struct Row {
     /// The number for the version in a superblock.
     pub number: u64,
+    /// How many sectors after an opening structure the next begins. These are superblock, headers and gates.
+    pub opening_step: u64,
+    /// How many header slots there are.
+    pub header_slots: u64,
+    /// The first sector after the opening structures.
+    pub first_home: u64,
+    /// Home ranges and log halves begin at multiples of this.
+    pub alignment: u64,
     /// How many sectors a cluster takes.
     pub cluster_sectors: u64,
     /// How many nodes have their frames in a cluster.
     pub cluster_nodes: u64,
     /// How many bytes the frame of a node takes, without the zeros at its end.
     pub node_bytes: u64,
+    /// How many entries a sector of a directory has.
+    pub sector_entries: u64,
+    /// The sequence number of the first header. So much more a sequence number may be than in version 1.
+    pub first_sequence: u64,
+    /// Whether all structures are sealed.
+    pub sealed: bool,
 }
 
 impl Version {
@@ -34,40 +50,77 @@ impl Version {
         ensures some { 0 < result.cluster_nodes }
         ensures nodes { result.cluster_nodes ≤ 5 }
         ensures bytes { result.node_bytes ≤ 1024 }
+        ensures aligned { (0 < result.alignment) × (result.alignment ≤ 8) }
+        ensures entries { (0 < result.sector_entries) × (result.sector_entries ≤ 32) }
     {
         match self {
             Version::One => Row {
                 number: 1,
+                opening_step: 1,
+                header_slots: 2,
+                first_home: 5,
+                alignment: 1,
                 cluster_sectors: 2,
                 cluster_nodes: 1,
                 node_bytes: 1024,
+                sector_entries: 32,
+                first_sequence: 0,
+                sealed: false,
             },
             Version::Two => Row {
                 number: 2,
+                opening_step: 1,
+                header_slots: 2,
+                first_home: 5,
+                alignment: 1,
                 cluster_sectors: 8,
                 cluster_nodes: 5,
                 node_bytes: 800,
+                sector_entries: 32,
+                first_sequence: 0,
+                sealed: false,
+            },
+            Version::Three => Row {
+                number: 3,
+                opening_step: 8,
+                header_slots: 3,
+                first_home: 56,
+                alignment: 8,
+                cluster_sectors: 8,
+                cluster_nodes: 5,
+                node_bytes: 800,
+                sector_entries: 30,
+                first_sequence: 2,
+                sealed: true,
             },
         }
     }
 
-    /// Returns the number for this version in a superblock: 1 or 2.
+    /// Returns the number for this version in a superblock: 1 to 3.
     pub fn number(self) -> u64
         ensures value { result ≡ version_number self }
-        ensures most { result ≤ 2 }
+        ensures most { result ≤ 3 }
     {
         self.row().number
     }
 
-    /// Returns the version with a number, or `None` for a number other than 1 and 2.
+    /// Returns the version with a number, or `None` if no version that programs open has it. A sealed version isn't
+    /// opened yet.
     pub fn with_number(number: u64) -> Option<Version>
         ensures some { IfSome result (λ v. number ≡ version_number v) }
-        ensures none { IfNone result ((v : Version) → number ≡ version_number v → ⊥) }
+        ensures opened { IfSome result (λ v. IsOpened v) }
+        ensures none { IfNone result ((v : Version) → IsOpened v → number ≡ version_number v → ⊥) }
     {
-        match number {
-            1 => Some(Version::One),
-            2 => Some(Version::Two),
-            _ => None,
+        let version = match number {
+            1 => Version::One,
+            2 => Version::Two,
+            3 => Version::Three,
+            _ => return None,
+        };
+        if version.row().sealed {
+            None
+        } else {
+            Some(version)
         }
     }
 }

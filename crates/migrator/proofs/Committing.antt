@@ -162,7 +162,7 @@ module _ (disk : Disk) {b : Books} (k : ℕ) (kept : IsIntact disk.sectors disk.
     directory_next : IsDirectory b.plan.geometry es
     directory_next = fs_fit k kept running stable
 
-    inside_half : IsInside extent (half_extent b.plan.geometry (half_sector b.plan (frozen_generation b)))
+    inside_half : IsInside extent (half_extent b.plan.version b.plan.geometry (half_sector b.plan (frozen_generation b)))
     inside_half = directories_inside b.plan (frozen_generation b) (taken_count b.frozen) kept.frozen.few
 
     spares_now : Spares b.plan b.header b.directory extent

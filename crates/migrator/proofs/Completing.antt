@@ -10,6 +10,7 @@ use Rattle.migrator.proofs.Names.{apart_inside, whole_sectors, IsObject, IsWhole
 use Rattle.migrator.proofs.Names.{Bool, true, false, place_extent, frames_in_slots, halves_within}
 use Rattle.migrator.proofs.Names.{slots_apart, IsFilled, IsComplete, KeepsOne, IsGathered, set, frame_in, frame_from, IsSpelt, frame_read}
 use Rattle.migrator.proofs.Names.{spelt_same, Place, slot_for, IsSpeltIn, Frame, slot_frame, HasUnwritten}
+use Rattle.layout.proofs.Versions.{half_has}
 use Rattle.std.proofs.Common.{◌≡◌, ◌*◌, ◌<◌, ◌∙◌, ◌⊎◌, ◌+◌, ◌-◌, ◌≤◌}
 use Rattle.migrator.proofs.Committing.{frozen_fits}
 use Rattle.migrator.proofs.Kept.{GoesOnSeen, goes_spared, puts_same, are_put_same, puts_stay, are_put_on, stored_same, home_stays, readable_stays}
@@ -31,8 +32,8 @@ module _ {old new : Disk} {b : Books} {was now : Option Unwritten} {k : ℕ} (ke
   abbrev extent : Extent
   extent = record { sector = half_sector b.plan (frozen_generation b); length = 9 * b.plan.geometry.log }
 
-  inside : IsInside extent (half_extent b.plan.geometry (half_sector b.plan (frozen_generation b)))
-  inside = record { starts = omega arith; ends = omega arith }
+  inside : IsInside extent (half_extent b.plan.version b.plan.geometry (half_sector b.plan (frozen_generation b)))
+  inside = let has = half_has b.plan.version b.plan.geometry in record { starts = omega arith; ends = omega (arith, has) }
 
   spares : Spares b.plan b.header b.directory extent
   spares = spares_other b.header (frozen_generation b) kept.plan kept.directory kept.header.entries (other_parity b.header.generation)
@@ -165,8 +166,10 @@ ends_on p n old new is size same ends at behind = blank_on (shape_end (shape_of 
 -- ---- it is written into the slot of its entry
 
 half_of_slot : (p : Plan) (generation : ℕ) {slot : ℕ} → slot < p.geometry.log →
-    IsInside (record { sector = slot_sector p generation slot; length = 8 }) (half_extent p.geometry (half_sector p generation))
-half_of_slot p generation low = record { starts = omega arith; ends = omega (arith, low) }
+    IsInside (record { sector = slot_sector p generation slot; length = 8 }) (half_extent p.version p.geometry (half_sector p generation))
+half_of_slot p generation low =
+    let has = half_has p.version p.geometry in
+    record { starts = omega arith; ends = omega (arith, has, low) }
 
 -- the cluster that a slot then holds
 cluster_read : (image : Image) (u : Unwritten) → length u.bytes ≡ 4096 → sectors_from (mended image (Some u)) u.sector 8 ≡ u.bytes
@@ -393,7 +396,7 @@ cluster_extent u = record { sector = u.sector; length = 8 }
 
 module _ {disk : Disk} {b : Books} (is : IsDurable disk b) where
   abbrev half : Extent
-  half = half_extent b.plan.geometry (half_sector b.plan (frozen_generation b))
+  half = half_extent b.plan.version b.plan.geometry (half_sector b.plan (frozen_generation b))
 
   has_some : {u : Unwritten} → b.unwritten ≡ Some u → HasUnwritten b u
   has_some some = subst (MayHaveUnwritten b) some is.unwritten

@@ -79,8 +79,8 @@ header_read {old} {size} new {b} kept home {n} {at} lt place shape_is same is =
 module _ {size : ℕ} {image : Image} {b : Books} (kept : IsIntact size image b) (free : b.frozen_size ≡ None) (home : b.header.entries ≡ 0)
   where
     -- the half of the saved generation lies apart from all that is kept
-    spares_half : (g : ℕ) {e : Extent} → g % 2 ≡ b.header.generation % 2 → IsInside e (half_extent b.plan.geometry (half_sector b.plan g)) →
-        SparesKept b e
+    spares_half : (g : ℕ) {e : Extent} → g % 2 ≡ b.header.generation % 2 → IsInside e
+        (half_extent b.plan.version b.plan.geometry (half_sector b.plan g)) → SparesKept b e
     spares_half g {e} same inside =
         search (
           (spares_log b.header b.directory g kept.plan kept.count home inside).frames,
@@ -96,7 +96,8 @@ module _ {old new : Disk} {b : Books} (is : IsDurable old b) (free : b.frozen_si
   mended_writes : WritesAt (slot_sector b.plan b.header.generation 0) 9 (mended_disk old b.unwritten) (mended_disk new b.unwritten)
   mended_writes = writes_mended b.unwritten writes
 
-  inside : IsInside (slot_extent b.plan b.header.generation 0) (half_extent b.plan.geometry (half_sector b.plan b.header.generation))
+  inside : IsInside (slot_extent b.plan b.header.generation 0) (half_extent b.plan.version b.plan.geometry
+      (half_sector b.plan b.header.generation))
   inside = slots_inside b.plan b.header.generation 0 (omega (arith, is.kept.plan.geometry.least_log))
 
   spares : SparesKept b (slot_extent b.plan b.header.generation 0)
@@ -172,7 +173,7 @@ module _ {disk : Disk} {b : Books} {n age : ℕ} (may : MayReplace disk b n age)
   parity : again % 2 ≡ b.header.generation % 2
   parity = omega arith
 
-  inside_half : IsInside extent (half_extent b.plan.geometry (half_sector b.plan again))
+  inside_half : IsInside extent (half_extent b.plan.version b.plan.geometry (half_sector b.plan again))
   inside_half = directories_inside b.plan again 1 some
 
   frame_here : frame_in disk.seen b.plan again (one_entry n) n ≡ first_bytes disk.seen b n

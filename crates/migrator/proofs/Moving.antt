@@ -6,6 +6,7 @@ use Rattle.migrator.proofs.Names.{stored_in, stored_on, IsHome, IsRunning, IsInt
 use Rattle.migrator.proofs.Names.{Migrates, Publishes, ⊎_elim, all_moved, IsSoundOn, IsLesser, on_snapshots, Result, Ok, Err, IsErr, Counts, MayFinish, []}
 use Rattle.migrator.proofs.Names.{CheckpointHeader, IsDirectory, IsHeader, frame_in, frame_slot_in, AreSpelt, half_within, read_same, spelt_same}
 use Rattle.migrator.proofs.Names.{frame_slot_entry, directory_extent, home_header, MayAdopt, adopted}
+use Rattle.layout.proofs.Versions.{no_sectors}
 use Rattle.std.proofs.Common.{◌≡◌, ◌+◌, ◌-◌, ◌<◌, ◌≤◌, ◌∙◌, ◌⊎◌}
 use Rattle.migrator.proofs.PlacesApart.{frame_stays, mended_disk, touches_mended, place_inside, home_apart, spares_home, at_home}
 use Rattle.migrator.proofs.Kept.{nowhere_frozen, stored_stays, kept_on, goes_seen, goes_spared}
@@ -240,7 +241,7 @@ module _ {disk : Disk} {b : Books} (may : MayFinish disk b) where
   spelt_home = grind (arith, nat_tests, spelt_same, same_frame, kept)
 
   apart : Spares b.plan b.header b.directory (directory_extent b.plan b.header.generation 0)
-  apart = grind (arith, nat_tests, half_within, kept, directory_spares)
+  apart = grind (arith, nat_tests, half_within, kept, directory_spares, no_sectors)
 
   home_stored : stored_in disk.seen (with_header b header []) ≡ on_snapshots all_moved (stored_in disk.seen b)
   home_stored = grind (arith, nat_tests, read_same, same_frame)

@@ -42,12 +42,13 @@ unfoldable pub use Rattle.layout.specs.FrameReader.{frame_from}
 pub use Rattle.layout.specs.Frames.{IsHeaderAt, IsObject, IsRefused}
 pub use Rattle.layout.specs.Header.{IsHeader}
 pub use Rattle.layout.specs.Homes.{home_place, place_length, shape_of}
-pub use Rattle.layout.specs.Image.{Encodes, HasDirectory, HasHeader, HasPlan, IsTooSmall, SavedState, bytes_at, directory_in, directory_length}
+pub use Rattle.layout.specs.Image.{Encodes, HasDirectory, HasHeader, HasPlan, IsTooSmall, SavedState, bytes_at, directory_in}
 pub use Rattle.layout.specs.Image.{directory_sector, frame_in, frame_slot_in, half_sector, sector_or, shaped_at, slot_beside, slot_in, slot_sector, total_in}
 unfoldable pub use Rattle.layout.specs.Image.{sectors_from}
 pub use Rattle.layout.specs.Shape.{AreBeside, IsBlankFrom, IsShapeFor, page_shape, shape_bytes, shape_end}
 pub use Rattle.layout.specs.Spelt.{AreSpelt, IsSpelt, count_of, frame_read, state_in}
 unfoldable pub use Rattle.layout.specs.Spelt.{frames_read}
+unfoldable pub use Rattle.layout.specs.Version.{directory_length}
 pub use Rattle.layout.specs.Superblock.{IsApart, IsInside, IsPlan, Plan, half_extent, half_start}
 unfoldable pub use Rattle.layout.specs.Superblock.{superblock_bytes}
 pub use Rattle.layout.specs.declared.bad_image.BadImage.{BadImage}

@@ -185,26 +185,28 @@ frame_apart p generation es n e slot home = apart_by (frame_slot_in p es n) p ge
 -- ---- halves and homes
 
 pub place_inside : (p : Plan) (generation : ℕ) {s : ℕ} (n : ℕ) → s < p.geometry.log →
-    IsInside (place_extent p generation s n) (half_extent p.geometry (half_sector p generation))
+    IsInside (place_extent p generation s n) (half_extent p.version p.geometry (half_sector p generation))
 place_inside p generation {s} n lt = search (arith, frames_in_slots, slots_inside)
 
 -- a slot in one half, and sectors of the other
 pub other_half : {p : Plan} (a b : ℕ) {s : ℕ} (n : ℕ) {e : Extent} → IsPlan p → (a % 2 ≡ b % 2 → ⊥) → s < p.geometry.log →
-    IsInside e (half_extent p.geometry (half_sector p b)) → IsApart (place_extent p a s n) e
+    IsInside e (half_extent p.version p.geometry (half_sector p b)) → IsApart (place_extent p a s n) e
 other_half {p} a b {s} n {e} fits differ lt inside = search (arith, apart_inside, place_inside, halves_apart)
 
 pub home_apart : {p : Plan} (generation : ℕ) {n : ℕ} {e : Extent} → IsPlan p → n < count_of p →
-    IsInside e (half_extent p.geometry (half_sector p generation)) → IsApart (home_extent p n) e
+    IsInside e (half_extent p.version p.geometry (half_sector p generation)) → IsApart (home_extent p n) e
 home_apart {p} generation {n} {e} fits lt inside = search (arith, apart_inside, home_extent, itself, places_spare_log)
 
 -- the saved frames lie apart from the other half
 pub spares_other : {p : Plan} (h : CheckpointHeader) {es : List Entry} (generation : ℕ) {e : Extent} → IsPlan p →
     IsDirectory p.geometry es → h.entries ≤ p.geometry.log → (h.generation % 2 ≡ generation % 2 → ⊥) →
-    IsInside e (half_extent p.geometry (half_sector p generation)) → Spares p h es e
+    IsInside e (half_extent p.version p.geometry (half_sector p generation)) → Spares p h es e
 spares_other {p} h {es} generation {e} fits is few differ inside = record {
-  headers = (within_inside p.total e (half_extent p.geometry (half_sector p generation)) inside (halves_within p generation fits)).0;
-  directory = inr (apart_inside (directory_extent p h.generation h.entries) e (half_extent p.geometry (half_sector p h.generation))
-      (half_extent p.geometry (half_sector p generation))
+  headers = (within_inside p.total e (half_extent p.version p.geometry (half_sector p generation)) inside
+      (halves_within p generation fits)).0;
+  directory = inr (apart_inside (directory_extent p h.generation h.entries) e
+      (half_extent p.version p.geometry (half_sector p h.generation))
+      (half_extent p.version p.geometry (half_sector p generation))
       (directories_inside p h.generation h.entries few) inside (halves_apart p h.generation generation fits differ));
   frames = λ n lt. frame_apart p h.generation es n e (λ s slot. other_half h.generation generation n fits differ
       (frame_slot_fits p n is slot) inside)
@@ -213,9 +215,10 @@ spares_other {p} h {es} generation {e} fits is few differ inside = record {
 
 -- if all saved frames are home, they lie apart from both halves
 pub spares_log : {p : Plan} (h : CheckpointHeader) (es : List Entry) (generation : ℕ) {e : Extent} → IsPlan p → length es ≡ h.entries →
-    h.entries ≡ 0 → IsInside e (half_extent p.geometry (half_sector p generation)) → Spares p h es e
+    h.entries ≡ 0 → IsInside e (half_extent p.version p.geometry (half_sector p generation)) → Spares p h es e
 spares_log {p} h es generation {e} fits count none inside = record {
-  headers = (within_inside p.total e (half_extent p.geometry (half_sector p generation)) inside (halves_within p generation fits)).0;
+  headers = (within_inside p.total e (half_extent p.version p.geometry (half_sector p generation)) inside
+      (halves_within p generation fits)).0;
   directory = inl none;
   frames = λ n lt. frame_apart p h.generation es n e (λ s slot. let never : None ≡ Some s = sym (no_entries p es n (count ∙ none)) ∙ slot in
       absurd cc)

@@ -31,7 +31,7 @@ stored_raw disk b none c same = ap (λ (o : Option Unwritten). stored_in (mended
 
 -- the directory was written apart from all that is read
 module _ {old mid : Disk} {b : Books} {next : CheckpointHeader} {fs : List Entry} (may : MayAdopt old b next fs)
-    (writes : WritesAt (directory_sector b.plan next.generation) (directory_length next.entries) old mid) where
+    (writes : WritesAt (directory_sector b.plan next.generation) (directory_length b.plan.version next.entries) old mid) where
   abbrev p : Plan
   p = b.plan
 
@@ -317,7 +317,7 @@ module _ {disk : Disk} {b : Books} (next : CheckpointHeader) (es : List Entry) (
     abbrev sectors : Extent
     sectors = directory_extent b.plan next.generation next.entries
 
-    inside : IsInside sectors (half_extent b.plan.geometry (half_sector b.plan next.generation))
+    inside : IsInside sectors (half_extent b.plan.version b.plan.geometry (half_sector b.plan next.generation))
     inside = directories_inside b.plan next.generation next.entries header.entries
 
     kept_next : IsIntact disk.sectors disk.seen (with_header b next es)

@@ -91,14 +91,15 @@ module _ (since : Bool) {size : ℕ} {image : Image} {b : Books} {n : ℕ} (kept
 
 -- the sectors of the object's slot belong to no other frame
 saved_spares : (since : Bool) {size : ℕ} {image : Image} {b : Books} {e : Extent} → IsIntact size image b →
-    IsInside e (half_extent b.plan.geometry (half_sector b.plan (generation_of since b))) → Spares b.plan b.header b.directory e
+    IsInside e (half_extent b.plan.version b.plan.geometry (half_sector b.plan (generation_of since b))) →
+        Spares b.plan b.header b.directory e
 saved_spares true {b = b} kept inside = saved_working b.frozen_size kept kept.running inside
 saved_spares false {b = b} kept inside =
     spares_other b.header (frozen_generation b) kept.plan kept.directory kept.header.entries (other_parity b.header.generation) inside
 
 all_spared : (since : Bool) {size : ℕ} {image : Image} {b : Books} {n : ℕ} → IsIntact size image b → HasSlot since b n →
     n < length (places since b) → IsInside (place_extent b.plan (generation_of since b) (slot_for (places since b) n) n)
-    (half_extent b.plan.geometry (half_sector b.plan (generation_of since b))) →
+    (half_extent b.plan.version b.plan.geometry (half_sector b.plan (generation_of since b))) →
     SparesKept (with_places since b (set (places since b) n (Torn (slot_for (places since b) n))))
     (place_extent b.plan (generation_of since b) (slot_for (places since b) n) n)
 all_spared true {b = b} kept has lt inside =
@@ -129,7 +130,7 @@ module _ (since : Bool) {old new : Disk} {b : Books} {n : ℕ} (f : Frame) (kept
   abbrev torn : Books
   torn = with_places since b (set (places since b) n (Torn slot))
 
-  inside : IsInside (place_extent b.plan g slot n) (half_extent b.plan.geometry (half_sector b.plan g))
+  inside : IsInside (place_extent b.plan g slot n) (half_extent b.plan.version b.plan.geometry (half_sector b.plan g))
   inside = place_inside b.plan g n (slot_low since n kept has)
 
   spared : SparesKept torn (place_extent b.plan g slot n)

@@ -169,7 +169,7 @@ slots_spare p generation {ps} {n} table lt m s within is = elim (cases_eq m n) [
 
 -- frames in one half lie apart from sectors of the other
 pub half_spares : {p : Plan} (a b : ℕ) {ps : List Place} {e : Extent} → IsPlan p → (a % 2 ≡ b % 2 → ⊥) → IsTable ps →
-    taken_count ps ≤ p.geometry.log → IsInside e (half_extent p.geometry (half_sector p b)) → SparesPuts p a ps e
+    taken_count ps ≤ p.geometry.log → IsInside e (half_extent p.version p.geometry (half_sector p b)) → SparesPuts p a ps e
 half_spares {p} a b {e} fits differ table few inside n s lt is = let less = table.few n s (ap slot_of is) in other_half a b n fits differ
     (omega (arith, less, few)) inside
 
@@ -179,7 +179,7 @@ none_spares p generation ps e none n s lt is = let never : Nowhere ≡ Whole s =
 
 -- the saved frames lie apart from the half of the working frames
 pub saved_working : {size : ℕ} {image : Image} {b : Books} (o : Option ℕ) {e : Extent} → IsIntact size image b → IsRunning b o →
-    IsInside e (half_extent b.plan.geometry (half_sector b.plan (generation_after b.header.generation o))) →
+    IsInside e (half_extent b.plan.version b.plan.geometry (half_sector b.plan (generation_after b.header.generation o))) →
     Spares b.plan b.header b.directory e
 saved_working {b} None {e} kept running inside =
     spares_other b.header (b.header.generation + 1) kept.plan kept.directory kept.header.entries (other_parity b.header.generation) inside
@@ -188,7 +188,7 @@ saved_working {b} (Some k) {e} kept running inside = spares_log b.header b.direc
 
 -- so do the frozen frames
 pub frozen_working : {size : ℕ} {image : Image} {b : Books} (o : Option ℕ) {e : Extent} → IsIntact size image b → IsRunning b o →
-    IsInside e (half_extent b.plan.geometry (half_sector b.plan (generation_after b.header.generation o))) →
+    IsInside e (half_extent b.plan.version b.plan.geometry (half_sector b.plan (generation_after b.header.generation o))) →
     SparesPuts b.plan (frozen_generation b) b.frozen e
 frozen_working {b} None {e} kept running inside = none_spares b.plan (frozen_generation b) b.frozen e running
 frozen_working {b} (Some k) {e} kept running inside =
@@ -197,7 +197,7 @@ frozen_working {b} (Some k) {e} kept running inside =
 
 -- the homes of objects lie apart from both halves
 pub homes_spare : {size : ℕ} {image : Image} {b : Books} (generation : ℕ) {e : Extent} → IsIntact size image b →
-    IsInside e (half_extent b.plan.geometry (half_sector b.plan generation)) → (i : ℕ) → i < b.moved
+    IsInside e (half_extent b.plan.version b.plan.geometry (half_sector b.plan generation)) → (i : ℕ) → i < b.moved
     → IsApart (home_extent b.plan (entry_at b.directory i).object) e
 homes_spare {b} generation {e} kept inside i lt =
     home_apart generation kept.plan (kept.directory.each i (record { object = 0; slot = 0 })

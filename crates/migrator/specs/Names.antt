@@ -16,12 +16,13 @@ unfoldable pub use Rattle.layout.specs.FrameReader.{frame_from}
 pub use Rattle.layout.specs.Frames.{IsObject}
 pub use Rattle.layout.specs.Header.{IsHeader}
 pub use Rattle.layout.specs.Homes.{home_place, place_length, shape_of}
-pub use Rattle.layout.specs.Image.{Encodes, HasDirectory, HasHeader, IsBadBy, SavedState, bytes_at, directory_length}
+pub use Rattle.layout.specs.Image.{Encodes, HasDirectory, HasHeader, IsBadBy, SavedState, bytes_at}
 pub use Rattle.layout.specs.Image.{directory_sector, frame_in, frame_sector, half_sector, slot_beside}
 pub use Rattle.layout.specs.Image.{slot_in, slot_sector}
 pub use Rattle.layout.specs.Shape.{IsShapeFor, shape_bytes}
 pub use Rattle.layout.specs.Spelt.{AreSpelt, count_of, state_in}
 unfoldable pub use Rattle.layout.specs.Spelt.{frames_read}
+unfoldable pub use Rattle.layout.specs.Version.{directory_length}
 pub use Rattle.layout.specs.Superblock.{IsApart, IsPlan, Plan}
 pub use Rattle.layout.specs.declared.bad_image.BadImage.{BadImage}
 pub use Rattle.layout.specs.declared.bad_image.BadImage.TheVariants.{BadFrame}

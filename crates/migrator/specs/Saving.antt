@@ -15,7 +15,7 @@ use Rattle.migrator.specs.Spared.{Spares, SparesFrames}
 -- a directory was written, or torn, and then the slot of a header; nothing else is touched
 pub record SavesOnly (p : Plan) (next : CheckpointHeader) (old new : Image) : Type 0 where
   pub between : Image
-  pub directory : Elsewhere (directory_sector p next.generation) (directory_length next.entries) old between
+  pub directory : Elsewhere (directory_sector p next.generation) (directory_length p.version next.entries) old between
   pub header : Elsewhere (header_sector next) 2 between new
 
 -- the frames that were written into this half lie outside the extent e

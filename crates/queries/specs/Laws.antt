@@ -2,6 +2,7 @@
 use Rattle.queries.specs.Names.{ℕ, List, Some, Members, parse_document, Frame, Geometry, IsSoundFrames, world_at, Saved}
 use Rattle.queries.specs.Names.{World, Image, Version, Plan, version_number, Holds, SavedFrames, MayBeLaid, Denotes}
 use Rattle.queries.specs.Names.{Description, IsDescription, IsAccepted, plan_for, IsSavedOf, Describes, IsGrown}
+use Rattle.queries.specs.Names.{IsOpened}
 use Rattle.std.specs.Prelude.{◌≡◌, ◌≤◌}
 use Rattle.queries.specs.Images.{IsTextIn, IsTextOf}
 
@@ -17,12 +18,12 @@ DescribedIsDenoted = (p : Plan) (age : ℕ) (frames : List Frame) (text : List �
     IsTextOf p age frames text → parse_document text ≡ Some table → IsDescription table d → IsSavedOf d saved →
     Holds size c saved → Denotes p.geometry size c (anew age frames)
 
--- The description of a world is accepted: with a version and home ranges that an image may have it is built on a device
--- with enough sectors.
+-- The description of a world is accepted: with a version that programs open, and home ranges that an image may have,
+-- it is built on a device with enough sectors.
 abbrev pub DescribedIsAccepted : Type 0
 DescribedIsAccepted = (g : Geometry) (age : ℕ) (fs : List Frame) (d : Description) (v : Version) (sectors : ℕ) →
     IsSoundFrames g age fs → Describes g (world_at age fs) d →
-    d.layout ≡ version_number v → MayBeLaid d.geometry d.ranges.items → (plan_for d).total ≤ sectors →
+    d.layout ≡ version_number v → IsOpened v → MayBeLaid d.geometry d.ranges.items → (plan_for d).total ≤ sectors →
     IsAccepted d sectors
 
 -- Take a text that describes an image for other sizes. An image that holds what `build` makes of the text denotes the

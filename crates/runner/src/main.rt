@@ -19,7 +19,6 @@ use devices::{FileDevice, FileFault, Fuse};
 use image_builder::NewLayout;
 use jobs::{Done, Fault, check_image, finish, run_and_save, run_image, run_shell, run_traced};
 use json_lines::Format;
-use layout::Version;
 use names::{NamedLines, NamedOutput};
 use object_cache::{Capacity, KeepAll, KeepRecent, PlainStore, Policy, Store};
 use queries::explain_description;
@@ -480,7 +479,7 @@ fn serve(
         Job::Check { image, json } => return check(rt, image, format_of(*json), stdio),
         Job::Explain { file, json: false } => return explain(rt, file, stdio),
         Job::Explain { file, json: true } => return explain_in_json(rt, file, stdio),
-        Job::Upgrade { old, new } => (*old, writing(old, new, NewLayout::Of(Version::NEWEST))),
+        Job::Upgrade { old, new } => (*old, writing(old, new, NewLayout::Newest)),
         Job::Copy { image, new } => (*image, writing(image, new, NewLayout::Kept)),
         Job::Describe { image, sizes } => (*image, Query::Describe(sizes_of(sizes))),
         Job::Draw {

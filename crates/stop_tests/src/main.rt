@@ -11,7 +11,6 @@ mod upgrades;
 
 use devices::Outcome;
 use image_builder::NewLayout;
-use layout::Version;
 use object_cache::Capacity;
 use std::fs;
 use std::io::Write;
@@ -23,7 +22,7 @@ const USAGE: &str =
 // Returns the layout that `upgrade` or `copy` writes, or `None` for another word.
 fn layout_of(word: &str) -> Option<NewLayout> {
     match word {
-        "upgrade" => Some(NewLayout::Of(Version::NEWEST)),
+        "upgrade" => Some(NewLayout::Newest),
         "copy" => Some(NewLayout::Kept),
         _ => None,
     }

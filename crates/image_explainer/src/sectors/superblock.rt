@@ -1,10 +1,8 @@
 // Finding why sector 0 isn't a superblock.
 ghost use Rattle.std.specs.Prelude.{◌≡◌, ◌↔◌, drop, length, take, IsTrue};
 ghost use Rattle.std.specs.ControlFlow.{MatchControlFlow};
-ghost use Rattle.layout.specs.declared.version.Version.{Version};
-ghost use Rattle.layout.specs.Bytes.{half_number};
-ghost use Rattle.layout.specs.Superblock.{HasMark, IsPlan, Plan, superblock_bytes, version_number};
-ghost use Rattle.image_explainer.specs.SectorBreaking.{BreaksGeometry, BreaksMark};
+ghost use Rattle.layout.specs.Superblock.{HasMark, IsPlan, Plan, superblock_bytes};
+ghost use Rattle.image_explainer.specs.SectorBreaking.{BreaksGeometry, BreaksMark, HasVersion};
 ghost use Rattle.image_explainer.specs.SectorFinding.{BreaksSector};
 
 use crate::sectors::fault::{GeometryPart, SectorFault, SuperblockPart};
@@ -15,11 +13,11 @@ use layout::{
 };
 use std::ops::ControlFlow;
 
-// Whether the sector of a superblock has version 1 or 2.
+// Whether a superblock's sector has a version that programs open.
 #[tactic(auto, unfolding(layout::specs::Bytes::half_number))]
 fn has_version(bytes: &[u8]) -> bool
     requires { length bytes.now ≡ 512 }
-    ensures { IsTrue result ↔ ((v : Version) × (take 4 (drop 8 bytes.now) ≡ half_number (version_number v))) }
+    ensures { IsTrue result ↔ HasVersion bytes.now }
 {
     let version = &bytes[8..12];
     version == [1, 0, 0, 0].as_slice() || version == [2, 0, 0, 0].as_slice()

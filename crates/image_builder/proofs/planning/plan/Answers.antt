@@ -1,5 +1,4 @@
-use Rattle.image_builder.proofs.Names.{refl}
-use Rattle.description.proofs.BrokenLimits.{limit_refuted}
+use Rattle.image_builder.proofs.Names.{refl, limit_refuted}
 use Rattle.image_builder.proofs.planning.plan.Goals as goal
 
 pub returns-in-Some-clause-refused : goal.returns-in-Some-clause-refused

@@ -1,6 +1,6 @@
-use Rattle.image_writer.proofs.Names.{nat_tests, ℕ, List, Frame, arith, rules, frame_at, frame_bytes, frames_in, shape_bytes, shape_of}
+use Rattle.image_writer.proofs.Names.{nat_tests, ℕ, List, Frame, arith, rules, frame_at, frame_bytes, frames_in, shape_bytes, shape_of, all_ended, all_in, ap}
+use Rattle.image_writer.proofs.Names.{ended_more, front_shape, none_ended, one_frame_more, sym}
 use Rattle.std.proofs.Common.{◌≡◌, ◌∙◌, ◌+◌, ◌≤◌}
-use Rattle.image_writer.proofs.Names.{all_ended, all_in, ap, ended_more, front_shape, none_ended, one_frame_more, sym}
 use Rattle.image_writer.proofs.HomeFrames.{frame_there}
 use Rattle.image_writer.proofs.blocks.fill_block.Goals as goal
 

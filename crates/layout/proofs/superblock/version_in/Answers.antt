@@ -23,7 +23,7 @@ returns-clause-mark c =
     marked c.args.bytes.now c.number_at-magic.result c.number_at-second.result c.number_at-magic.ensures c.number_at-second.ensures
     (omega arith)
     c.with_number.result c.if-magic-ne-SUPERBLOCK_MAGIC.false blank
-    c.with_number.ensures.some
+    c.with_number.ensures.some c.with_number.ensures.opened
 
 pub returns-clause-version : goal.returns-clause-version
 returns-clause-version c =

@@ -1,5 +1,4 @@
-use Rattle.std.proofs.Common.{refl}
-use Rattle.std.proofs.lemmas.Result.{on_ok_weaker}
+use Rattle.home_ranges.proofs.Names.{refl, on_ok_weaker}
 use Rattle.home_ranges.proofs.Places.{home_held}
 use Rattle.home_ranges.proofs.home.Home.write_frame.Goals as goal
 
