@@ -1,6 +1,6 @@
 -- The names of other crates that the definitions here cite.
 pub use Rattle.model.specs.Capability.{full}
-pub use Rattle.model.specs.Closed.{IsClosed, StaysInside}
+pub use Rattle.model.specs.Closed.{IsClosed, IsClosedBy, StaysInside}
 pub use Rattle.model.specs.Invoke.{Effect}
 unfoldable pub use Rattle.model.specs.Invoke.{invoke}
 pub use Rattle.model.specs.Machine.{Running, Up}

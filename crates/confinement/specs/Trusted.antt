@@ -1,8 +1,8 @@
 -- Sets of numbers closed except for messages to trusted processes, and what the members of such a set can change.
 use Rattle.confinement.specs.Names.{ℕ, Bool, true, false, not, List, [], IsTrue, Capability, Start, Invocation}
-use Rattle.confinement.specs.Names.{Geometry, Object, StaysInside, Effect, invoke, Up, is_bank, is_free, IsRun, Turn}
+use Rattle.confinement.specs.Names.{Geometry, Object, IsClosedBy, StaysInside, Effect, invoke, Up, is_free, IsRun, Turn}
 use Rattle.confinement.specs.Names.{IsSound, Fits, World, annex_at, content_at, is_process, is_running_process}
-use Rattle.confinement.specs.Names.{object_at, owner_at, root_at, slot_at, AreBy, IsKept, with_free, Some, Running}
+use Rattle.confinement.specs.Names.{object_at, AreBy, IsKept, with_free, Some, Running}
 use Rattle.std.specs.Prelude.{◌≡◌, ◌⊎◌, ◌&&◌, ◌||◌, ◌∷◌}
 use Rattle.model.specs.declared.command.Command.TheVariants as command
 
@@ -14,14 +14,6 @@ StartsOne trusted _ = ⊥
 -- a capability stays inside a set, or starts a trusted process
 abbrev pub StaysBut : (ℕ → Bool) → (ℕ → Bool) → Capability → Type 0
 StaysBut trusted inside c = StaysInside inside c ⊎ StartsOne trusted c
-
--- a set that contains its members' annexes and what its banks own, and whose members hold only some capabilities
-pub record IsClosedBy (MayHold : Capability → Type 0) (os : List Object) (inside : ℕ → Bool) : Type 0 where
-  pub annexes : (p : ℕ) → IsTrue (inside p) → IsTrue (is_process os p) → IsTrue (inside (annex_at os p))
-  pub owned : (b n : ℕ) → IsTrue (inside b) → IsTrue (is_bank (content_at os b)) →
-      is_free (content_at os n) ≡ false → owner_at os n ≡ b → IsTrue (inside n)
-  pub slots : (n i : ℕ) → IsTrue (inside n) → MayHold (slot_at os n i)
-  pub spaces : (p : ℕ) → IsTrue (inside p) → MayHold (root_at os p).space
 
 -- a closed set, but that its members may start trusted processes
 abbrev pub IsClosedBut : (ℕ → Bool) → List Object → (ℕ → Bool) → Type 0

@@ -21,8 +21,6 @@ union a bits = record { 0 = bit_or a.0 bits }
 
 -- the object that a capability names (an object with a right is a capability: EROS)
 abbrev pub named : Capability → Option ℕ
-named Void = None
-named (Number n) = None
 named (Page o a) = Some o
 named (Node o a) = Some o
 named (Space o h a) = Some o
@@ -30,7 +28,7 @@ named (Process p) = Some p
 named (Start p key) = Some p
 named (Resume p) = Some p
 named (Bank b) = Some b
-named Discrim = None
+named _ = None
 
 -- a capability's access, or 0 if it has none
 abbrev pub access_bits : Capability → ℕ
@@ -49,16 +47,10 @@ diminished _ = Void
 
 -- a capability that names no object, or is read-only and weak
 abbrev pub IsWeak : Capability → Type 0
-IsWeak Void = Unit {0}
-IsWeak (Number n) = Unit {0}
 IsWeak (Page o a) = a.0 ≡ 3
 IsWeak (Node o a) = a.0 ≡ 3
 IsWeak (Space o h a) = a.0 ≡ 3
-IsWeak (Process p) = ⊥
-IsWeak (Start p key) = ⊥
-IsWeak (Resume p) = ⊥
-IsWeak (Bank b) = ⊥
-IsWeak Discrim = Unit {0}
+IsWeak c = elim (named c) [ None ↦ Unit {0} | Some n ↦ ⊥ ]
 
 -- the number of a capability's kind, as `discrim` replies it
 abbrev pub tag_of : Capability → ℕ

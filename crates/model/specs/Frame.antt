@@ -1,9 +1,8 @@
 -- Frames: objects with their headers, which have counts.
-use Rattle.std.specs.Prelude.{ℕ, ◌+◌, nat_lt, if◌then◌else◌, List, [], ◌∷◌, map, slice_index_or}
+use Rattle.std.specs.Prelude.{ℕ, ◌+◌, nat_lt, if◌then◌else◌, List, [], ◌∷◌, map, slice_index_or, None, Some}
 use Rattle.model.specs.declared.capability.Cap.{Cap}
 use Rattle.model.specs.declared.capability.Capability.{Capability}
-use Rattle.model.specs.declared.capability.Capability.TheVariants.{Void, Page, Node, Space, Process, Start, Resume}
-use Rattle.model.specs.declared.capability.Capability.TheVariants.{Bank}
+use Rattle.model.specs.declared.capability.Capability.TheVariants.{Void, Resume}
 use Rattle.model.specs.declared.frame.Frame.{Frame}
 use Rattle.model.specs.declared.frame.ObjectHeader.{ObjectHeader}
 use Rattle.model.specs.declared.object.Content.{Content}
@@ -13,6 +12,7 @@ use Rattle.model.specs.declared.object.ContentRef.TheVariants as content_ref
 use Rattle.model.specs.declared.object.Object.{Object}
 use Rattle.model.specs.declared.object.Role.{Role}
 use Rattle.model.specs.declared.object.Role.TheVariants as role
+use Rattle.model.specs.Capability.{named}
 use Rattle.model.specs.Object.{map_content}
 
 -- the header of a number that was never used, and its frame
@@ -47,14 +47,8 @@ void_held = record { what = Void; count = 0 }
 
 -- the object's count that a capability's is compared with: calls for a resume capability, else allocations
 abbrev pub current_count : List ObjectHeader → Capability → ℕ
-current_count hs (Page o a) = (header_at hs o).allocations
-current_count hs (Node o a) = (header_at hs o).allocations
-current_count hs (Space o h a) = (header_at hs o).allocations
-current_count hs (Process p) = (header_at hs p).allocations
-current_count hs (Start p key) = (header_at hs p).allocations
 current_count hs (Resume p) = (header_at hs p).calls
-current_count hs (Bank b) = (header_at hs b).allocations
-current_count hs _ = 0
+current_count hs c = elim (named c) [ None ↦ 0 | Some n ↦ (header_at hs n).allocations ]
 
 -- the capability that a held one conveys: void if its object's count has risen since (EROS: a stale capability)
 abbrev pub conveyed : List ObjectHeader → Cap → Capability

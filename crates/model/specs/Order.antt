@@ -3,7 +3,7 @@ use Rattle.std.specs.Prelude.{List, slice_index, slice_set}
 use Rattle.model.specs.declared.access.Access.{Access}
 use Rattle.model.specs.declared.capability.Capability.{Capability}
 use Rattle.model.specs.declared.capability.Capability.TheVariants.{Void, Number, Page, Node, Space, Process, Start}
-use Rattle.model.specs.declared.capability.Capability.TheVariants.{Resume, Bank, Discrim}
+use Rattle.model.specs.declared.capability.Capability.TheVariants.{Bank, Discrim}
 use Rattle.model.specs.declared.geometry.Geometry.{Geometry}
 use Rattle.model.specs.declared.object.Object.{Object}
 use Rattle.model.specs.declared.object.Root.{Root}
@@ -143,9 +143,8 @@ order g os (Space o h a) w args =
     else refused os code.NoOrder
 order g os (Process p) w args = elim (process_order w)
     [ None ↦ refused os code.NoOrder | Some requested ↦ on_process os p requested args ]
-order g os (Start p key) w args = refused os code.NoOrder
-order g os (Resume p) w args = refused os code.NoOrder
 order g os (Bank b) w args = elim (bank_order w)
     [ None ↦ refused os code.NoOrder | Some requested ↦ on_bank g os b requested args ]
 order g os Discrim w args = if w == 1 then replying os (tag_of args.capability) (access_bits args.capability) else
     refused os code.NoOrder
+order g os _ w args = refused os code.NoOrder

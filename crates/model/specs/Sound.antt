@@ -1,8 +1,8 @@
 use Rattle.model.specs.Names.{ℕ, true, List, length, slice_index, IsTrue, Contains}
 use Rattle.std.specs.Prelude.{◌≡◌, ◌≢◌, ◌+◌, ◌^◌, ◌<◌, ◌≤◌}
 use Rattle.model.specs.declared.capability.Capability.{Capability}
-use Rattle.model.specs.declared.capability.Capability.TheVariants.{Void, Number, Page, Node, Space, Process, Start}
-use Rattle.model.specs.declared.capability.Capability.TheVariants.{Resume, Bank, Discrim}
+use Rattle.model.specs.declared.capability.Capability.TheVariants.{Void, Page, Node, Space, Process, Start}
+use Rattle.model.specs.declared.capability.Capability.TheVariants.{Resume, Bank}
 use Rattle.model.specs.declared.geometry.Geometry.{Geometry}
 use Rattle.model.specs.declared.object.Content.{Content}
 use Rattle.model.specs.declared.object.Content.TheVariants as content
@@ -20,10 +20,7 @@ object_count g = g.nodes + g.pages
 abbrev pub IsOfKind : {C : Type 0} → Geometry → ℕ → Content C → Type 0
 IsOfKind g n content.Free = Unit {0}
 IsOfKind g n (content.Page words) = (g.nodes ≤ n) × (n < object_count g)
-IsOfKind g n (content.Node slots) = n < g.nodes
-IsOfKind g n (content.Root root) = n < g.nodes
-IsOfKind g n (content.Annex registers) = n < g.nodes
-IsOfKind g n (content.Bank limit) = n < g.nodes
+IsOfKind g n _ = n < g.nodes
 
 -- a page has 512 words, a node and an annex 32 slots, a root 4 words of 64 bits and a key of 16, a bank a limit of 64
 abbrev pub HasShape : Content Capability → Type 0
@@ -44,8 +41,6 @@ IsSpace _ = ⊥
 
 -- the object that a capability names is of its kind; the process that a resume capability names is waiting
 abbrev pub NamesItsKind : List Object → Capability → Type 0
-NamesItsKind os Void = Unit {0}
-NamesItsKind os (Number n) = Unit {0}
 NamesItsKind os (Page o a) = IsTrue (is_page (content_at os o))
 NamesItsKind os (Node o a) = IsTrue (is_node (content_at os o))
 NamesItsKind os (Space o h a) = IsTrue (is_node (content_at os o))
@@ -53,7 +48,7 @@ NamesItsKind os (Process p) = IsTrue (is_process os p)
 NamesItsKind os (Start p key) = IsTrue (is_process os p)
 NamesItsKind os (Resume p) = IsTrue (is_process os p) × IsTrue (is_waiting (root_at os p).state)
 NamesItsKind os (Bank b) = IsTrue (is_bank (content_at os b))
-NamesItsKind os Discrim = Unit {0}
+NamesItsKind os _ = Unit {0}
 
 -- a capability that may be held
 abbrev pub MayBeHeld : List Object → Capability → Type 0

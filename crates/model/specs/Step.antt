@@ -188,8 +188,7 @@ carried_out g s (command.Migrate n) = outcome (answer.Left (s.to_move - n))
 carried_out g s (command.Journal n) =
     let now : World = record { objects = s.now.objects; age = s.now.age + 1 } in
     outcome (answer.Journaled (s.saved.generation + 2)) (record s { now = now; saved = journaled s n; to_move = 1 })
-carried_out g s command.Restart = outcome (answer.At s.saved.generation s.saved.world.age) (opened g s.saved)
-carried_out g s command.Cut = outcome (answer.At s.saved.generation s.saved.world.age) (opened g s.saved)
+carried_out g s _ = outcome (answer.At s.saved.generation s.saved.world.age) (opened g s.saved)
 
 -- the command's own answer: the first refusal that applies, else the outcome of the command
 abbrev pub Answers : Geometry → Running → Command → Answer → Machine → Type 0

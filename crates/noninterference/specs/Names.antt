@@ -1,6 +1,7 @@
 -- The names of other crates that the definitions here cite.
-pub use Rattle.confinement.specs.Trusted.{IsClosedBy, StartsOne}
+pub use Rattle.confinement.specs.Trusted.{StartsOne}
 pub use Rattle.model.specs.Capability.{named, weak}
+pub use Rattle.model.specs.Closed.{IsClosedBy}
 pub use Rattle.model.specs.Invoke.{Effect}
 unfoldable pub use Rattle.model.specs.Invoke.{invoke}
 pub use Rattle.model.specs.Machine.{Running, Up}

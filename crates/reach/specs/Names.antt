@@ -1,11 +1,12 @@
 -- The names of other crates that the definitions here cite.
 pub use Rattle.collections.specs.Marks.{is_marked}
-pub use Rattle.confinement.specs.Trusted.{IsClosedBut, IsClosedBy, IsConfinedBut, StartsOne, StaysBut}
+pub use Rattle.confinement.specs.Trusted.{IsClosedBut, IsConfinedBut, StartsOne, StaysBut}
 pub use Rattle.json_lines.specs.Objects.{key_text, number_line, text_object}
 pub use Rattle.json_lines.specs.declared.format.Format.{Format}
 pub use Rattle.json_lines.specs.declared.key.Key.{Key}
 pub use Rattle.json_lines.specs.declared.object.Member.{Member}
 pub use Rattle.model.specs.Capability.{IsWeak, named}
+pub use Rattle.model.specs.Closed.{IsClosedBy}
 pub use Rattle.model.specs.Machine.{Running, Up}
 pub use Rattle.model.specs.Object.{is_bank, is_free, is_root, root_in, slots_in}
 pub use Rattle.model.specs.Run.{IsRun, Turn}

@@ -15,7 +15,7 @@ all_of : (text : List ℕ) (lines : List (List ℕ)) → lines_of text ≡ lines
 all_of text lines is = ([], is ∙ sym (append-nil lines))
 
 begun_by : (text : List ℕ) (lines : List (List ℕ)) → BeginsWith text lines → AreOf text lines
-begun_by text lines begins = (lines_of begins.more, ap lines_of begins.whole ∙ lines_before lines begins.more begins.each)
+begun_by text lines begins = (lines_of begins.0, ap lines_of begins.1 ∙ lines_before lines begins.0 begins.2)
 
 with_rest : (text : List ℕ) (lines : List (List ℕ)) (rest : List ℕ) → AreLines text lines rest → AreOf text lines
 with_rest text lines rest are = (lines_of rest, ap lines_of are.whole ∙ lines_before lines rest are.each)

@@ -48,7 +48,7 @@ pub use Rattle.std.specs.Io.KnownBytes.{Appends, Consumes, IsAtEnd}
 pub use Rattle.std.specs.List.{All, Contains, flat_map}
 pub use Rattle.std.specs.Prelude.{IfNone, IfSome, IsTrue, Result, slice_index_or}
 pub use Rattle.runs.specs.KernelRuns.{AreAll, AreFirst, AreLines, AreLinesBy, AreSeen, AreTurnsOf, BeginsWith, Does, EndsBy, IsConfined, IsCutShort, IsLeftIn}
-pub use Rattle.runs.specs.KernelRuns.{IsReportedBy, IsRunOf, IsTurnOf, MaySaveIn, RunsOver, RunsSeen, lines_in, tells_fault}
+pub use Rattle.runs.specs.KernelRuns.{IsReportedBy, IsRunOf, IsTurnOf, MaySaveIn, RunsOver, RunsSeen, lines_in}
 pub use Rattle.runs.specs.Laws.{CrashesAreSurvived, CrashesInRunsAreSurvived, IsOpenedAt, IsSteady, IsSurvived, MaySave, RunsAreConfined, SteadyRunsAgree}
 pub use Rattle.runs.specs.OneLine.{RunsLine}
 pub use Rattle.runs.specs.Saving.{CarriesOut, IsStage}

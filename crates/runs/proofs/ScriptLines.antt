@@ -52,7 +52,8 @@ line_more text lines rest are = record {
 
 -- a text that begins with these lines
 pub begins_with : (text : List ℕ) (lines : List (List ℕ)) (more : List ℕ) → AreLines text lines [] → BeginsWith (text ++ more) lines
-begins_with text lines more are = search (arith, nat_tests, append-nil)
+begins_with text lines more are =
+    (more, ap (λ (l : List ℕ). l ++ more) (are.whole ∙ append-nil (flat_map line_of lines)), are.each)
 
 -- these are the first lines of a text, whatever follows
 lines_first : (text : List ℕ) (lines : List (List ℕ)) (more : List ℕ) → AreLines text lines [] →

@@ -5,10 +5,12 @@ use Rattle.runs.proofs.Names.{Answer, ReadsPiece, Writes, Written, Wrote, WroteF
 use Rattle.runs.proofs.Names.{candidates, Reply, Nothing, BadLine, Reported, Turn, Replies, lines_of, reply_text, output_of, second, Says, bad_line, Image}
 use Rattle.runs.proofs.Names.{Disk, LeavesOnly, leaves_weaker, started, Parts, View, Power, Denotes, DenotesOne, IsCaused, Serves, Stands, disk_of, RunFault}
 use Rattle.runs.proofs.Names.{LineBuffer, Holds, IsOneLine, AreFirst, AreLines, AreSeen, AreTurnsOf, BeginsWith, Does, IsCutShort, IsLeftIn, IsRunOf}
-use Rattle.runs.proofs.Names.{IsReportedBy, IsTurnOf, EndsBy, RunsOver, RunsSeen, lines_in, tells_fault, reported_code, Ended, IsWritten, SoFar, Stopped}
+use Rattle.runs.proofs.Names.{IsReportedBy, IsTurnOf, EndsBy, RunsOver, RunsSeen, lines_in, reported_code, Ended, IsWritten, SoFar, Stopped}
 use Rattle.runs.proofs.Names.{StopsBy, TakesLine, TakesTurn}
 use Rattle.std.proofs.Common.{◌≡◌, ◌≢◌, ◌⊎◌, ◌<◌, ◌∷◌, ◌++◌, ◌∙◌}
 use Rattle.std.specs.Prelude.{◌↔◌}
+use Rattle.model.specs.declared.answer.Answer.TheVariants as answer
+use Rattle.model.specs.declared.answer.Refusal.TheVariants as refusal
 use Rattle.model.specs.declared.line.Line.TheVariants as line
 use Rattle.script.specs.declared.fault.RunFault.TheVariants as fault
 use Rattle.runs.proofs.ScriptLines.{begins_with, bytes_more, line_more, line_taken, lines_whole, lines_with_rest, no_lines}
@@ -47,11 +49,20 @@ left_by g size t command says c one = ⊎_elim
 
 -- an answer reports a failure exactly if there was one
 pub answer_reported : (old new : Disk) (a : Answer) → IsCaused old new a → IsReportedBy old new (Reported a)
-answer_reported old new a caused = search (arith, nat_tests)
+answer_reported old new a caused = record {
+  never_falls = caused.later;
+  cause = (λ is. caused.exact.0 (same_answer a is), λ rose. ap (λ (b : Answer). Reported b) (caused.exact.1 rose));
+}
+  where
+    same_answer : (b : Answer) → Reported b ≡ Reported (answer.Refused refusal.Fault) → b ≡ answer.Refused refusal.Fault
+    same_answer b is = cc
 
 -- if no call is made, no failure is reported
-none_reported : (disk : Disk) (reply : Reply) → tells_fault reply ≡ false → IsReportedBy disk disk reply
-none_reported disk reply fine = search (arith, nat_tests)
+none_reported : (disk : Disk) (reply : Reply) → reply ≢ Reported (answer.Refused refusal.Fault) → IsReportedBy disk disk reply
+none_reported disk reply fine = record {
+  never_falls = omega arith;
+  cause = (λ is. absurd (fine is), λ rose. absurd (omega (arith, rose)));
+}
 
 -- ---- what an observer saw
 
@@ -89,7 +100,7 @@ module _ {D S O : Type 0} (disk : D → Disk) (view : S → View D) (parts : S �
   -- a line without a command
   no_command : (g : Geometry) (m : Machine) (text : List ℕ) (says : Line) (p : Power D S) (before seen : O) (written wrote : Written)
       (result : Result Bool RunFault) (reply : Reply) (on : Bool) →
-      Stands disk view parts g p m → Replies g says m reply m → tells_fault reply ≡ false →
+      Stands disk view parts g p m → Replies g says m reply m → reply ≢ Reported (answer.Refused refusal.Fault) →
       sees g (record { line = text; before = m; reply = reply; after = m }) before seen on →
       IsWritten written wrote result on (reply_text reply) → TakesTurn disk view parts sees g m text says p p before seen written wrote
       result
@@ -102,7 +113,7 @@ module _ {D S O : Type 0} (disk : D → Disk) (view : S → View D) (parts : S �
       written (Ok on)
   skipped g m text says p before seen on written is stands saw =
       no_command g m text says p before seen written written (Ok on) Nothing on stands
-      (subst (λ (l : Line). Replies g l m Nothing m) (sym is) (refl, refl)) refl
+      (subst (λ (l : Line). Replies g l m Nothing m) (sym is) (refl, refl)) (λ same. cc)
       (saw (record { line = text; before = m; reply = Nothing; after = m }) refl) (refl, wrote_none written)
 
   pub is_bad : (g : Geometry) (m : Machine) (text : List ℕ) (says : Line) (p : Power D S) (before seen : O) (on : Bool)
@@ -111,7 +122,7 @@ module _ {D S O : Type 0} (disk : D → Disk) (view : S → View D) (parts : S �
       IsWritten written wrote result on bad_line → TakesTurn disk view parts sees g m text says p p before seen written wrote result
   is_bad g m text says p before seen on written wrote result is stands saw writes =
       no_command g m text says p before seen written wrote result BadLine on stands
-      (subst (λ (l : Line). Replies g l m BadLine m) (sym is) (refl, refl)) refl
+      (subst (λ (l : Line). Replies g l m BadLine m) (sym is) (refl, refl)) (λ same. cc)
       (saw (record { line = text; before = m; reply = BadLine; after = m }) refl refl) writes
 
   pub answered : (g : Geometry) (m : Machine) (text : List ℕ) (says : Line) (c : Command) (a : Answer) (code : Option ResultCode)

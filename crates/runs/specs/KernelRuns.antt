@@ -10,11 +10,6 @@ use Rattle.model.specs.declared.answer.Refusal.TheVariants as refusal
 use Rattle.model.specs.declared.line.Line.TheVariants as line
 use Rattle.script.specs.declared.fault.RunFault.TheVariants as fault
 
--- whether a line was answered `fault`
-abbrev pub tells_fault : Reply → Bool
-tells_fault (Reported (answer.Refused refusal.Fault)) = true
-tells_fault _ = false
-
 -- what a crash in a turn may leave saved: a candidate of the machine before it, or what its command saves besides
 abbrev pub MaySaveIn : Turn → Saved → Type 0
 MaySaveIn t s = Contains (candidates t.before) s ⊎
@@ -35,10 +30,8 @@ pub record AreLines (text : List ℕ) (lines : List (List ℕ)) (rest : List ℕ
   pub none : IsOneLine rest
 
 -- a text begins with these lines, each with its newline
-pub record BeginsWith (text : List ℕ) (lines : List (List ℕ)) : Type 0 where
-  pub more : List ℕ
-  pub whole : text ≡ flat_map line_of lines ++ more
-  pub each : All IsOneLine lines
+abbrev pub BeginsWith : List ℕ → List (List ℕ) → Type 0
+BeginsWith text lines = (more : List ℕ) × (text ≡ flat_map line_of lines ++ more) × All IsOneLine lines
 
 -- these are the first lines of a text, or all lines of an input at its end
 abbrev pub AreFirst : List ℕ → Option (List ℕ) → List (List ℕ) → Type 0
@@ -82,15 +75,14 @@ Does turns input input_left output output_left (Err fault.Stopped) =
     (text : List ℕ) × Consumes input input_left text × AreFirst text input_left (lines_in turns) × Wrote output
     output_left (output_of turns)
 
--- the device failed exactly if the reply is `fault`
-pub record IsReportedBy (old new : Disk) (reply : Reply) : Type 0 where
-  pub later : old.failures ≤ new.failures
-  pub exact : (tells_fault reply ≡ true) ↔ (old.failures < new.failures)
-
 -- a count of failures rises exactly if `Failed` holds, and never falls
 pub record IsCounted (Failed : Type 0) (old new : ℕ) : Type 0 where
   pub never_falls : old ≤ new
   pub cause : Failed ↔ (old < new)
+
+-- the device failed exactly if the reply is a fault
+abbrev pub IsReportedBy : Disk → Disk → Reply → Type 0
+IsReportedBy old new reply = IsCounted (reply ≡ Reported (answer.Refused refusal.Fault)) old.failures new.failures
 
 -- An observer saw these turns, one after another, and let the run go on at each but the last. The flag says whether it
 -- let it go on there too.

@@ -36,7 +36,13 @@ left_by g size t command fits spelt c one = ⊎_elim
     (split_one g size c (candidates t.before) (second t.before command) one)
 
 answer_reported : (old new : Disk) (a : Answer) → IsCaused old new a → IsReportedBy old new (Reported a)
-answer_reported old new a caused = search (arith, nat_tests)
+answer_reported old new a caused = record {
+  never_falls = caused.later;
+  cause = (λ is. caused.exact.0 (same_answer a is), λ rose. ap (λ (b : Answer). Reported b) (caused.exact.1 rose));
+}
+  where
+    same_answer : (b : Answer) → Reported b ≡ Reported (answer.Refused refusal.Fault) → b ≡ answer.Refused refusal.Fault
+    same_answer b is = cc
 
 -- ---- one run after another
 
