@@ -37,6 +37,9 @@ pub trait ObjectStore<D: Device>: PresentFrames + Sized {
     /// The device beneath, the frozen and the saved state, and whether the store can be used.
     ghost view: { Self → View D };
 
+    /// Whether a store keeps to a setting, such as the capacity of a cache.
+    ghost is_set: { Self.Setting → Self → Type 0 };
+
     /// Opens a device, and writes nothing to it. The present objects are the saved ones. The store takes
     /// from `memory` what it can use.
     ///
@@ -49,6 +52,7 @@ pub trait ObjectStore<D: Device>: PresentFrames + Sized {
         memory: &mut Option<Self::Memory>,
     ) -> Result<Self, OpenRefused<D>>
         ensures opened { IfOk result (λ s. OpensStore D.disk device (Self.parts s) (view s)) }
+        ensures set { IfOk result (λ s. is_set setting s) }
         ensures refused { IfErr result (λ r. Refuses D.disk device r.device r.fault) };
 
     /// The device beneath, on which no call is made.
@@ -192,6 +196,10 @@ pub trait ObjectStore<D: Device>: PresentFrames + Sized {
     /// Where nothing was written since and no checkpoint is on its way, the device was only read.
     ghost continues_peeks: { (s t : Self) → Self.ContinuesTo s t → touched_count (Self.parts t).touched ≡ 0
         → (view s).snapshots.frozen ≡ None → Peeks (D.disk (view s).beneath) (D.disk (view t).beneath) };
+
+    /// A store that brings in present objects keeps to its setting.
+    ghost stays_set: { (setting : Self.Setting) (s t : Self) → Self.ContinuesTo s t → is_set setting s
+        → is_set setting t };
 
     /// The present objects can be used exactly if the store over its device can.
     ghost usable_is: { (s : Self) → Self.IsUsable s ↔ (view s).usable };

@@ -6,6 +6,7 @@ use Rattle.model.specs.declared.answer.Refusal.TheVariants as refusal
 use Rattle.model.specs.declared.command.Command.TheVariants as command
 use Rattle.layout.specs.declared.open_fault.OpenFault.TheVariants as fault
 use Rattle.kernel.specs.Power.{Power}
+use Rattle.kernel.specs.Power as power
 use Rattle.kernel.specs.Standing.{Stands, disk_of}
 
 -- the refusal if a kernel can't open its device again
@@ -21,6 +22,11 @@ IsSomeDown disk d = (g : Geometry) × (saved : List Saved) × Leaves g (disk d) 
 abbrev pub IsNoReason : OpenFault → Type 0
 IsNoReason (fault.Bad reason) = ⊥
 IsNoReason _ = Unit {0}
+
+-- a machine is up at a store that keeps to a setting
+abbrev pub IsSetAt : {D S T : Type 0} → (T → S → Type 0) → T → Power D S → Type 0
+IsSetAt is_set setting (power.Up l) = is_set setting l.store
+IsSetAt is_set setting _ = ⊥
 
 module _ {D S : Type 0} (disk : D → Disk) (view : S → View D) (parts : S → Parts) where
   -- a device was opened, and nothing was written: the machine is up at the saved state that its sectors denote, and a

@@ -12,7 +12,7 @@ ghost use Rattle.recovery.specs.Recovered.{RefusesToOpen};
 ghost use Rattle.kernel.specs.Power.{power_of};
 ghost use Rattle.kernel.specs.Standing.{HasCode, HasDevice, HasNoneToMove, IsCaused, IsDeviceOf, IsReported};
 ghost use Rattle.kernel.specs.Standing.{IsSameDisk, SameDevice, Serves, disk_of, done_with};
-ghost use Rattle.kernel.specs.Opening.{IsNoReason, IsSomeDown, Opens, Reopened, refused_by};
+ghost use Rattle.kernel.specs.Opening.{IsNoReason, IsSetAt, IsSomeDown, Opens, Reopened, refused_by};
 
 use crate::processes::Served;
 use crate::serving::{invoke, serve};
@@ -147,6 +147,7 @@ impl<D: Device, S: ObjectStore<D>> Kernel<D, S> {
     #[tactic(auto, using(crate::proofs::Machines::opens_up))]
     pub fn open(alloc: Global, device: D, setting: S::Setting) -> Result<Self, OpenRefused<D>>
         ensures opened { IfOk result (λ k. Opens D.disk S.view S.parts device k) }
+        ensures set { IfOk result (λ k. IsSetAt S.is_set setting k) }
         ensures refused { IfErr result (λ r. RefusesToOpen D.disk device r.device r.fault) }
     {
         match recover::<D, S>(alloc, device, setting) {

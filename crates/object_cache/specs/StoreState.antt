@@ -249,6 +249,10 @@ pub record AreTaken (s : TakenState) (fs : List Frame) : Type 0 where
   pub bodies : (e : EntriesState) → s.entries ≡ Some e → (n : ℕ) → n < length fs →
       entry_at e.at n ≡ Some (new_entry (frame_at fs n).content)
 
+-- a store has the capacity of a setting, for some number of objects
+abbrev pub HasCapacity : {D : Type 0} → (ℕ → ℕ) → StoreState D → Type 0
+HasCapacity most_for s = (count : ℕ) × (s.capacity ≡ most_for count)
+
 -- the present objects are the saved ones
 pub record IsOpenOver {D : Type 0} (disk : D → Disk) (d : DurableState D) (most : ℕ) (s : StoreState D) : Type 0 where
   pub durable : s.durable ≡ d

@@ -46,6 +46,7 @@ pub fn recover<D: Device, S: ObjectStore<D>>(
     setting: S::Setting,
 ) -> Result<Live<S>, OpenRefused<D>>
     ensures opened { IfOk result (λ l. Recovers D.disk S.view S.parts device l) }
+    ensures set { IfOk result (λ l. S.is_set setting l.store) }
     ensures refused { IfErr result (λ r. RefusesToOpen D.disk device r.device r.fault) }
 {
     recover_in(alloc, device, setting, &mut None)
@@ -59,6 +60,7 @@ pub fn recover_in<D: Device, S: ObjectStore<D>>(
     memory: &mut Option<S::Memory>,
 ) -> Result<Live<S>, OpenRefused<D>>
     ensures opened { IfOk result (λ l. Recovers D.disk S.view S.parts device l) }
+    ensures set { IfOk result (λ l. S.is_set setting l.store) }
     ensures refused { IfErr result (λ r. RefusesToOpen D.disk device r.device r.fault) }
 {
     match S::open(alloc, device, setting, memory) {

@@ -6,7 +6,7 @@ pub use Rattle.device.proofs.Moments.{leaves_weaker}
 pub use Rattle.device.specs.Calls.{Agrees, image_of, sectors_of}
 pub use Rattle.device.specs.Disk.{Disk, Image}
 pub use Rattle.devices.specs.Past.{Event, MayLeave, at_first, replay}
-pub use Rattle.kernel.specs.Opening.{Opens}
+pub use Rattle.kernel.specs.Opening.{IsSetAt, Opens}
 pub use Rattle.kernel.specs.Power.{Power}
 pub use Rattle.kernel.specs.Standing.{HasCode, IsCaused, IsDeviceOf, Serves, Stands, disk_of}
 pub use Rattle.kernel.specs.declared.processes.served.Served.{Served}
@@ -23,7 +23,7 @@ pub use Rattle.model.specs.declared.answer.Unjournaled.TheVariants.{NotPage, Ren
 pub use Rattle.model.specs.declared.command.Command.{Command}
 pub use Rattle.model.specs.declared.geometry.Geometry.{Geometry}
 pub use Rattle.model.specs.declared.order.ResultCode.{ResultCode}
-pub use Rattle.object_cache.specs.StoreState.{StoreState, parts_of, view_of}
+pub use Rattle.object_cache.specs.StoreState.{HasCapacity, StoreState, parts_of, view_of}
 pub use Rattle.recovery.specs.Denotes.{Denotes, DenotesOne}
 pub use Rattle.recovery.specs.Recovered.{RefusesToOpen}
 pub use Rattle.runs.specs.KernelRuns.{AreTurnsOf, IsConfined, IsCounted, IsLeftIn, IsReportedBy, IsRunOf, IsTurnOf, RunsOver}
@@ -50,8 +50,8 @@ pub use Rattle.vezhnake.specs.RawCommands.{command_of, save_stages}
 pub use Rattle.vezhnake.specs.RawObjects.{shown_object, shown_words}
 pub use Rattle.vezhnake.specs.RawReplies.{RepliesTellAnswers, ShowsNone, is_refused, reply_of}
 pub use Rattle.vezhnake.specs.Serving.{AreNumbered, EndsAt, ServesEach, ServesLine, numbers_of, refuses_at}
-pub use Rattle.vezhnake.specs.Sessions.{ClosesHandle, CollectsCalls, CopiesOut, IsCapacity, OnSession, OpensHandle, OpensKernel, OpensSession, RefusesFrom}
-pub use Rattle.vezhnake.specs.Sessions.{RunsKernel, RunsSession, StepsSession, calls_in}
+pub use Rattle.vezhnake.specs.Sessions.{ClosesHandle, CollectsCalls, CopiesOut, HasCache, IsCapacity, OnSession, OpensHandle, OpensKernel, OpensSession}
+pub use Rattle.vezhnake.specs.Sessions.{RefusesFrom, RunsKernel, RunsSession, StepsSession, calls_in}
 pub use Rattle.vezhnake.specs.Statuses.{kept_status, status_by, status_for}
 pub use Rattle.vezhnake.specs.Steps.{fresh, stepped}
 pub use Rattle.vezhnake.specs.TypedCalls.{SavesSession, ServesBatch, ServesEachOver, ServesFront, ServesLineOver, ShowsObject, ShowsPage, ShowsSession}

@@ -32,6 +32,7 @@ pub use Rattle.model.specs.declared.command.Operation.{Operation}
 pub use Rattle.model.specs.declared.command.Operation.TheVariants.{Call, Return, Send}
 pub use Rattle.model.specs.declared.geometry.Geometry.{Geometry}
 pub use Rattle.model.specs.declared.order.ResultCode.{ResultCode}
+pub use Rattle.object_cache.specs.StoreState.{StoreState}
 pub use Rattle.recovery.specs.Denotes.{Denotes}
 pub use Rattle.recovery.specs.Recovered.{IsBad, IsWhy}
 pub use Rattle.runs.specs.KernelRuns.{IsConfined, IsRunOf, RunsOver}

@@ -1,9 +1,10 @@
 -- What the calls of the library do to a session, and what they copy out.
 use Rattle.vezhnake.specs.Names.{ℕ, Bool, true, false, List, [], length, drop, Option, None, Some, Result, Ok, Err}
-use Rattle.vezhnake.specs.Names.{IsBad, IsWhy, Opens, RunFault}
+use Rattle.vezhnake.specs.Names.{IsBad, IsWhy, Opens, RunFault, StoreState, Power}
 use Rattle.std.specs.Prelude.{◌≡◌, ◌≢◌, ◌⊎◌, ◌<◌, ◌≤◌, ◌%◌, ◌++◌}
 use Rattle.layout.specs.declared.open_fault.OpenFault.TheVariants as fault
 use Rattle.object_cache.specs.StoreState as objects
+use Rattle.kernel.specs.Power as power
 use Rattle.script.specs.declared.fault.RunFault.TheVariants as run
 use Rattle.vezhnake.specs.declared.host_kernel.HostKernel.{HostKernel}
 use Rattle.vezhnake.specs.declared.host_kernel.HostKernel.TheVariants as store
@@ -27,9 +28,14 @@ abbrev pub IsCapacity : ℕ → Option ℕ → Type 0
 IsCapacity cache None = cache ≡ 0
 IsCapacity cache (Some capacity) = (capacity ≡ cache) × (8 ≤ capacity) × (capacity ≤ 8192)
 
+-- a kernel is up, and its cache has this capacity
+abbrev pub HasCache : ℕ → Power HostDevice (StoreState HostDevice) → Type 0
+HasCache cache (power.Up l) = l.store.capacity ≡ cache
+HasCache cache _ = ⊥
+
 abbrev pub IsStoreFor : ℕ → HostKernel → Type 0
 IsStoreFor cache (store.Plain k) = cache ≡ 0
-IsStoreFor cache (store.Bounded k) = (8 ≤ cache) × (cache ≤ 8192)
+IsStoreFor cache (store.Bounded k) = HasCache cache k × (8 ≤ cache) × (cache ≤ 8192)
 
 -- why no kernel was opened on a device
 abbrev pub RefusesFrom : HostDevice → Status → Type 0

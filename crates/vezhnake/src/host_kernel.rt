@@ -1,7 +1,7 @@
 // A kernel over the host's storage.
 ghost use Rattle.std.specs.Prelude.{◌≡◌, ◌≢◌, ◌⊎◌, ◌<◌, ◌≤◌, ◌%◌, true, false, drop, length, IfErr, IfOk, IfNone};
 ghost use Rattle.std.specs.Prelude.{IfSome, IsErr, Err, map, take};
-ghost use Rattle.kernel.specs.Opening.{Opens};
+ghost use Rattle.kernel.specs.Opening.{IsSetAt, Opens};
 ghost use Rattle.vezhnake.specs.Hosting.{IsFresh, RunsText, host_disk};
 ghost use Rattle.vezhnake.specs.Sessions.{IsCapacity, OpensKernel, RefusesFrom, RunsKernel, calls_in, kept_from};
 ghost use Rattle.vezhnake.specs.HostCalls.{encoded};
@@ -59,6 +59,7 @@ fn open_kernel<S: ObjectStore<HostDevice>>(
     setting: S::Setting,
 ) -> Result<Kernel<HostDevice, S>, Status>
     ensures opened { IfOk result (λ kernel. Opens host_disk S.view S.parts device kernel) }
+    ensures set { IfOk result (λ kernel. IsSetAt S.is_set setting kernel) }
     ensures refused { IfErr result (λ status. RefusesFrom device status) }
 {
     match Kernel::<HostDevice, S>::open(alloc, device, setting) {

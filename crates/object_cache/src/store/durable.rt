@@ -6,7 +6,7 @@ ghost use Rattle.device.specs.Calls.{Counts};
 ghost use Rattle.model.specs.Frame.{header_at};
 ghost use Rattle.checkpoint.specs.Store.{OpensStore};
 ghost use Rattle.object_cache.specs.Memory.{mark_at};
-ghost use Rattle.object_cache.specs.StoreState.{ContinuesIn, IsUsableIn, on_device, parts_of, cached_at, view_of};
+ghost use Rattle.object_cache.specs.StoreState.{ContinuesIn, HasCapacity, IsUsableIn, on_device, parts_of, cached_at, view_of};
 ghost use Rattle.object_cache.specs.StoreState.{without_cached};
 
 use crate::headers::FrozenHeaders;
@@ -53,6 +53,8 @@ impl<D: Device, P: Policy> ObjectStore<D> for Store<D, P> {
 
     ghost view = { view_of D.disk };
 
+    ghost is_set = { λ setting s. HasCapacity (P.most_for setting) s };
+
     /// Opens a device, and takes all memory that the store will ever need. If the policy keeps every body, reads all
     /// of them now; else no body is in memory at first. Errors: see `ObjectStore::open`.
     fn open(
@@ -62,6 +64,7 @@ impl<D: Device, P: Policy> ObjectStore<D> for Store<D, P> {
         memory: &mut Option<Entries>,
     ) -> Result<Self, OpenRefused<D>>
         ensures opened { IfOk result (λ s. OpensStore D.disk device (parts_of D.disk s) (view_of D.disk s)) }
+        ensures set { IfOk result (λ s. HasCapacity (P.most_for setting) s) }
         ensures bound { IfOk result (λ s. s.capacity ≡ P.most_for setting (length s.headers)) }
         ensures refused { IfErr result (λ r. Refuses D.disk device r.device r.fault) }
     {
@@ -185,12 +188,14 @@ impl<D: Device, P: Policy> ObjectStore<D> for Store<D, P> {
         )
     }
 
-    ghost use Rattle.std.proofs.Common.{refl};
+    ghost use Rattle.std.proofs.Common.{◌∙◌, refl};
     ghost use Rattle.object_cache.specs.Laws.{continues_by, holds_by};
 
     ghost continues = { λ s t h. continues_by D.disk s t h.goes_on };
 
     ghost continues_peeks = { λ s t h none idle. h.goes_on.only_reads none idle };
+
+    ghost stays_set = { λ setting s t h set. (set.0, h.goes_on.capacity ∙ set.1) };
 
     ghost usable_is = { λ s. (λ usable. usable, λ usable. usable) };
 

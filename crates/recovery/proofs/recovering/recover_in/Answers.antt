@@ -18,6 +18,11 @@ returns-in-Ok-examine-clause-opened g c =
     (found_still (parts s) (parts t) (disk (view s).beneath) (disk (view t).beneath) (laws.failures_are s) (laws.failures_are t) said.same)
     said.sound said.counted
 
+pub returns-in-Ok-examine-clause-set : goal.returns-in-Ok-examine-clause-set
+returns-in-Ok-examine-clause-set g c =
+    g.met.S.ObjectStore.stays_set c.args.setting c.in-Ok.store c.examine.new.store c.in-Ok-examine.ensures.snapshots.continues
+    c.in-Ok.ensures.set
+
 pub returns-in-Err-examine-clause-refused : goal.returns-in-Err-examine-clause-refused
 returns-in-Err-examine-clause-refused g c =
     let disk = g.D.Device.disk in
