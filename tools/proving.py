@@ -131,14 +131,20 @@ class Proving:
         return self.folder / "libraries"
 
 
-def prove(folder, crates, progress, edited=()):
-    """Proves these crates, lowest first, in a folder, tries the edits of some, and returns a folder with their libraries. If this `rt ci`
-    keeps nothing, one run proves them all."""
+def prove_side_by_side(folder, crates, progress, edited=()):
+    """Proves these crates, lowest first, in a folder, tries the edits of some, and returns a folder with their libraries. Raises
+    `NothingKept` early if `rt ci` keeps nothing."""
     sources = Path(folder) / "sources"
     copy_to(sources, crates, ("src", "specs", "proofs", "data"))
     lay_out(sources, crates)
+    return Proving(Path(folder), crates, progress, edited).all()
+
+
+def prove(folder, crates, progress):
+    """Proves these crates, lowest first, in a folder, and returns a folder with their libraries. If `rt ci` keeps nothing, one run proves
+    them all."""
     try:
-        return Proving(Path(folder), crates, progress, edited).all()
+        return prove_side_by_side(folder, crates, progress)
     except NothingKept:
-        run(["rt", "ci"], sources, progress.read)
-        return sources
+        run(["rt", "ci"], Path(folder) / "sources", progress.read)
+        return Path(folder) / "sources"
