@@ -15,11 +15,12 @@ pub use Rattle.kernel.specs.Opening.{IsNoReason}
 pub use Rattle.layout.proofs.Blocks.{block_page}
 pub use Rattle.layout.proofs.Denoted.{frames_not_bad}
 pub use Rattle.layout.proofs.Directories.{directory_fits, entry_read, none_read, one_directory}
-pub use Rattle.layout.proofs.Halves.{half_within}
+pub use Rattle.layout.proofs.Halves.{half_lies}
 pub use Rattle.layout.proofs.Images.{same_directory, same_header, same_plan}
 pub use Rattle.layout.proofs.Numbers.{length-number, number_read}
 pub use Rattle.layout.proofs.Superblocks.{length-half, length-ranges}
 pub use Rattle.layout.proofs.Totals.{total_reported}
+pub use Rattle.layout.proofs.Versions.{fewer_entries}
 unfoldable pub use Rattle.layout.specs.Bytes.{half_number, number, zeros}
 pub use Rattle.layout.specs.Calls.{ReadsOnly}
 unfoldable pub use Rattle.layout.specs.Capability.{capability_bytes}
@@ -38,6 +39,7 @@ pub use Rattle.layout.specs.Reason.{reason_number}
 pub use Rattle.layout.specs.Shape.{IsShapeFor, shape_bytes}
 pub use Rattle.layout.specs.Superblock.{HasMark, IsPlan, Plan, unused, version_number}
 unfoldable pub use Rattle.layout.specs.Superblock.{ranges_bytes, superblock_bytes}
+unfoldable pub use Rattle.layout.specs.Version.{directory_length}
 pub use Rattle.layout.specs.declared.bad_image.BadImage.{BadImage}
 pub use Rattle.layout.specs.declared.directory.Entry.{Entry}
 pub use Rattle.layout.specs.declared.extent.HomeRange.{HomeRange}

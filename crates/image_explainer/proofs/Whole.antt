@@ -1,7 +1,7 @@
 -- Where the directory lies, and images with nothing wrong in their sectors.
 use Rattle.image_explainer.proofs.Names.{nat_tests, ℕ, List, ControlFlow, length, take, arith, MatchControlFlow, Image, Entry, CheckpointHeader, AllFitting}
 use Rattle.image_explainer.proofs.Names.{directory_bytes, HasHeader, HasPlan, directory_in, directory_sector, sectors_from, slot_sector, IsPlan, Plan}
-use Rattle.image_explainer.proofs.Names.{half_within, DirectoryPart, BreaksDirectory, IsFault, IsFirstEntry}
+use Rattle.image_explainer.proofs.Names.{half_lies, fewer_entries, DirectoryPart, BreaksDirectory, IsFault, IsFirstEntry, directory_length}
 use Rattle.std.proofs.Common.{◌≡◌, ◌+◌, ◌-◌, ◌*◌, ◌/◌, ◌≤◌, ◌∙◌}
 use Rattle.image_explainer.specs.declared.sectors.fault.SectorFault.TheVariants as fault
 use Rattle.image_explainer.proofs.Directories.{no_spelling}
@@ -13,13 +13,16 @@ behind_slots p generation at some is = omega (arith, some, is)
 
 pub directory_inside : (p : Plan) (generation at n size : ℕ) → IsPlan p → at ≡ slot_sector p generation (p.geometry.log - 1) →
     n ≤ p.geometry.log → p.total ≤ size
-    → 512 * (at + 9 + (n + 31) / 32) ≤ 512 * size
-directory_inside p generation at n size plan is few inside = grind (arith, nat_tests, behind_slots, half_within)
+    → 512 * (at + 9 + directory_length p.version n) ≤ 512 * size
+directory_inside p generation at n size plan is few inside =
+    let lies = half_lies p generation plan in
+    let fewer = fewer_entries p.version n p.geometry.log few in
+    omega (arith, lies.1, fewer, behind_slots p generation at (omega (arith, plan.geometry.least_log)) is, inside)
 
 -- the entries that were read are those of the image
 module _ (image : Image) (size : ℕ) (p : Plan) (h : CheckpointHeader) (es : List Entry) (at sector : ℕ) (run : List ℕ)
     (some : 1 ≤ p.geometry.log) (is : at ≡ slot_sector p h.generation (p.geometry.log - 1)) (here : sector ≡ at + 9)
-    (n : ℕ) (count : n ≡ h.entries) (read : run ≡ sectors_from image sector ((n + 31) / 32))
+    (n : ℕ) (count : n ≡ h.entries) (read : run ≡ sectors_from image sector (directory_length p.version n))
     (spelt : take (16 * n) run ≡ directory_bytes es) where
   place : sector ≡ directory_sector p h.generation
   place = here ∙ behind_slots p h.generation at some is

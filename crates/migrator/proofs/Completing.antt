@@ -305,7 +305,11 @@ either_of {T} {E} {o} {p} result none same = grind (arith, nat_tests)
 -- an unwritten cluster belongs to sectors of the device
 pub unwritten_inside : {p : Plan} (generation : ℕ) {es : List Entry} {o : Option Unwritten} {u : Unwritten} → IsPlan p →
     IsDirectory p.geometry es → IfUnwritten p generation es o → o ≡ Some u → u.sector + 8 ≤ p.total
-unwritten_inside {p} generation {es} {o} {u} fits is has some = grind (arith, nat_tests, object, inside, half_of_slot, halves_within)
+unwritten_inside {p} generation {es} {o} {u} fits is has some =
+    let here : IfUnwritten p generation es (Some u) = subst (IfUnwritten p generation es) some has in
+    let slot = half_of_slot p generation (is.each here.index (record { object = 0; slot = 0 }) here.within).slot in
+    let within = halves_within p generation fits in
+    omega (arith, here.sector_is, slot.ends, within.1)
 
 -- a cluster that the device failed to write before is written
 pub keeps_written : {p : Plan} {generation : ℕ} {es : List Entry} {old new : Disk} {was now : Option Unwritten} → OnlyNow old →
@@ -402,7 +406,11 @@ module _ {disk : Disk} {b : Books} (is : IsDurable disk b) where
   has_some some = subst (MayHaveUnwritten b) some is.unwritten
 
   cluster_inside : {u : Unwritten} → b.unwritten ≡ Some u → IsInside (cluster_extent u) half
-  cluster_inside {u} some = grind (arith, nat_tests)
+  cluster_inside {u} some =
+      let has = has_some some in
+      let low = is.kept.frozen.table.few has.object has.slot has.place in
+      let slot = half_of_slot b.plan (frozen_generation b) {slot = has.slot} (omega (arith, low, is.kept.frozen.few)) in
+      record { starts = omega (arith, slot.starts, has.sector_is); ends = omega (arith, slot.ends, has.sector_is) }
 
   -- sectors apart from the unwritten cluster, also after a write
   raw : (new : Image) {at : ℕ} (n : ℕ) →

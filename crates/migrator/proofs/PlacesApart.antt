@@ -9,7 +9,8 @@ use Rattle.migrator.proofs.Names.{directory_extent, slots_inside, frames_in_slot
 use Rattle.migrator.proofs.Names.{frame_extent, Spares, ⊎_elim, Frame, Disk, Elsewhere, IsTorn, LeavesOnly, elsewhere_same, elsewhere_on, leaves_weaker}
 use Rattle.migrator.proofs.Names.{leaves_on, Encodes, state_in, same_shaped, read_same, ReadsOnly, WritesAt, SameFrom, SameWhereRead, same_saved, LeavesState}
 use Rattle.migrator.proofs.Names.{SparesFrames, Touches, nat_le, nat_lt, nat_tests, image_of, Elapses, agrees_is, Geometry, Shape, IsFrameOf, frame_from}
-use Rattle.migrator.proofs.Names.{shape_bytes, one_frame, most, Unwritten, mended, unwritten_of, IsSpeltIn}
+use Rattle.migrator.proofs.Names.{shape_bytes, one_frame, most, Unwritten, mended, unwritten_of, IsSpeltIn, directory_length}
+use Rattle.layout.proofs.Versions.{no_sectors}
 use Rattle.std.proofs.Common.{◌≡◌, ◌-◌, ◌<◌, ◌≤◌, ◌∷◌, ◌∙◌, ◌%◌, ◌+◌}
 use Rattle.std.specs.Prelude.{if◌then◌else◌, ◌&&◌}
 
@@ -186,7 +187,10 @@ frame_apart p generation es n e slot home = apart_by (frame_slot_in p es n) p ge
 
 pub place_inside : (p : Plan) (generation : ℕ) {s : ℕ} (n : ℕ) → s < p.geometry.log →
     IsInside (place_extent p generation s n) (half_extent p.version p.geometry (half_sector p generation))
-place_inside p generation {s} n lt = search (arith, frames_in_slots, slots_inside)
+place_inside p generation {s} n lt =
+    let frame = frames_in_slots p generation s n in
+    let slot = slots_inside p generation s lt in
+    record { starts = omega (arith, frame.starts, slot.starts); ends = omega (arith, frame.ends, slot.ends) }
 
 -- a slot in one half, and sectors of the other
 pub other_half : {p : Plan} (a b : ℕ) {s : ℕ} (n : ℕ) {e : Extent} → IsPlan p → (a % 2 ≡ b % 2 → ⊥) → s < p.geometry.log →
@@ -228,6 +232,7 @@ spares_log {p} h es generation {e} fits count none inside = record {
 -- they lie apart from the home of an object whose frame is in the log
 pub spares_home : {p : Plan} {h : CheckpointHeader} {es : List Entry} {m t : ℕ} → IsPlan p → IsDirectory p.geometry es →
     h.entries ≤ p.geometry.log → m < count_of p → slot_in es m ≡ Some t → Spares p h es (home_extent p m)
+unfolding directory_length
 spares_home {p} {h} {es} {m} {t} fits is few within has =
     search (
       arith,
@@ -273,7 +278,12 @@ state_stays {p} {h} {es} {e} {old} {new} spares change = search (arith, read_sam
 
 spares_same : {p : Plan} {h : CheckpointHeader} {es : List Entry} {e : Extent} {old new : Image} → Spares p h es e →
     Elsewhere e.sector e.length old new → SameWhereRead p h es old new
-spares_same {p} {h} {es} {e} {old} {new} spares change = search (arith, stays)
+spares_same {p} {h} {es} {e} {old} {new} spares change = record {
+  headers = λ i lt. change.before (1 + i) (omega (arith, lt, spares.headers));
+  directory = ⊎_elim (λ none i lt. absurd (omega (arith, lt, ap (directory_length p.version) none ∙ no_sectors p.version)))
+      (λ apart. stays apart change) spares.directory;
+  frames = λ n lt. stays (spares.frames n lt) change;
+}
 
 -- such a change leaves the saved state
 pub denotes_on : {p : Plan} {h : CheckpointHeader} {es : List Entry} {fs : List Frame} {e : Extent} {size : ℕ} {old new : Image} →

@@ -92,7 +92,7 @@ module _ (since : Bool) {size : ℕ} {image : Image} {b : Books} {n : ℕ} (kept
 -- the sectors of the object's slot belong to no other frame
 saved_spares : (since : Bool) {size : ℕ} {image : Image} {b : Books} {e : Extent} → IsIntact size image b →
     IsInside e (half_extent b.plan.version b.plan.geometry (half_sector b.plan (generation_of since b))) →
-        Spares b.plan b.header b.directory e
+    Spares b.plan b.header b.directory e
 saved_spares true {b = b} kept inside = saved_working b.frozen_size kept kept.running inside
 saved_spares false {b = b} kept inside =
     spares_other b.header (frozen_generation b) kept.plan kept.directory kept.header.entries (other_parity b.header.generation) inside

@@ -20,8 +20,8 @@ use crate::sectors::reading::sectors;
 use crate::sectors::superblock::superblock_in;
 use ckpt_log::Log;
 use layout::{
-    CheckpointHeader, ENTRY_BYTES, Entry, NODE_FRAME_BYTES, Scratch, Shape, Superblock, total_in,
-    unpack_node,
+    CheckpointHeader, ENTRY_BYTES, Entry, NODE_FRAME_BYTES, Scratch, Shape, Superblock,
+    directory_length, total_in, unpack_node,
 };
 use model::Geometry;
 use std::ops::ControlFlow;
@@ -92,7 +92,7 @@ fn find_directory(
 {
     let geometry = superblock.geometry();
     let sector = Log::new(superblock).slot_sector(header.generation, geometry.log - 1) + 9;
-    let count = (entries.len() + 31) / 32;
+    let count = directory_length(superblock.version(), entries.len() as u64) as usize;
     read_entries(
         &sectors(bytes, sector, count)[..ENTRY_BYTES * entries.len()],
         entries,

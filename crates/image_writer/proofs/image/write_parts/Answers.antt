@@ -14,6 +14,11 @@ write_frames-requires-clause-contents g c =
     c.requires.contents ∙ sym (length_in c.args.headers.now c.args.contents.now) ∙ c.requires.keepable.count ∙
     ap object_count (sym c.geometry-nodes.ensures.value)
 
+pub close_gates-requires : goal.close_gates-requires
+close_gates-requires g c =
+    let enough = five c.args.superblock.now c.geometry-nodes.ensures.fits in
+    record { inside = omega (arith, enough, c.requires.inside) }
+
 pub write_opening_sectors-requires-clause-inside : goal.write_opening_sectors-requires-clause-inside
 write_opening_sectors-requires-clause-inside g c =
     let enough = five c.args.superblock.now c.geometry-nodes.ensures.fits in
