@@ -15,3 +15,4 @@ pub mod SealedPieces
 pub mod SealedDirectories
 pub mod SealedChecks
 pub mod SealedWritten
+pub mod SealedStates

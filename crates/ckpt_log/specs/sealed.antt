@@ -4,3 +4,5 @@ pub mod Publish
 pub mod Closing
 pub mod Directory
 pub mod Units
+pub mod SavedSectors
+pub mod CommitLaws
