@@ -1,7 +1,7 @@
 -- Which header slot is the committed one, and what a torn write leaves.
-use Rattle.ckpt_log.proofs.Names.{nat_tests, ℕ, zero, suc, Bool, true, false, Option, Some, List, refl, ap, arith, and_parts, and_from, eqb-true, eq-eqb}
-use Rattle.ckpt_log.proofs.Names.{is_open, committed_of, committed_slot, committed_bytes, option_at, does_count, sequence_in, Image, Elsewhere, codes, cond}
-use Rattle.ckpt_log.proofs.Names.{w64, from_le_bytes, from_le_bytes-to_le_bytes_8, CheckpointHeader, Closed, Open, number, number_from, zeros, gate_bytes}
+use Rattle.ckpt_log.proofs.Names.{nat_tests, ℕ, zero, suc, Bool, true, false, Option, Some, List, refl, ap, arith, and_parts, eqb-true}
+use Rattle.ckpt_log.proofs.Names.{is_open, committed_of, committed_slot, committed_bytes, option_at, does_count, sequence_in, Image, Elsewhere}
+use Rattle.ckpt_log.proofs.Names.{w64, from_le_bytes, from_le_bytes-to_le_bytes_8, CheckpointHeader, Closed, Open, number, number_from, gate_bytes}
 use Rattle.ckpt_log.proofs.Names.{header_bytes, IsHeader, six, Agrees, elsewhere_on, HeaderSlot, slot_number, header_at, gate_at, header_sector, gate_sector}
 use Rattle.ckpt_log.proofs.Names.{closed_gate, Precedes, KeepsHeader, HasNew, IsOldOrNew, one_more}
 use Rattle.std.proofs.Common.{◌≡◌, ◌<◌, ◌≤◌, ◌+◌, ◌*◌, ◌%◌, ◌∙◌, ◌^◌, ◌++◌}

@@ -4,7 +4,7 @@ use Rattle.ckpt_log.proofs.Names.{directory_bytes, IsDirectory, Plan, directory_
 use Rattle.ckpt_log.proofs.Names.{directory_fits, one_frame, OpenFault, Failed, NoMemory, Bad, IsRefused, IsBadDirectory, SlotsAreReadBack}
 use Rattle.ckpt_log.proofs.Names.{DirectoriesAreReadBack, take-append_seam, CheckpointHeader, HasHeader, HasCommitted, HasNoCommitted, directory_length}
 use Rattle.ckpt_log.proofs.Names.{no_sectors, Version, ap, sym}
-use Rattle.std.proofs.Common.{◌∙◌, ◌≡◌, ◌+◌, ◌-◌, ◌*◌, ◌/◌, ◌≤◌, ◌∷◌, ◌++◌}
+use Rattle.std.proofs.Common.{◌∙◌, ◌≡◌, ◌-◌, ◌*◌, ◌≤◌, ◌∷◌, ◌++◌}
 
 -- a directory without entries is encoded by no bytes
 pub no_entries : (p : Plan) (generation : ℕ) (image : Image) (es : List Entry) → length es ≡ 0 →

@@ -1,8 +1,8 @@
 -- Where slots and directories lie.
 use Rattle.ckpt_log.proofs.Names.{nat_tests, inl, arith, half_within, half_apart, few_sectors, SlotsAreInside, FramesAreInSlots, DirectoriesAreInside}
-use Rattle.ckpt_log.proofs.Names.{HalvesAreWithin, HalvesAreApart, SlotsAreApart, SlotsSpareDirectories, ℕ, Plan, IsPlan, place_length, frame_sector}
-use Rattle.ckpt_log.proofs.Names.{half_sector, slot_sector, directory_sector, same_sectors, same_shaped, SequencesAreReported, NextFollows, HeadersSpareSectors}
-use Rattle.ckpt_log.proofs.Names.{HeadersSpareFrames, HeadersSpareSlots, HeadersSpareDirectories, directory_length, half_lies, fewer_entries, half_has}
+use Rattle.ckpt_log.proofs.Names.{HalvesAreWithin, HalvesAreApart, SlotsAreApart, SlotsSpareDirectories, ℕ, Plan, IsPlan}
+use Rattle.ckpt_log.proofs.Names.{half_sector, same_sectors, same_shaped, SequencesAreReported, NextFollows, HeadersSpareSectors}
+use Rattle.ckpt_log.proofs.Names.{HeadersSpareFrames, HeadersSpareSlots, HeadersSpareDirectories, half_lies, fewer_entries, half_has}
 use Rattle.std.proofs.Common.{◌+◌, ◌≤◌}
 use Rattle.ckpt_log.proofs.Commits.{sequence_of, next_fits, precedes}
 

@@ -1,8 +1,8 @@
 -- Images that agree in the sectors that a saved state is read from.
 use Rattle.ckpt_log.proofs.Names.{nat_tests, ℕ, List, Option, IsFrameOf, refl, sym, subst, arith, Image, shape_of, committed_slot, option_at, frame_sector}
-use Rattle.ckpt_log.proofs.Names.{directory_sector, same_sectors, same_shaped, SameFrom, SameHeader, SameDirectory, SameFrames, SameSaved, frame_at, Elsewhere}
+use Rattle.ckpt_log.proofs.Names.{same_sectors, same_shaped, SameFrom, SameHeader, SameDirectory, SameFrames, SameSaved, frame_at, Elsewhere}
 use Rattle.ckpt_log.proofs.Names.{CheckpointHeader, Plan, SavedState, Encodes, half_sector, frame_slot_in, slot_sector, sector_or, header_sector}
-use Rattle.ckpt_log.proofs.Names.{HomesAreBehind, FramesAreBehind, IsReady, NewIsDenoted, OldIsDenoted, directory_length}
+use Rattle.ckpt_log.proofs.Names.{HomesAreBehind, FramesAreBehind, IsReady, NewIsDenoted, OldIsDenoted}
 use Rattle.std.proofs.Common.{◌≡◌, ◌∙◌, ◌≤◌}
 use Rattle.ckpt_log.proofs.Places.{half_behind, spare_sectors, spare_frames, spare_directories}
 

@@ -1,7 +1,7 @@
 -- One sector of a device.
 use Rattle.ckpt_log.proofs.Names.{ℕ, List, length, take, drop, sym, ap, arith, take_all, Image, Disk, Agrees, AreSectors, sectors_of, sectors_from, LeavesOnly}
 use Rattle.ckpt_log.proofs.Names.{CountsNow, ends, one_from}
-use Rattle.std.proofs.Common.{◌≡◌, ◌+◌, ◌*◌, ◌/◌, ◌++◌, ◌∙◌}
+use Rattle.std.proofs.Common.{◌≡◌, ◌+◌, ◌*◌, ◌/◌, ◌∙◌}
 
 pub one_sector : (bytes : List ℕ) → length bytes ≡ 512 → sectors_of bytes ≡ 1
 one_sector bytes size = ap (λ (n : ℕ). n / 512) size

@@ -8,3 +8,4 @@ pub mod Log
 pub mod Places
 pub mod SavedSectors
 pub mod Slot
+pub mod sealed

@@ -9,6 +9,7 @@ mod header_slot;
 mod laws;
 mod log;
 mod publish;
+pub mod sealed;
 mod sector;
 mod slots;
 

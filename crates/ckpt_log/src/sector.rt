@@ -13,6 +13,7 @@ pub(crate) fn read_sector<D: Device>(device: &mut D, at: u64, into: &mut [u8]) -
     requires one { length into.old ≡ 512 }
     requires inside { at < (D.disk device.old).sectors }
     ensures bytes { OnOk result (into.new ≡ (D.disk device.old).seen at) }
+    ensures length { length into.new ≡ 512 }
     ensures reads { ReadsOnly (D.disk device.old) (D.disk device.new) }
     ensures cause { Counts (D.disk device.old) (D.disk device.new) result }
 {

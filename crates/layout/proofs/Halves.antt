@@ -1,6 +1,6 @@
 -- The halves of the log among the extents of a plan.
 use Rattle.layout.proofs.Names.{[], ℕ, length, Bool, subst, inl, inr, arith, ⊎_elim, nat_tests, length-map, get_or-append_right, Extent, Half, First, Second}
-use Rattle.layout.proofs.Names.{half_of, Plan, IsPlan, IsWithin, IsApart, IsInside, extent_at, extents, half_extent, half_start, half_sector, Version}
+use Rattle.layout.proofs.Names.{half_of, Plan, IsPlan, IsWithin, IsApart, IsInside, extent_at, extents, half_extent, half_start, half_sector}
 use Rattle.layout.proofs.Names.{directory_length}
 use Rattle.std.proofs.Common.{◌≡◌, ◌+◌, ◌*◌, ◌%◌, ◌<◌, ◌≤◌, ◌∷◌, length-append}
 use Rattle.std.specs.Prelude.{◌==◌, if◌then◌else◌}

@@ -1,5 +1,5 @@
 -- An image denotes at most one saved state.
-use Rattle.layout.proofs.Names.{nat_tests, ℕ, Some, List, length, sym, ap, inl, inr, arith, cases_lt, same_lists, get_or_default, Frame, Geometry, frame_at}
+use Rattle.layout.proofs.Names.{nat_tests, ℕ, List, length, sym, ap, inl, inr, arith, cases_lt, same_lists, get_or_default, Frame, Geometry, frame_at}
 use Rattle.layout.proofs.Names.{blank_frame, Entry, CheckpointHeader, header_bytes, Plan, Image, IsFrameOf, HasPlan, HasHeader, HasDirectory, frame_in}
 use Rattle.layout.proofs.Names.{SavedState, Encodes, same_Some}
 use Rattle.std.proofs.Common.{◌≡◌, ◌+◌, ◌<◌, ◌∙◌}

@@ -4,7 +4,7 @@ use Rattle.layout.proofs.Names.{length-map, length-replicate, All-from_recursion
 use Rattle.layout.proofs.Names.{Geometry, Content, Root, State, void_held, IsKeptCap, AreKeptSlots, AreKeptWords, MayBeKept, IsKept, IsKeepable, role_of}
 use Rattle.layout.proofs.Names.{is_free, state_number, IsOfKind, number_cap, root_slots, slots_of, node_frame_bytes, page_frame_bytes, frame_bytes, FollowsRole}
 use Rattle.layout.proofs.Names.{HoldsPage, IsFront, IsNodeFrame, IsPageFrame, IsFrameOf}
-use Rattle.std.proofs.Common.{◌≡◌, ◌+◌, ◌^◌, ◌<◌, ◌≤◌, ◌∷◌, ◌++◌, ◌∙◌}
+use Rattle.std.proofs.Common.{◌≡◌, ◌^◌, ◌<◌, ◌≤◌, ◌∷◌, ◌++◌, ◌∙◌}
 use Rattle.std.specs.Prelude.{if◌then◌else◌}
 use Rattle.layout.proofs.Frames.{root_of}
 use Rattle.model.specs.declared.object.Content.TheVariants as content

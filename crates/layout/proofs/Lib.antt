@@ -31,3 +31,5 @@ pub mod SealedSpelling
 pub mod SealedSuperblocks
 pub mod Roots
 pub mod SealedZeros
+pub mod SealedDeciding
+pub mod SealedSlots

@@ -1,5 +1,5 @@
 -- Numbers read back from bytes.
-use Rattle.layout.proofs.Names.{nat_tests, [], ℕ, Bool, List, length, get_or, take, drop, refl, sym, ap, inl, inr, arith, replicate, bit_or, IsTrue, nat_eq}
+use Rattle.layout.proofs.Names.{nat_tests, [], ℕ, List, length, get_or, take, drop, refl, sym, ap, inl, inr, arith, replicate, bit_or, IsTrue, nat_eq}
 use Rattle.layout.proofs.Names.{w64, from_le_bytes, le_bytes_8, from_le_bytes-to_le_bytes_8, le_or_l, le_or_r, take_at, drop_at, take-append-drop, length-take}
 use Rattle.layout.proofs.Names.{length-drop, drop-drop, get_or-take, get_or-drop, get_or_past, same_lists, get_or-replicate, length-replicate, get_or_default}
 use Rattle.layout.proofs.Names.{take_rest, drop_all, append-nil, length-append, drop-replicate, cases_lt, between, little_number, little_from-take}

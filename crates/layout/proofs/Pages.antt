@@ -1,6 +1,6 @@
 -- Frames of pages read back from their bytes.
 use Rattle.layout.proofs.Names.{nat_tests, [], ℕ, suc, List, length, take, drop, refl, sym, ap, subst, append_assoc, arith, IsTrue, All, flat_map}
-use Rattle.layout.proofs.Names.{length-replicate, drop-drop, take_at, drop_at, take_all, take-append-drop, append-nil, length-drop, length-take-le, drop-take}
+use Rattle.layout.proofs.Names.{length-replicate, drop-drop, take_at, drop_at, take_all, take-append-drop, append-nil, length-drop, drop-take}
 use Rattle.layout.proofs.Names.{drop_all, take-add, flat_map-append, All-replicate, Cap, Frame, ObjectHeader, Content, IsCount, AreKeptWords, role_of}
 use Rattle.layout.proofs.Names.{role_number, is_free, zero_words, number, zeros, Body, front_numbers, front_bytes, page_words, words_bytes, page_frame_bytes}
 use Rattle.layout.proofs.Names.{role_in, page_body_in, content_of, HoldsPage, IsPageFrame, IsPageBody, zero, get_or, get_or-drop, get_or_default, take_more}

@@ -1,6 +1,6 @@
 -- What the numbers of the versions have in common.
 use Rattle.layout.proofs.Names.{ℕ, arith, Geometry, Version, row, IsOpened, aligned, directory_length, half_length, One, Two, Three, refl, MayBegin, Extent}
-use Rattle.std.proofs.Common.{◌≡◌, ◌+◌, ◌-◌, ◌*◌, ◌/◌, ◌%◌, ◌≤◌}
+use Rattle.std.proofs.Common.{◌≡◌, ◌+◌, ◌-◌, ◌*◌, ◌/◌, ◌≤◌}
 
 aligned_least : (v : Version) (n : ℕ) → n ≤ aligned v n
 aligned_least One n = omega arith

@@ -1,7 +1,7 @@
 -- What the sectors of a device denote, as far as frames go.
 use Rattle.layout.specs.Names.{ℕ, zero, suc, nat_lt, Bool, Option, Some, None, List, [], length, take, drop, Frame}
 use Rattle.layout.specs.Names.{frame_at, Image}
-use Rattle.std.specs.Prelude.{◌≡◌, ◌⊎◌, ◌+◌, ◌*◌, ◌/◌, ◌%◌, ◌<◌, ◌≤◌, ◌==◌, ◌&&◌, if◌then◌else◌, ◌∷◌, ◌++◌}
+use Rattle.std.specs.Prelude.{◌≡◌, ◌⊎◌, ◌+◌, ◌*◌, ◌%◌, ◌<◌, ◌≤◌, ◌==◌, ◌&&◌, if◌then◌else◌, ◌∷◌, ◌++◌}
 use Rattle.layout.specs.declared.bad_image.BadImage.{BadImage}
 use Rattle.layout.specs.declared.bad_image.BadImage.TheVariants as bad
 use Rattle.layout.specs.declared.directory.Entry.{Entry}

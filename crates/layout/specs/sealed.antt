@@ -7,5 +7,8 @@ pub mod Page
 pub mod Cluster
 pub mod Laws
 pub mod Superblock
+pub mod Plan
 pub mod Root
 pub mod RootLaws
+pub mod Opening
+pub mod Image

@@ -1,6 +1,7 @@
 -- The frame of a page.
 use Rattle.layout.specs.Names.{ℕ, List, [], take, drop, slice_index, IsCount, role_number, sums_of}
-use Rattle.std.specs.Prelude.{◌≡◌, ◌⊎◌, ◌==◌, if◌then◌else◌, ◌∷◌}
+use Rattle.std.specs.Prelude.{◌≡◌, ◌⊎◌, ◌==◌, if◌then◌else◌, ◌∷◌, ◌++◌}
+use Rattle.model.specs.declared.frame.ObjectHeader.{ObjectHeader}
 use Rattle.model.specs.declared.object.Role.TheVariants as role
 use Rattle.layout.specs.Bytes.{zeros}
 use Rattle.layout.specs.declared.sealed.page.PageHeader.{PageHeader}
@@ -14,6 +15,10 @@ page_header_numbers h =
 
 unfoldable pub page_header_bytes : PageHeader → List ℕ
 page_header_bytes h = sector_bytes (page_header_numbers h)
+
+-- the frame of a page: its header sector, with the sums of its words, and the words
+abbrev pub page_bytes : ObjectHeader → List ℕ → List ℕ
+page_bytes object words = page_header_bytes (record { object = object; words = sums_of words }) ++ words
 
 -- the header that these numbers stand for
 abbrev pub page_header_from : List ℕ → PageHeader

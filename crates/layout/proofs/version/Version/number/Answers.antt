@@ -1,4 +1,4 @@
-use Rattle.layout.proofs.Names.{ap, arith, row}
+use Rattle.layout.proofs.Names.{ap, arith}
 use Rattle.std.proofs.Common.{◌≡◌}
 use Rattle.layout.specs.declared.version.Row.{Row}
 use Rattle.layout.specs.Superblock.{version_number}

@@ -1,0 +1,8 @@
+pub mod Reading
+pub mod Committed
+pub mod Publish
+pub mod Closing
+pub mod Directory
+pub mod Units
+pub mod SavedSectors
+pub mod CommitLaws

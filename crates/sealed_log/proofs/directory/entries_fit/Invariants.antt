@@ -1,7 +1,0 @@
-use Rattle.std.proofs.Common.{◌<◌, ◌^◌, ℕ}
-use Rattle.layout.specs.Directory.{entry_at}
-use Rattle.sealed_log.proofs.directory.entries_fit.Given as goal
-
-abbrev pub invariant-loop-entry : goal.invariant-loop-entry
-invariant-loop-entry l =
-    (k : ℕ) → k < l.entry-index → ((entry_at l.entries k).object < 2 ^ 64) × ((entry_at l.entries k).slot < 2 ^ 64)

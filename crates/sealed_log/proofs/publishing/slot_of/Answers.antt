@@ -1,9 +1,0 @@
-use Rattle.std.proofs.Common.{arith}
-use Rattle.sealed_log.proofs.Commits.{words_of}
-use Rattle.sealed_log.proofs.publishing.slot_of.Goals as goal
-
-pub returns-clause-fits : goal.returns-clause-fits
-returns-clause-fits c =
-    words_of c.args.header (omega arith) (omega arith) (omega arith) (omega arith) (omega arith) (omega arith) (omega arith) (omega arith)
-    (omega arith)
-    (omega arith)

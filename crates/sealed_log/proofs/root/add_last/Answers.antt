@@ -1,5 +1,0 @@
-use Rattle.sealed_log.proofs.Written.{root_after}
-use Rattle.sealed_log.proofs.root.add_last.Goals as goal
-
-pub returns : goal.returns
-returns c = root_after c.args.number c.args.seal c.args.root c.add_unit.result c.add_unit.ensures

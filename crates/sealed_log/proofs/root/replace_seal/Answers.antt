@@ -1,7 +1,0 @@
-use Rattle.sealed_log.proofs.Written.{root_with}
-use Rattle.sealed_log.proofs.root.replace_seal.Goals as goal
-
-pub returns : goal.returns
-returns c =
-    root_with c.args.number c.args.old c.args.new c.args.root c.remove_unit.result c.add_unit.result c.remove_unit.ensures
-    c.add_unit.ensures

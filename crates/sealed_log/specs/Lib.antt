@@ -1,7 +1,0 @@
-pub mod Opening
-pub mod Reading
-pub mod Committed
-pub mod Publish
-pub mod Closing
-pub mod Directory
-pub mod Units
