@@ -1,5 +1,5 @@
 //! Devices with a record of what was done to them. `Memory` is one in memory, made with the outcome of its power
-//! cuts; `Fuse` makes any device stop after some calls. A device in a file has all of its sectors but those of zeros
+//! cuts; `Fuse` makes any device stop after some calls; `ReadOnly` reads the sectors of another. A device in a file has all of its sectors but those of zeros
 //! copied into memory when it is opened: reads are answered from the copy, and writes go to the file and to the copy.
 //! There ghost data is the record, so it takes no memory.
 #![tactic(auto)]
@@ -15,6 +15,7 @@ mod new_file;
 mod open;
 mod openable;
 mod raw_file;
+mod read_only;
 mod record;
 mod sector_copy;
 mod sector_file;
@@ -28,6 +29,7 @@ pub use memory::Memory;
 pub use new_file::Unmade;
 pub use openable::{Access, Lock, LockAnswer, Openable};
 pub use raw_file::RawFile;
+pub use read_only::{ReadOnly, SharedDevice};
 pub use record::Outcome;
 pub use sector_copy::SectorCopy;
 pub use sector_file::SectorFile;

@@ -47,6 +47,15 @@ impl NamedLines {
         }
     }
 
+    /// From now on a number is that of an object after one of the words `kinds`.
+    pub(crate) fn set_kinds(&mut self, kinds: &'static [&'static [u8]])
+        ensures names { self.new.names ≡ self.old.names }
+        ensures kinds { self.new.kinds.now ≡ kinds.now }
+        ensures line { self.new.line ≡ self.old.line }
+    {
+        self.kinds = kinds;
+    }
+
     /// Takes the next piece of a text, and returns all lines that are whole now, with names. Fails only if memory
     /// runs out.
     pub(crate) fn take(&mut self, text: &[u8]) -> Result<Vec<u8>, AllocError>

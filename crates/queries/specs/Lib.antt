@@ -7,3 +7,4 @@ pub mod Images
 pub mod Info
 pub mod Laws
 pub mod Reaching
+pub mod Queries

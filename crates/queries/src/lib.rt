@@ -2,6 +2,7 @@
 //! describe or draw an image, print its sizes and what processes can reach, and explain why a file is refused.
 #![tactic(auto)]
 
+mod answering;
 mod describing;
 mod diagnosing;
 mod drawing;
@@ -12,6 +13,7 @@ pub mod laws;
 mod reaching;
 mod saved;
 
+pub use answering::{Query, answer};
 pub use describing::describe_image;
 pub use diagnosing::{explain_image, explanation_line};
 pub use drawing::{Focus, draw_image};

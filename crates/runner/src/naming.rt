@@ -13,11 +13,12 @@ pub(crate) enum NoNames {
     Told,
 }
 
-/// What adds names to the lines of a command's output, and to those of its trace.
+/// What names the lines of a command's output and of its trace, and the names that a shell takes.
 #[derive(Drop)]
 pub(crate) struct Naming {
     pub(crate) output: Option<NamedLines>,
     pub(crate) trace: Option<NamedLines>,
+    pub(crate) input: Option<Names>,
 }
 
 // The message for a key that isn't a name.
@@ -86,6 +87,22 @@ fn lines_by(
     }
 }
 
+// The names that a shell takes.
+fn typed_names(
+    rt: &HostRuntime,
+    job: &Job<'_>,
+    file: &str,
+    table: &Table,
+) -> Result<Option<Names>, NoNames> {
+    match job {
+        Job::Shell { .. } => match names_of(rt, file, table) {
+            Ok(names) => Ok(Some(names)),
+            Err(why) => Err(why),
+        },
+        _ => Ok(None),
+    }
+}
+
 /// Returns what adds the names of a file to a job's lines. There is none without a file, or for JSON, which has no
 /// names.
 pub(crate) fn naming_of(
@@ -98,6 +115,7 @@ pub(crate) fn naming_of(
         return Ok(Naming {
             output: None,
             trace: None,
+            input: None,
         });
     };
     let table = match table_in(rt, file) {
@@ -106,14 +124,17 @@ pub(crate) fn naming_of(
     };
     let output = lines_by(rt, job, file, &table)?;
     let trace = lines_by(rt, job, file, &table)?;
+    let input = typed_names(rt, job, file, &table)?;
     if is_json {
         return Ok(Naming {
             output: None,
             trace: None,
+            input: None,
         });
     }
     Ok(Naming {
         output: Some(output),
         trace: Some(trace),
+        input,
     })
 }
