@@ -105,14 +105,14 @@ least n (m ∷ ms) = least (min n m) ms
 unfoldable pub remaining : List Object → ℕ → ℕ
 remaining os b = least (left_of os b) (map (left_of os) (chain os b))
 
--- the order to free the objects that a capability frees: refused unless bank b owns them
+-- the outcome of freeing a capability's objects, n and ns: refused unless bank b owns n
 abbrev pub freed : List Object → ℕ → List ℕ → OrderOutcome
 freed os b [] = refused os code.BadCapability
 freed os b (n ∷ ns) = if owner_at os n == b then made (rescind (n ∷ ns) os) (n ∷ ns) Void else refused os
     code.NotFromThisBank
 
--- The orders of a bank. The least code that applies is the answer: a limit reached, then no free number, then a chain
--- of 16 banks already.
+-- What each order of bank b does. If several codes apply, the least is the reply: a limit is reached, then no number
+-- is free, then the chain already has 16 banks.
 unfoldable pub on_bank : Geometry → List Object → ℕ → BankOrder → Arguments → OrderOutcome
 on_bank g os b bank.NewPage args =
     if has_quota os b 1 then allocated os b (free_pages g os) new_page (λ n. Page n full) else refused os code.Limit

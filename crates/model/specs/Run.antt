@@ -27,7 +27,7 @@ Replies g line.Skip before reply after = (reply ≡ Nothing) × (after ≡ befor
 Replies g line.Bad before reply after = (reply ≡ BadLine) × (after ≡ before)
 Replies g (line.Command c) before reply after = (a : Answer) × (reply ≡ Reported a) × Step g before c a after
 
--- the turn's reply, and the machine after it, are what its line asks for
+-- a turn whose reply, and machine afterwards, follow from its line
 abbrev pub IsTurn : Geometry → Turn → Type 0
 IsTurn g t = (l : Line) × Says t.line l × Replies g l t.before t.reply t.after
 
