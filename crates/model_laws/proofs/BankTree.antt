@@ -12,7 +12,7 @@ pub record IsTree (os : List Object) : Type 0 where
   pub prime : IsTrue (is_bank (content_at os 0)) × (owner_at os 0 ≡ 0)
   pub chains : (b : ℕ) → IsTrue (is_bank (content_at os b)) → Contains (chain os b) 0
 
--- the tree of framed objects
+-- the banks of framed objects form a tree
 pub tree_of : (g : Geometry) (os : List Object) → IsFramed g os → IsTree os
 tree_of g os h = record { unowned = h.unowned; owners = h.owners; prime = h.prime; chains = h.chains }
 
@@ -20,7 +20,7 @@ tree_of g os h = record { unowned = h.unowned; owners = h.owners; prime = h.prim
 pub bank_used : (c : Content Capability) → IsTrue (is_bank c) → is_free c ≢ true
 bank_used c is gone = grind (arith, nat_tests)
 
--- lists of numbers
+-- a member of a list is a member of the list with one more item
 
 contains_more : (x y : ℕ) (xs : List ℕ) → Contains xs y → Contains (x ∷ xs) y
 contains_more x y xs h = (suc h.0, omega (arith, h.1), h.2)
@@ -33,7 +33,7 @@ member_tail x b xs differ = ap (λ t. t || is_member xs x) (ne_eqb x b differ)
 pub member_head : (x b : ℕ) (xs : List ℕ) → x ≡ b → is_member (b ∷ xs) x ≡ true
 member_head x b xs same = ap (λ t. t || is_member xs x) (eq-eqb x b same)
 
--- chains of at most a given length
+-- the chain of number 0 is that number alone, whatever the limit
 
 within_end : (os : List Object) (k b : ℕ) → b ≡ 0 → chain_within (suc k) os b ≡ b ∷ []
 within_end os k b end = rw (eq-eqb b 0 end) refl
@@ -58,7 +58,7 @@ within_on_same os us (suc k) b same = elim (cases_eq b 0) [
       ∙ (ap (λ xs. b ∷ xs) (within_on_same os us k (owner_at os b) above) ∙ sym (within_on os k b on)))
 ]
 
--- lists of objects with the same owners along the chain of a bank have the same chain of it
+-- if two lists of objects agree on the owners along the chain of a bank, the bank has the same chain in both
 pub chain_on : (os us : List Object) (b : ℕ) → ((x : ℕ) → is_member (chain os b) x ≡ true → owner_at us x ≡ owner_at os x) →
     chain us b ≡ chain os b
 unfolding chain
@@ -79,7 +79,7 @@ pub chain_zero : (os : List Object) (b : ℕ) → b ≡ 0 → chain os b ≡ b �
 unfolding chain
 chain_zero os b end = within_end os 15 b end
 
--- a chain that is shorter than the limit is extended by an object that the bank owns
+-- if bank b owns n, and the chain of b has fewer than 16 banks, the chain of n is n and then the chain of b
 chain_below : (os us : List Object) (n b : ℕ) → n ≢ 0 → owner_at us n ≡ b → chain us b ≡ chain os b → length (chain os b) < 16 →
     chain us n ≡ n ∷ chain os b
 unfolding chain

@@ -25,7 +25,7 @@ pub none_given_up : (os us : List Object) (n : ℕ) → (is_free (content_at os 
     is_given_up os us n ≡ false
 none_given_up os us n stays = grind (arith, nat_tests)
 
--- after a rescind the members are free, and all else as before
+-- a number is free after a rescind exactly if it is a member or was free
 pub free_rescinded : (set : List ℕ) (os : List Object) (n : ℕ) →
     is_free (content_at (rescind set os) n) ≡ (if is_member set n then true else is_free (content_at os n))
 free_rescinded set os n = elim (cases_Bool (is_member set n)) [
@@ -65,7 +65,7 @@ module _ (os : List Object) (n : ℕ) where
       GivesUp os n list (freed os b list)
   freed_gives b list used = grind (arith, nat_tests, by_none, one_of, rescinded_given_up)
 
-  -- destroying or returning a bank other than the prime bank
+  -- an order that destroys or returns a bank other than the prime bank gives up exactly its set
   ended_gives : (b : ℕ) (vs : List Object) (set written : List ℕ) → (b ≢ 0 → (m : ℕ) → content_at vs m ≡ content_at os m)
       → (b ≢ 0 → (m : ℕ) → is_member set m ≡ true → is_free (content_at os m) ≡ false)
       → GivesUp os n set (if b == 0 then refused os code.PrimeBank else made (rescind set vs) written Void)
@@ -76,7 +76,7 @@ freed_used : (g : Geometry) (os : List Object) (c : Capability) → IsNow g os �
     → (n : ℕ) → is_member list n ≡ true → is_free (content_at os n) ≡ false
 freed_used g os c h names list frees n member = grind (arith, nat_tests)
 
--- the objects that an order of a bank gives up
+-- an order of a bank gives up the objects that it rescinds if it is done, and nothing otherwise
 pub order_gives_up : (g : Geometry) (os : List Object) (b : ℕ) (requested : BankOrder) (args : Arguments) (n : ℕ) → IsNow g os →
     IsTrue (is_bank (content_at os b)) → NamesItsKind os args.capability
     → GivesUp os n (rescinded_by os b requested args) (on_bank g os b requested args)

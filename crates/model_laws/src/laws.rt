@@ -1,4 +1,4 @@
-//! Laws of the definitions, each the contract of a function that does nothing.
+//! Laws of the definitions. Each is the contract of a function that does nothing.
 
 ghost use Rattle.model_laws.specs.Laws.{DiminishesOnce, FetchesWeak, RescindsAll, ConsumesAll, GivesUpRescinded};
 ghost use Rattle.model_laws.specs.Laws.{GivesUpNothing, TouchesWritten, LogFullIsExact, StoreLogFullIsExact, SpellsOne};
@@ -43,21 +43,22 @@ pub fn touches_written()
     ensures { TouchesWritten }
 {}
 
-/// An invocation that nothing else refuses is refused as log full exactly if, with the numbers that it writes, too
-/// many would be touched.
+/// An invocation that nothing else refuses is refused as log full exactly if, with the numbers that it
+/// writes, more numbers would be touched than a half of the log has slots.
 #[tactic(auto, using(crate::proofs::Touching::log_full_is_exact))]
 pub fn log_full_is_exact()
     ensures { LogFullIsExact }
 {}
 
-/// A store that reaches a page which it may write is refused as log full exactly if that page would be one touched
-/// object too many. A memory fault is answered before a full log.
+/// A store to a page that it may write is refused as log full exactly if the touched numbers and that page
+/// are more than a half of the log has slots. If the store has a memory fault too, the answer is the memory
+/// fault.
 pub fn store_log_full_is_exact()
     ensures { StoreLogFullIsExact }
 {}
 
-/// The machine takes only steps that the specification allows. Any invocation, load, store and `show` may be answered
-/// `no memory`, except in place of `no process` and `bad number`.
+/// The machine takes only steps that the specification allows. It allows `no memory` in place of any answer
+/// to an invocation, load, store or `show`, except `no process` and `bad number`.
 #[tactic(auto, using(crate::proofs::Stepping::steps_allowed))]
 pub fn steps_are_allowed()
     ensures { StepsAllowed }
