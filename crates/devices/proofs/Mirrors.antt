@@ -1,4 +1,4 @@
--- What the calls of a device in memory do to it, as its users see it.
+-- What the calls of a device in memory change: its image, and what a crash may leave.
 use Rattle.devices.proofs.Names.{ℕ, List, [], subst, Outcome, Mirror, IsWhole, Agrees, Elsewhere, AreSectors, sectors_of, image_of, Narrows, Tears, Only}
 use Rattle.devices.proofs.Names.{Elapses, synced, left_by, writes_of, EndsCut, past_of, state_of, disk_of_mirror, present_whole, durable_whole, synced_same}
 use Rattle.std.proofs.Common.{◌≡◌, ◌∷◌, ◌++◌}

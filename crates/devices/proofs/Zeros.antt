@@ -1,4 +1,4 @@
--- Whether bytes are all 0, by the sum of their bits.
+-- Whether bytes are all 0: their bits are or-ed.
 use Rattle.devices.proofs.Names.{nat_tests, ℕ, List, length, get_or, replicate, sym, arith, bit_or, IsTrue, le_or_l, le_or_r, same_lists, get_or-replicate}
 use Rattle.devices.proofs.Names.{get_or_default, length-replicate}
 use Rattle.std.specs.Prelude.{nat_eq, ◌↔◌}
