@@ -56,7 +56,7 @@ fn put_number(bytes: &mut [u8], at: usize, n: u64)
     LittleEndian::write_u64(&mut bytes[at..], n);
 }
 
-/// Writes sums into the 24 bytes from `at` on. The others stay.
+/// Writes sums into the 24 bytes from `at` on. No other byte changes.
 pub fn put_sums(bytes: &mut [u8], at: usize, sums: Sums)
     requires { at + 24 ≤ length bytes.old }
     ensures { bytes.new ≡ (take at bytes.old ++ sums_bytes sums) ++ drop (at + 24) bytes.old }
