@@ -1,4 +1,4 @@
--- A frame that the reader of its kind accepts is one that can be kept.
+-- A frame that its reader accepts may be kept.
 use Rattle.layout.proofs.Names.{nat_tests, [], ℕ, Bool, List, length, refl, sym, ap, arith, map, replicate, IsTrue, All, lt-ltb, le-ltb, length-append}
 use Rattle.layout.proofs.Names.{length-map, length-replicate, All-from_recursion, All-cons, All-append, All-map, All-replicate, All-weaker, Cap, Frame}
 use Rattle.layout.proofs.Names.{Geometry, Content, Root, State, void_held, IsKeptCap, AreKeptSlots, AreKeptWords, MayBeKept, IsKept, IsKeepable, role_of}
@@ -41,7 +41,7 @@ root_slots_kept g age r words key annex space =
       each = All-append P (root_slots r) (replicate 24 void_held) front (voids_kept g age 24);
     }
 
--- the conditions on a root's fields that follow from its slots
+-- a root's fields may be kept if its slots may
 record RootIs (g : Geometry) (age : ℕ) (r : Root Cap) : Type 0 where
   pub words : AreKeptWords 4 r.words
   pub annex : r.annex < 2 ^ 64
