@@ -1,4 +1,4 @@
--- Plans that were laid out can be laid out again.
+-- The parts of an existing plan can be laid out again.
 use Rattle.home_ranges.proofs.Names.{ℕ, List, [], length, set, take, drop, map, append_assoc, arith, append-nil, drop_all, drop_more, length-map, length-set}
 use Rattle.home_ranges.proofs.Names.{take_all, take_more_set, Geometry, HomeRange, Plan, IsPlan, Cover, NumberRange, MayBeLaid, numbers_of, placed, range_at}
 use Rattle.std.proofs.Common.{◌≡◌, ◌+◌, ◌<◌, ◌≤◌, ◌∷◌, ◌++◌}
