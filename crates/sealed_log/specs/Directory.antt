@@ -21,11 +21,11 @@ use Rattle.layout.specs.sealed.Root.{directory_sums}
 abbrev pub directory_length : ℕ → ℕ
 directory_length n = (n + 29) / 30
 
--- the entries of sector k: 30, but in the last
+-- the entries of sector k: 30, or fewer in the last sector
 abbrev pub piece : List Entry → ℕ → List Entry
 piece es k = take 30 (drop (30 * k) es)
 
--- the first k of the sectors from `at` on have the first entries
+-- the first k sectors from `at` on contain the entries up to that sector
 abbrev pub HaveEntries : Image → ℕ → List Entry → ℕ → Type 0
 HaveEntries image at es k = (j : ℕ) → j < k → image (at + j) ≡ entries_bytes (piece es j)
 
@@ -37,52 +37,52 @@ AreEntries image at es = HaveEntries image at es (directory_length (length es))
 abbrev pub seal_in : List ℕ → Sums
 seal_in sector = sums_of (body_of sector)
 
--- the seals of the first k sectors, the last first
+-- the seals of the first k sectors, the last one first
 abbrev pub seals_of : List Entry → ℕ → List Sums
 seals_of es zero = []
 seals_of es (suc k) = seal_in (entries_bytes (piece es k)) ∷ seals_of es k
 
--- the directory sums of the entries: those of the seals of all sectors
+-- the sums of a directory: those of all its sectors' seals
 abbrev pub sums_of_entries : List Entry → Sums
 sums_of_entries es = directory_sums (seals_of es (directory_length (length es)))
 
--- nothing was touched but the n sectors from `at` on, in which a crash may leave any bytes
+-- only the n sectors from `at` on may have changed; a crash may leave any bytes in them
 pub record TouchesAt (at n : ℕ) (old new : Disk) : Type 0 where
   pub size : new.sectors ≡ old.sectors
   pub elsewhere : Elsewhere at n old.seen new.seen
   pub crash : Tears at n old new
   pub any_moment : LeavesOnly old new (λ c. IsTorn at n old c)
 
--- what was read of one sector of n entries: its entries and its seal, or nothing where it has none
+-- these bytes are a sector of n entries with this seal, or no such sector
 abbrev pub IsPieceIn : List ℕ → ℕ → List Entry → Option Sums → Type 0
 IsPieceIn bytes n es (Some seal) = (bytes ≡ entries_bytes es) × (seal ≡ seal_in bytes)
 IsPieceIn bytes n es None = (ds : List Entry) → length ds ≡ n → AllFitting ds → bytes ≡ entries_bytes ds → ⊥
 
--- what was read of all of them
+-- the sectors from `at` on contain n entries with these sums, or no n entries
 abbrev pub AreEntriesIn : Image → ℕ → ℕ → List Entry → Option Sums → Type 0
 AreEntriesIn image at n es (Some sums) = AreEntries image at es × (sums ≡ sums_of_entries es)
 AreEntriesIn image at n es None = (ds : List Entry) → length ds ≡ n → AllFitting ds → AreEntries image at ds → ⊥
 
--- the sectors from `at` on are those of the entries, which are a directory and have these sums
+-- the sectors from `at` on contain the entries, which are a directory with these sums
 pub record HasEntries (image : Image) (at : ℕ) (g : Geometry) (sums : Sums) (es : List Entry) : Type 0 where
   pub fits : IsDirectory g es
   pub sectors : AreEntries image at es
   pub sums_are : sums_of_entries es ≡ sums
 
--- why no directory of n entries is read: the sectors are none with these sums
+-- why a directory of n entries isn't read: the device failed, or the sectors contain none with these sums
 abbrev pub IsBadDirectory : Image → ℕ → Geometry → Sums → ℕ → OpenFault → Type 0
 IsBadDirectory image at g sums n Failed = ⊤
 IsBadDirectory image at g sums n NoMemory = ⊥
 IsBadDirectory image at g sums n (Bad reason) = (reason ≡ BadDirectory) ×
     ((es : List Entry) → length es ≡ n → HasEntries image at g sums es → ⊥)
 
--- why entries that were read are refused: the sectors have none, or other sums, or they are no directory
+-- why entries that were read are refused: a sector contained none, the sums differ, or they are no directory
 pub record IsNoDirectory (g : Geometry) (found : Option Sums) (sums : Sums) (es : List Entry) (e : BadImage)
     : Type 0 where
   pub reason : e ≡ BadDirectory
   pub none : found ≡ Some sums → AllFitting es × (IsDirectory g es → ⊥)
 
--- a directory that was written is read, and nothing else, and it isn't refused
+-- a directory that was written is read back, as no other directory, and isn't refused
 abbrev pub DirectoriesAreReadBack : Type 0
 DirectoriesAreReadBack = (image : Image) (at : ℕ) (g : Geometry) (es : List Entry) → IsDirectory g es →
     AreEntries image at es →

@@ -1,6 +1,6 @@
-//! Version 3 on a device: its headers, in three slots with numbered gates, its directories, and its units: frames of
-//! pages and clusters of nodes. `publish` commits a header with two syncs: a crash at any moment leaves the old header
-//! committed, or the new one.
+//! Version 3 on a device: headers in three slots with numbered gates, directories, and units (frames of
+//! pages, and clusters of nodes). `publish` commits a header with two syncs: a crash at any moment leaves the
+//! old header committed, or the new one.
 #![tactic(auto)]
 
 mod closing;

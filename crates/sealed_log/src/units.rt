@@ -40,8 +40,8 @@ fn page_seal(frame: &[u8]) -> Sums
 /// Writes a page's frame into the 9 sectors from `at` on, and returns its seal: that of its header sector. The words
 /// lie in `frame` from byte 512 on; the header sector is written into its first 512 bytes.
 ///
-/// For all other sectors it keeps their bytes and adds nothing to what a crash may leave in them. It allocates nothing.
-/// Returns `Failed` exactly if the device failed; then the 9 sectors may hold any bytes.
+/// All other sectors keep their bytes, and what a crash may leave in them doesn't change. It allocates
+/// nothing. Returns `Failed` exactly if the device failed; then the 9 sectors may hold any bytes.
 pub fn write_page<D: Device>(
     device: &mut D,
     at: u64,
@@ -65,9 +65,9 @@ pub fn write_page<D: Device>(
 /// Reads a page's frame from the 9 sectors from `at` on into `frame`, and returns its header and its seal. It allocates
 /// nothing.
 ///
-/// Returns `Failed` exactly if the device failed. Returns `BadFrame` exactly if the sectors are no frame that an image
-/// of this age may have at the number of a page: the header sector isn't sealed or spells no such header, or the words
-/// have other sums than it says. After `Failed`, `frame` may hold any bytes.
+/// Returns `Failed` exactly if the device failed. Returns `BadFrame` exactly if the sectors are no frame that
+/// an image of this age may have at the number of a page: the header sector isn't sealed or encodes no such
+/// header, or its sums aren't those of the words. After `Failed`, `frame` may hold any bytes.
 #[tactic(auto, using(crate::proofs::Written::page_refused))]
 pub fn read_page<D: Device>(
     device: &mut D,
@@ -90,11 +90,12 @@ pub fn read_page<D: Device>(
     }
 }
 
-/// Seals a cluster, writes it into the 8 sectors from `at` on, and returns its seal. The frames of its `nodes` nodes,
-/// at most 5, lie in `cluster`, 800 bytes each; the bytes after them are set.
+/// Seals a cluster, writes it into the 8 sectors from `at` on, and returns its seal. The frames of its
+/// `nodes` nodes, at most 5, lie in `cluster`, 800 bytes each; the bytes after them are written by this
+/// function.
 ///
-/// For all other sectors it keeps their bytes and adds nothing to what a crash may leave in them. It allocates nothing.
-/// Returns `Failed` exactly if the device failed; then the 8 sectors may hold any bytes.
+/// All other sectors keep their bytes, and what a crash may leave in them doesn't change. It allocates
+/// nothing. Returns `Failed` exactly if the device failed; then the 8 sectors may hold any bytes.
 pub fn write_cluster<D: Device>(
     device: &mut D,
     at: u64,
