@@ -1,4 +1,4 @@
-//! Laws of what a crash during a write of an image leaves. Each is the contract of a function that does
+//! Laws of what a crash leaves while an image is being written. Each is the contract of a function that does
 //! nothing.
 
 ghost use Rattle.image_writer.specs.Laws.{KeptHoldsTheSame, NoneIsHeld};
