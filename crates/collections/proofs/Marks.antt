@@ -242,7 +242,7 @@ marks_put count n b words new put =
           sym (ap (λ d. nat_eq d 1) (put.others m differs))
     ]))
 
--- ---- the methods: what is seen of the words, and what is known of them
+-- ---- facts for the methods of a set: its marks, from its words and their summary
 
 module _ (count : ℕ) (words summary : List ℕ) (sums : IsSummed count words summary) (marks : List Bool)
     (is_marks : marks_of count words ≡ marks) where

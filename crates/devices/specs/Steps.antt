@@ -15,7 +15,7 @@ events_of Synced = synced ∷ []
 events_of Cut = cut Keep ∷ []
 events_of Failed = []
 
--- the bytes that the file held at first; a step `Held` extends what is known of them
+-- the bytes that the file held at first; a step `Held` reports more of them
 abbrev pub first_after : List ℕ → Step → List ℕ
 first_after first (Held bytes) = first ++ bytes.now
 first_after first (Wrote at bytes) = first

@@ -7,8 +7,8 @@ ghost use Rattle.devices.specs.Codes.{coded_event};
 
 use std::marker::Model;
 
-/// What a file held when it was opened, all that was done to it since, and how many calls have failed. It is
-/// ghost: it takes no bytes, however long it is.
+/// What a file held when it was opened, all that was done to the file since, and how many calls have failed.
+/// A history is ghost: it takes no bytes, however long it is.
 #[derive(Drop)]
 pub struct History {
     pub ghost first: { List ℕ },

@@ -1,7 +1,7 @@
-//! Devices with a record of what was done to them. `Memory` is one in memory, made with the outcome of its power
-//! cuts; `Fuse` makes any device stop after some calls. A device in a file has all of its sectors but those of zeros
-//! copied into memory when it is opened: reads are answered from the copy, and writes go to the file and to the copy.
-//! There ghost data is the record, so it takes no memory.
+//! Devices with a record of what was done to them. `Memory` is a device in memory, made with the outcome of
+//! its power cuts. `Fuse` makes any device fail after some calls. A device in a file copies its sectors into
+//! memory when it is opened, except sectors of zeros: reads are answered from the copy, and writes go to the
+//! file and to the copy. Its record is ghost, so it takes no memory.
 #![tactic(auto)]
 
 mod fault;

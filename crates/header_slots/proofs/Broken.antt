@@ -45,7 +45,7 @@ lost_header slot old new s t was others gate broken is =
     let gap : t + 1 ≡ s → ⊥ = not_before slot old new s t was others gate is in
     elim (cases_eq (t % 3) ((s + 1) % 3)) [
       | inl third ↦
-          -- then t - 1 lies in the slot of s, so it is s
+          -- t - 1 is in the slot of s, so t - 1 is s
           let elsewhere = is_known old s (t - 1) was.pair.positive was.pair.counts was.pair.neighbour neighbour in
           elim (elsewhere (λ e. omega (arith, e, third, above))) [
             | inl here ↦ absurd (omega (arith, here, most, above))

@@ -393,7 +393,7 @@ pub home_between : {p : Plan} {a b n : ℕ} → IsPlan p → IsObject p.geometry
     home_place p a ≡ home_place p n → home_place p b ≡ home_place p n
 home_between {p} {a} {b} {n} fits is_a is_n low high same = grind (arith, nat_tests, one_range, place_is, found_too)
 
--- the bytes written to a home are those that its sectors then hold
+-- if bytes were written to the sectors of a home, the home contains them
 pub bytes_home : (p : Plan) (number : ℕ) {at n : ℕ} {s : Shape} {bytes : List ℕ} (image : Image) → at ≡ home_place p number →
     s ≡ shape_of p number → n ≡ shape_length s → sectors_from image at n ≡ bytes →
     sectors_from image (home_place p number) (place_length p number) ≡ bytes

@@ -3,8 +3,8 @@
 
 ghost use Rattle.image_writer.specs.Laws.{KeptHoldsTheSame, NoneIsHeld};
 
-/// If only the gates of an image changed, and it still has the same committed header, it holds the same saved frames;
-/// if it held none, it holds none.
+/// If only the gates of an image changed, and the committed header is the same, the image holds the same
+/// saved frames, or none as before.
 pub fn kept_holds_the_same()
     ensures { KeptHoldsTheSame }
 {}

@@ -59,7 +59,7 @@ is_node n nodes lt = grind (arith, nat_tests)
 is_page : (n nodes : ℕ) → nodes ≤ n → nat_lt n nodes ≡ false
 is_page n nodes le = grind (arith, nat_tests)
 
--- a frame's bytes beyond those that its block holds are zeros
+-- the bytes of a frame that its block leaves out are zeros
 rest_of : (g : Geometry) (n : ℕ) (s : Shape) (f : Frame) (bytes : List ℕ) → IsShapeFor g n s → bytes ≡ frame_bytes g n f →
     length bytes ≡ 512 * frame_length g n → (s.bytes ≤ length bytes) × (drop s.bytes bytes ≡ zeros (length bytes - s.bytes))
     × (length bytes - s.bytes ≡ 1024 - s.bytes)

@@ -148,7 +148,7 @@ two_differ i x y rx ry burst =
     (λ k ge. same_number x y k (λ j small. same_byte x y (8 * k + j) (are_bytes x rx.bytes) (are_bytes y ry.bytes) (λ b few.
     burst.after (8 * (8 * k + j) + b) (omega (arith, ge, small, few)))))
 
--- so a burst changes the copies of a number by at most two
+-- facts about two rows that differ in a burst: the copies of a number differ by at most two
 module _ (i : ℕ) (x y : List ℕ) (rx : IsRow x) (ry : IsRow y) (burst : DifferInBurst i x y) where
   sizes : length (gate_numbers x) ≡ length (gate_numbers y)
   sizes = length_numbers x ∙ sym (length_numbers y)

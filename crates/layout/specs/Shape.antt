@@ -14,7 +14,7 @@ node_shape v rank = record {
   bytes = (row v).node_bytes;
 }
 
--- a page's frame is a block of its own
+-- a page's frame fills its block
 abbrev pub page_shape : Shape
 page_shape = record { sectors = 9; offset = 0; bytes = 4608 }
 

@@ -116,7 +116,7 @@ AreCurrent fs = (n : ℕ) → All (IsCurrent (headers fs)) (caps_in (frame_at fs
 abbrev pub world_at : ℕ → List Frame → World
 world_at age fs = record { objects = objects_of fs; age = age }
 
--- frames that can be kept and stand for a sound world
+-- frames that can be kept, and whose world is sound
 pub record IsSoundFrames (g : Geometry) (age : ℕ) (fs : List Frame) : Type 0 where
   pub keepable : AreKeepable g age fs
   pub current : AreCurrent fs

@@ -202,7 +202,7 @@ abbrev pub Reopens : Geometry → List Saved → Answer → Machine → Type 0
 Reopens g saved a after =
     (at : Saved) × Contains saved at × (a ≡ answer.At at.generation at.world.age) × (after ≡ Up (opened g at))
 
--- whether a command opens the device again; whether it takes memory
+-- whether a command opens the device again; whether it needs memory
 abbrev pub opens : Command → Bool
 opens command.Restart = true
 opens command.Cut = true

@@ -2,7 +2,7 @@
 use crate::capability::Cap;
 use crate::object::{Content, Role};
 
-/// What is known of an object besides its content, whether or not the content is in memory.
+/// The data about an object besides its content. It is in memory whether or not the content is.
 #[derive(Clone, Copy)]
 pub struct ObjectHeader {
     /// What the object is.

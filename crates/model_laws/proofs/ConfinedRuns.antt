@@ -124,7 +124,7 @@ record IsWithin (g : Geometry) (inside : ℕ → Bool) (os : List Object) (s : R
   sound : IsSound g s.now
   stays : StaysWithin inside os s.now.objects
 
--- the same for any machine; a machine that is down has nothing to satisfy
+-- the same for a machine that is up; a machine that is down has nothing to satisfy
 abbrev MachineWithin : Geometry → (ℕ → Bool) → List Object → Machine → Type 0
 MachineWithin g inside os (Up s) = IsWithin g inside os s
 MachineWithin g inside os (Down saved) = Unit {0}

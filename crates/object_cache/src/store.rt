@@ -41,7 +41,7 @@ pub struct Store<D: Device, P: Policy> {
     entries: Entries,
     /// The numbers whose frozen frame isn't in the log.
     pending: NumberSet,
-    /// The headers of pending numbers as they were frozen.
+    /// The headers of pending numbers at the freeze.
     frozen_headers: FrozenHeaders,
     /// How many objects of the frozen checkpoint `stabilize` has yet to reach.
     left: u64,

@@ -207,7 +207,7 @@ module _ (old : Slots) (o : Order) (is : IsOrder old o) where
                       other_gate old low.0 t low.2 slot (λ e. omega (arith, e, less));
                 }
             | inr elsewhere ↦
-                -- then t - 1 is in the last slot, and the header in the second slot has a lesser number
+                -- t - 1 is in the last slot, and the header in the second slot has a lesser number
                 let here : t % 3 ≡ o.second =
                 omega (arith, elsewhere, not_t, is.first_low, is.second_low, is.third_low, is.apart, is.first_apart, is.second_apart) in
                 let last : (t - 1) % 3 ≡ o.third =

@@ -246,7 +246,7 @@ pub record IsAsWide (s t : BanksState) : Type 0 where
   pub annexes : length t.annexes ≡ length s.annexes
   pub room : t.room ≡ s.room
 
--- for each object that passes a test, the list has its number, at the object's index
+-- for each object that passes a test, the list has at its index the number computed from its content
 abbrev pub HasEach : (Content Capability → Bool) → (Content Capability → ℕ) → List Object → List ℕ → Type 0
 HasEach passes number os xs = (x : ℕ) → IsTrue (passes (content_at os x)) → slice_index xs x ≡ number (content_at os x)
 
