@@ -54,7 +54,7 @@ without_in_turn n (m ∷ ms) order none =
     without_in_turn n ms (m ∷ without m order) apart.1
     ∙ ap (used_in_turn ms) (without_tail n m (without m order) apart.0 ∙ ap (λ (rest : List ℕ). m ∷ rest) (without_both n m order apart.0))
 
--- ---- used again in the same turn
+-- ---- numbers that are used again
 
 -- uses in turn don't depend on an earlier use of a number that is used again later
 used_later : (n : ℕ) (ns xs ys : List ℕ) → is_member ns n ≡ true → without n xs ≡ without n ys → used_in_turn ns xs ≡ used_in_turn ns ys
@@ -174,7 +174,7 @@ spread_in_turn (n ∷ ns) s listed are =
 pub spread_uses : (s t : OrderState) (ns : List ℕ) (said : Bool) → Uses s t ns said → AreSpread s → AreSpread t
 spread_uses s t ns said uses are = subst AreSpread (sym uses.used) (spread_in_turn (take uses.count ns) s uses.listed are)
 
--- ---- all places, in another order
+-- ---- all places, after one was used
 
 module _ {keys : List ℕ} {count : ℕ} (are : IsFilled keys count) (p : ℕ) (has : is_member keys p ≡ true) where
   pub filled_front : IsFilled (p ∷ without p keys) count

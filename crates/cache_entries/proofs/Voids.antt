@@ -22,7 +22,7 @@ all_void slots end index count past before from =
     let void : get_or slots k void_held ≡ void_held = grind (arith, before k, from.1 k) in
     get_or_default slots k d void_held within ∙ void ∙ sym (get_or-replicate 32 k void_held d (omega (arith, count, within))))
 
--- ---- by place
+-- ---- the slots at a place
 
 some_unwrapped : (o : Option (List Cap)) → is_some o ≡ true → o ≡ Some (unwrap_or o [])
 some_unwrapped None is = absurd (true≢false (sym is))

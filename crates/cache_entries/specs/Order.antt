@@ -47,7 +47,7 @@ used_last n s = record { numbers = n ∷ without n s.numbers; places = s.places;
 abbrev pub used_all : List ℕ → OrderState → OrderState
 used_all ns s = record { numbers = used_in_turn ns s.numbers; places = s.places; most = s.most }
 
--- the order contains each number that has a place, once; no two numbers have the same place
+-- the order contains exactly the numbers that have a place, each once; no two have the same place
 pub record AreSpread (s : OrderState) : Type 0 where
   pub listed : (n : ℕ) → is_member s.numbers n ≡ is_some (place_at s.places n)
   pub once : AllDiffer s.numbers

@@ -4,7 +4,7 @@ use Rattle.ckpt_log.proofs.Names.{Image, Disk, LeavesOnly, Peeks, leaves_on, lea
 use Rattle.std.proofs.Common.{◌≡◌}
 use Rattle.ckpt_log.proofs.Runs.{IsClosing}
 
--- ---- what a closing leaves
+-- ---- which header is committed while the gates are being closed
 
 -- while the lesser header's gate is being closed, a crash leaves the same committed header, or none
 pub closing_first : (slot : HeaderSlot) {old c : Image} → IsLesser old slot → IsClosing (gate_at slot) old c → KeepsOrHasNone old c
@@ -25,7 +25,7 @@ none_committed image shut = grind (arith, nat_tests)
 pub keeps_same : {old new : Image} → Agrees new old → KeepsOrHasNone old new
 keeps_same {old} {new} same = subst (KeepsOrHasNone old) (sym (agrees_is new old same)) untouched
 
--- ---- at each moment
+-- ---- at each moment of the call
 
 -- the run that closes the first gate leaves only images with the same committed header, or none
 pub first_run : (slot : HeaderSlot) {at : ℕ} {image : Image} {old new : Disk} → at ≡ gate_at slot → IsLesser image slot →

@@ -20,7 +20,7 @@ counts_at image k = does_count (image (1 + 2 * k)) (image (2 + 2 * k)) k
 abbrev pub number_at : Image → ℕ → ℕ
 number_at image k = sequence_in (image (1 + 2 * k))
 
--- ---- the committed one
+-- ---- the committed header
 
 -- the header in slot k counts; the other doesn't, or its number isn't greater
 pub record Wins (image : Image) (k : ℕ) : Type 0 where

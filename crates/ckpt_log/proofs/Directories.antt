@@ -42,7 +42,7 @@ pub entries_written : (image : Image) (at n : ℕ) {k long : ℕ} {run bytes : L
 entries_written image at n {k} {long} {run} {bytes} same written front =
     rw (sym same) (ap (take (16 * n)) written ∙ front)
 
--- ---- what was written is read
+-- ---- frames and directories are read back as written
 
 slot_not_refused : {g : Geometry} {age object : ℕ} {f : Frame} (e : OpenFault) → IsFrameOf g age object (frame_bytes g object f) f →
     IsRefused g age object (frame_bytes g object f) e → e ≡ Failed

@@ -42,7 +42,7 @@ pub publishing_run : {h : CheckpointHeader} {image mid_image : Image} {old mid n
     LeavesOnly old new (λ c. IsOldOrNew h image c)
 publishing_run {h} {image} {mid_image} {old} {mid} {new} kept first second = grind (arith, nat_tests)
 
--- ---- from a disk whose writes aren't durable
+-- ---- a commit after unsynced writes
 
 abbrev pub IsOldOrCommitted : CheckpointHeader → Disk → Image → Type 0
 IsOldOrCommitted h disk c = IsOld h disk c ⊎ HasNew h disk.seen c

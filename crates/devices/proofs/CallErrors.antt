@@ -62,7 +62,7 @@ one_is_some None b (n, inr is) e some none = absurd (not_known e (sym is.1 ∙ s
 one_is_some (Some a) b (n, inl is) e some none = omega (arith, ap failed_of (sym some ∙ is), none)
 one_is_some (Some a) b (n, inr is) e some none = omega (arith, ap interrupted_of (sym some ∙ is.1), is.0)
 
--- a call that returned an error failed
+-- if a call returned an error, a call of the file failed
 pub cause_is_some : {T E : Type 0} (a b : Option CallErrors) (r : Result T E) → HasCause a b r → false ≡ is_ok r → HasFailed b
 cause_is_some {T} {E} a b (Ok x) cause err = cc
 cause_is_some {T} {E} a b (Err x) cause err = one_is_some a b cause

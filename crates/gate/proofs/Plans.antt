@@ -289,7 +289,7 @@ object_planned g os us i caller plan args first list same now few fits is enough
           (for_target os c args kind (λ p process. (now.frame.annexes p process).0) plan.change for_os);
     })
 
--- a bank's order, requested by its number
+-- order w on a bank is the bank's order with this number
 bank_ordered : (g : Geometry) (os : List Object) (b w : ℕ) (requested : BankOrder) (args : Arguments) → bank_order w ≡ Some requested →
     order g os (Bank b) w args ≡ on_bank g os b requested args
 unfolding order

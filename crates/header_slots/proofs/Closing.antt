@@ -6,7 +6,7 @@ use Rattle.header_slots.specs.Closing.{OldThirdFirst, OtherThirdLast, TearsGateO
 use Rattle.header_slots.specs.Slots.{Counts, IsCommitted, Opens, Slot, Slots}
 use Rattle.header_slots.proofs.Counting.{below_greatest}
 
--- ---- headers stay
+-- ---- writes of gates keep the headers
 
 abbrev HeadersStay : Slots → Slots → Type 0
 HeadersStay old new = (k : ℕ) → ((new k).header ≡ (old k).header) × ((new k).bytes ≡ (old k).bytes)

@@ -4,7 +4,7 @@ use Rattle.home_ranges.proofs.Names.{entry_at, home_place, slot_in, slot_beside,
 use Rattle.std.proofs.Common.{◌≡◌, ◌<◌, ◌∷◌, ◌∙◌}
 use Rattle.std.specs.Prelude.{if◌then◌else◌}
 
--- ---- the first entry whose home is that of an object
+-- ---- the first entry whose object shares a home with object n
 
 pub beside_here : (p : Plan) (e : Entry) (es : List Entry) (n : ℕ) → home_place p e.object ≡ home_place p n →
     slot_beside p (e ∷ es) n ≡ Some e.slot
@@ -32,7 +32,7 @@ found_beside p (e ∷ es) n s is = elim (cases_eq (home_place p e.object) (home_
       record { index = suc rest.index; within = omega (arith, rest.within); home_is = rest.home_is; slot_is = rest.slot_is }
 ]
 
--- ---- the slot of an object, or else that one
+-- ---- an object's own slot or, if it has none, the slot of that entry
 
 frame_slot_by : (p : Plan) (es : List Entry) (n : ℕ) {own : Option ℕ} → slot_in es n ≡ own →
     frame_slot_in p es n ≡ or_beside own (slot_beside p es n)

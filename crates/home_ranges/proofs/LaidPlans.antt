@@ -42,7 +42,7 @@ follow_within total at (e ∷ es) low high follow zero d lt = grind (arith, nat_
 follow_within total at (e ∷ es) low high follow (suc k) d lt = follow_within total (at + e.length) es (omega (arith, low)) high follow.1 k d
     (omega (arith, lt))
 
--- ---- ranges that are laid, and what lies after them
+-- ---- ranges that are laid out, and the extents after them
 
 laid_follow : (v : Version) (g : Geometry) (at : ℕ) (rs : List NumberRange) (es : List Extent) → Follow (behind v g at rs) es →
     Follow at (map (range_extent v g) (laid v g at rs) ++ es)

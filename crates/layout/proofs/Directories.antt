@@ -82,7 +82,7 @@ entry_written es i e old mid new lt before first second is = grind (arith, nat_t
 abbrev pub RisingBelow : List Entry → ℕ → Type 0
 RisingBelow es i = (k : ℕ) → k + 1 < i → (entry_at es k).object < (entry_at es (k + 1)).object
 
--- ---- slots apart
+-- ---- slots that differ
 
 -- `used` marks exactly the slots of the first i entries, and these slots differ
 pub record IsUsed (es : List Entry) (used : List Bool) (i : ℕ) : Type 0 where

@@ -99,7 +99,7 @@ slots_put old mid new caps k few len size is put =
     front)
     ∙ ap (λ (m : ℕ). take 32 old ++ slots_bytes caps ++ zeros m) less
 
--- ---- its role and its slots decide a content
+-- ---- a content is determined by its role and its slots
 
 state_again : (s : State) → state_in (state_number s) ≡ s
 state_again s = grind (arith, nat_tests)

@@ -113,7 +113,7 @@ keepable_node g age n f lt is = grind (arith, nat_tests, front_of, slots_kept, f
 pub keepable_page : (g : Geometry) (age n : ℕ) (f : Frame) → g.nodes ≤ n → IsKeepable g age n f → IsPageFrame age f
 keepable_page g age n f le is = record { front = front_of g age f is.kept; holds = holds_page g age n f.content le is.kind is.kept.content }
 
--- ---- their bytes
+-- ---- the bytes of frames
 
 node_bytes : (g : Geometry) (n : ℕ) (f : Frame) → n < g.nodes → frame_bytes g n f ≡ node_frame_bytes f
 node_bytes g n f lt = ap (λ (b : Bool). if b then node_frame_bytes f else page_frame_bytes f) (lt-ltb n g.nodes lt)

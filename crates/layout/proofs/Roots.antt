@@ -43,7 +43,7 @@ unit_less number seal root result us a b c is was =
     (sum_less result.b (w * seal.b) (units_total (λ s. s.b) us) b (ap (λ (s : Sums). s.b) same))
     (sum_less result.c (w * seal.c) (units_total (λ s. s.c) us) c (ap (λ (s : Sums). s.c) same))
 
--- ---- what 2^k divides
+-- ---- divisibility by 2^k
 
 product : (u d : ℕ) → (2 * u + 1) * d ≡ 2 * (u * d) + d
 product u d = add-mul (2 * u) 1 d ∙ ap (λ (x : ℕ). x + 1 * d) (mul_assoc 2 u d) ∙ omega arith

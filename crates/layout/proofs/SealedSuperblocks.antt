@@ -77,7 +77,7 @@ row_put row rs copied old put size front is =
     put_behind whole put 8 ∙ ap (λ (t : List ℕ). t ++ put) (take_at copied (drop 8 old) 8 eight) ∙ ap (λ (t : List ℕ). t ++ put) front
     ∙ ap (λ (t : List ℕ). front_numbers row ++ t) is
 
--- numbers from an index on: the first n of them, and then the rest
+-- the numbers from an index on are the first n of them, and then the rest
 front_listed : (n at : ℕ) (ns : List ℕ) → at + n ≤ length ns → drop at ns ≡ listed at n ns ++ drop (at + n) ns
 front_listed zero at ns room = ap (λ (m : ℕ). drop m ns) (omega arith)
 front_listed (suc n) at ns room =

@@ -131,17 +131,17 @@ HasBadGeometry image = (p : Plan) → IsPlan p → image 0 ≡ superblock_bytes 
 abbrev pub HasNoHeader : Image → Type 0
 HasNoHeader image = committed_slot image ≡ None
 
--- 5: the sector of the committed header encodes no header
+-- 5: the bytes of the committed header encode no valid header
 abbrev pub HasBadHeader : Image → Plan → Type 0
 HasBadHeader image p = (h : CheckpointHeader) → IsHeader p.geometry.log h →
     committed_bytes image ≡ Some (header_bytes h) → ⊥
 
--- 6: the sectors of the directory encode no directory
+-- 6: the bytes of the directory encode no valid directory
 abbrev pub HasBadDirectory : Image → Plan → CheckpointHeader → Type 0
 HasBadDirectory image p h = (es : List Entry) → IsDirectory p.geometry es → length es ≡ h.entries →
     directory_in image p h.generation h.entries ≡ directory_bytes es → ⊥
 
--- 7: the bytes of some object's frame encode no frame for its number
+-- 7: the bytes of some object's frame encode no valid frame for its number
 abbrev pub HasBadFrame : Image → Plan → CheckpointHeader → List Entry → Type 0
 HasBadFrame image p h es =
     (object : ℕ) × (object < p.geometry.nodes + p.geometry.pages)

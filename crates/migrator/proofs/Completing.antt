@@ -359,7 +359,7 @@ all_complete image p generation es each n s is_n none beside = search (arith, fo
 pub none_idle : (b : Books) (o : Option Unwritten) → MayHaveUnwritten b o → b.frozen_size ≡ None → o ≡ None
 none_idle b o has idle = grind (arith, nat_tests)
 
--- books without an unwritten cluster
+-- books with no unwritten cluster are valid
 pub without : (b : Books) {o : Option Unwritten} → o ≡ None → MayHaveUnwritten b o
 without b none = subst (MayHaveUnwritten b) (sym none) tt
 

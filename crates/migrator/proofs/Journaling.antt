@@ -74,7 +74,7 @@ header_read {old} {size} new {b} kept home {n} {at} lt place shape_is same is =
     ∙ ap (λ (bytes : List ℕ). (frame_from b.plan.geometry n bytes).header) same
     ∙ sym (ap (λ (f : Frame). f.header) (saved_read kept home lt))
 
--- ---- and no checkpoint is frozen
+-- ---- if all saved objects are home, and no checkpoint is frozen
 
 module _ {size : ℕ} {image : Image} {b : Books} (kept : IsIntact size image b) (free : b.frozen_size ≡ None) (home : b.header.entries ≡ 0)
   where

@@ -13,7 +13,7 @@ use Rattle.migrator.proofs.Names.{shape_bytes, one_frame, most, Unwritten, mende
 use Rattle.std.proofs.Common.{◌≡◌, ◌-◌, ◌<◌, ◌≤◌, ◌∷◌, ◌∙◌, ◌%◌, ◌+◌}
 use Rattle.std.specs.Prelude.{if◌then◌else◌, ◌&&◌}
 
--- ---- the first entry whose home is that of an object
+-- ---- the first entry whose object shares a home with object n
 
 pub none_beside : (p : Plan) (es : List Entry) (n : ℕ) → ((i : ℕ) → i < length es → home_place p (entry_at es i).object ≡ home_place p n →
     ⊥) → slot_beside p es n ≡ None

@@ -191,7 +191,7 @@ pub publishes_none : {T E U F : Type 0} {old new : Disk} {b c : Books} {next : S
     IsSoundOn old b → IsErr r → Counts {T = T} old new (Err e) → Publishes old new b c next r
 publishes_none {T} {E} {U} {F} {old} {new} {b} {c} {next} {e} {r} stays sound failed counts = grind (arith, nat_tests)
 
--- if the earlier calls succeeded, the publish decides
+-- if the earlier calls changed nothing stored, and succeeded, the result is that of the publish
 pub publishes_after : {T E : Type 0} {old mid new : Disk} {a b c : Books} {next after : Stored} {r : Result T E} → Stays old mid a b →
     IsSoundOn old a → mid.failures ≡ old.failures → next ≡ after → Publishes mid new b c next r → Publishes old new a c after r
 publishes_after {T} {E} {old} {mid} {new} {a} {b} {c} {next} {after} {r} stays sound none same is = grind (arith, nat_tests)

@@ -101,7 +101,7 @@ below_at s n = put_or (frozen_put s.frozen n) (frame_at s.saved.frames n)
 abbrev pub newest : Stored → ℕ → Frame
 newest s n = put_or (put_at s.working n) (below_at s n)
 
--- ---- what always holds
+-- ---- the invariant
 
 -- the homes of all objects that share the home of entry i have their saved frames
 abbrev pub IsHome : Image → Plan → ℕ → List Entry → ℕ → Type 0

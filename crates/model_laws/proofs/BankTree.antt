@@ -69,12 +69,12 @@ pub chain_length : (os : List Object) (b : ℕ) → length (chain os b) ≤ 16
 unfolding chain
 chain_length os b = within_length os 16 b
 
--- the chain of the prime bank
+-- the chain of the prime bank is the prime bank alone
 pub chain_prime : (os : List Object) → chain os 0 ≡ 0 ∷ []
 unfolding chain
 chain_prime os = within_end os 15 0 refl
 
--- the chain of number 0
+-- the chain of number 0 is number 0 alone
 pub chain_zero : (os : List Object) (b : ℕ) → b ≡ 0 → chain os b ≡ b ∷ []
 unfolding chain
 chain_zero os b end = within_end os 15 b end
@@ -146,13 +146,13 @@ module _ (os : List Object) (t : IsTree os) where
 
 -- a new object at a free number
 
--- the object at the new object's number
+-- the new object is at its number
 pub at_new : (os : List Object) (n b : ℕ) (c : Content Capability) → n < length os →
     object_at (with_new os n b c) n ≡ record { owner = b; content = c }
 unfolding with_new
 at_new os n b c inside = get_or-set_same os n (record { owner = b; content = c }) free inside
 
--- the object at any other number
+-- the object at any other number is unchanged
 pub at_other : (os : List Object) (n b : ℕ) (c : Content Capability) (x : ℕ) → x ≢ n → object_at (with_new os n b c) x ≡ object_at os x
 unfolding with_new
 at_other os n b c x differ = get_or-set_other os n x (record { owner = b; content = c }) free differ

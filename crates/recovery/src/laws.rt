@@ -25,7 +25,8 @@ pub fn denoted_is_not_bad()
     ensures { DenotedIsNotBad }
 {}
 
-/// If none of the ten reasons holds for an image, it denotes a saved state. So no other reason is needed.
+/// If none of the ten reasons holds for an image, it denotes a saved state. So the ten are all reasons to
+/// refuse an image.
 #[tactic(auto, using(crate::proofs::Complete::not_bad_denoted))]
 pub fn not_bad_is_denoted()
     ensures { NotBadIsDenoted }

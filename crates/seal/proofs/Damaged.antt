@@ -20,7 +20,7 @@ row_words row r =
     let small = sums_small row r in
     record { a = omega (arith, small.a); b = omega (arith, small.b); c = omega (arith, small.c) }
 
--- ---- a sealed row is its body and their sums
+-- ---- a sealed row is its body and the body's sums
 
 pub bodies_decide : BodiesDecideSeals
 bodies_decide x y sx sy same =

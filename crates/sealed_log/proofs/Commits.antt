@@ -131,7 +131,7 @@ module _ (before h : SealedHeader) (next : before.header.sequence + 1 ≡ h.head
           gate = ((are_slots c).gate ((s + 1) % 3) (s + 1)).1 here;
         }))
 
--- ---- from a disk whose writes aren't durable
+-- ---- a commit after unsynced writes
 
 -- if a header is committed in both images, each header committed in the first is committed in the second
 stays_by : (seen c : Image) (before : SealedHeader) → Commits seen before → Commits c before → StaysCommitted seen c
@@ -233,7 +233,7 @@ module _ {h : SealedHeader} {old mid : Disk} (ready : IsReady h old mid) where
 pub durable_one : (disk : Disk) → Only disk.seen disk → CommitsOne disk
 durable_one disk only = λ c left h is. subst (λ (image : Image). Commits image h) (sym (agrees_is c disk.seen (only c left))) is
 
--- ---- headers of numbers that fit
+-- ---- headers whose numbers fit 64 bits
 
 abbrev Fits : ℕ → Type 0
 Fits n = n < 2 ^ 64

@@ -8,7 +8,7 @@ use Rattle.header_slots.proofs.Counting.{counts_after, counts_before, one_each}
 use Rattle.sealed_log.specs.Closing.{IsOrder}
 use Rattle.sealed_log.specs.declared.closing.Order.{Order}
 
--- ---- headers stay
+-- ---- writes of gates keep the headers
 
 abbrev HeadersStay : Slots → Slots → Type 0
 HeadersStay old new = (k : ℕ) → ((new k).header ≡ (old k).header) × ((new k).bytes ≡ (old k).bytes)
@@ -48,7 +48,7 @@ other_gate : (slots : Slots) (m t : ℕ) → Counts slots m → (t + 1) % 3 ≡ 
     (slots ((t + 1) % 3)).gate ≡ Some (t + 1) → ⊥
 other_gate slots m t is e other gate = other (same_Some (t + 1) m (sym gate ∙ ap (λ (k : ℕ). (slots k).gate) e ∙ is.gate))
 
--- ---- in order
+-- ---- gates that are closed in order
 
 module _ (old : Slots) (o : Order) (is : IsOrder old o) where
   -- if a header counts in another slot, one with a lesser number counts in the first slot

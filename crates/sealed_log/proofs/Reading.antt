@@ -27,7 +27,7 @@ use Rattle.sealed_log.specs.Reading.{AreRead, HasNoneBy, IsChosen, IsGateIn, IsH
 use Rattle.sealed_log.proofs.Deciding.{one_number}
 use Rattle.sealed_log.proofs.Slots.{are_slots, same_option, slots_in}
 
--- the numbers of three slots, one by one
+-- the numbers of a list of three slots are those of its items
 pub three_numbers : (xs : List HeaderSlot) (d : HeaderSlot) → length xs ≡ 3 →
     map numbers_of xs ≡ numbers_of (get_or xs 0 d) ∷ numbers_of (get_or xs 1 d) ∷ numbers_of (get_or xs 2 d) ∷ []
 three_numbers [] d e = absurd (omega (arith, e))

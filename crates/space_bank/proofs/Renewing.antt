@@ -216,7 +216,7 @@ ended_carried {p} {q} {s} {t} asks gives released objects current keepable = rec
   keepable = keepable;
 }
 
--- the rest of a list after one more item
+-- if a list has x at index i, the rest after x is the list from i + 1 on
 
 drop_suc : (l : List ℕ) (i x : ℕ) (ys : List ℕ) → drop i l ≡ x ∷ ys → drop (suc i) l ≡ ys
 drop_suc [] zero x ys is = cc

@@ -183,7 +183,7 @@ module _ {os : List Object} (t : IsTree os) {b i c : ℕ} (at : Climbs os b i c)
         share_prime,
       )
 
--- adding only, or subtracting only
+-- a step of the proof: adding 0 in either case
 nothing : (is : Bool) → ◌≡◌ {A = ℕ} (if is then 0 else 0) 0
 nothing is = grind (arith, nat_tests)
 
@@ -409,12 +409,12 @@ module _ {g : Geometry} {os : List Object} (size : length os ≡ object_count g)
       twice : (is : Bool) → (if is then 2 else 0) ≡ (if is then 1 else 0) + (if is then 1 else 0)
       twice is = grind (arith, nat_tests)
 
--- raising usages, and then marking a number as taken
+-- if usages were raised, and then number n was marked as taken, `IsTaken` holds
 pub taken_one : {banks : List ℕ} {count n : ℕ} {s r t : BanksState} → IsRaised banks count s.usages r.usages →
     r ≡ record s { usages = r.usages } → IsMade r t n → IsTaken banks count s t (slice_set (marks_of s) n false)
 taken_one {banks} {count} {n} {s} {r} {t} raised kept made = grind (arith, nat_tests)
 
--- marking one more number as taken
+-- if one more number is marked as taken, `IsTaken` still holds
 pub taken_two : {banks : List ℕ} {count n : ℕ} {s r t : BanksState} {marks : List Bool} → IsTaken banks count s r marks → IsMade r t n →
     IsTaken banks count s t (slice_set marks n false)
 taken_two {banks} {count} {n} {s} {r} {t} {marks} taken made = grind (arith, nat_tests)
