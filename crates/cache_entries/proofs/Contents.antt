@@ -235,7 +235,7 @@ all_held ks ps ns free =
     (λ k below. get_or-replicate (length ks) k content.Free content.Free below
     ∙ sym (ap (λ (a : Kind). content_in a (item_at ps k) (item_at ns k)) (free k))))
 
--- at first no place has a body
+-- if all places are free, the content at each is `Free`
 pub none_held : (n : ℕ) (ks : List Kind) (ps : List (Option (List ℕ))) (ns : List (Option (List Cap))) → ks ≡ replicate n kind.Free →
     ps ≡ replicate n None → ns ≡ replicate n None →
     Puts ks ps ns (replicate n content.Free)

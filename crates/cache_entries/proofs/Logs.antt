@@ -70,7 +70,7 @@ module _ (uses : List ℕ) (i : ℕ) (start o p : OrderState) (below : i < lengt
 
 -- ---- a log of an order
 
--- moving a use from the log to the order changes nothing
+-- moving a use from the log to the order keeps s, the order that both represent together
 pub record Moves (l : LogState) (s p : OrderState) : Type 0 where
   pub same : used_all l.uses p ≡ s
   pub log : IsLogOf l p

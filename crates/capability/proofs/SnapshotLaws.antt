@@ -8,7 +8,7 @@ use Rattle.model.specs.declared.answer.Refusal.TheVariants as refusal
 
 module _ {S : Type 0} (parts : S → Parts) (Fetched Announced : S → ℕ → Type 0) (Continues : S → S → Type 0)
     (twice : (s t u : S) → Continues s t → Continues t u → Continues s u) where
-  -- two changes in a row leave unchanged what each of them does
+  -- two changes in a row leave unchanged what each of them leaves unchanged
   pub keeps_twice : (s t u : S) → KeepsRest parts Fetched Announced Continues s t → KeepsRest parts Fetched Announced Continues t u →
       KeepsRest parts Fetched Announced Continues s u
   keeps_twice s t u a b = grind (arith, nat_tests)

@@ -85,7 +85,7 @@ impl Frames for Plain {
     }
 
     fn fetch(&mut self, _numbers: &[u64]) -> Result<(), Failed> {
-        // Using a field brings in the invariant.
+        // For the proof: using a field brings in the invariant of the struct.
         let _geometry = self.geometry;
         Ok(())
     }

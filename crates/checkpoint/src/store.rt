@@ -40,8 +40,8 @@ pub trait ObjectStore<D: Device>: PresentFrames + Sized {
     /// Whether a store has this setting, such as the capacity of a cache.
     ghost is_set: { Self.Setting → Self → Type 0 };
 
-    /// Opens a device, and writes nothing to it. The present objects are the saved ones. The store uses what
-    /// it can of `memory`.
+    /// Opens a device, and writes nothing to it. The present objects are the saved ones. The store may take
+    /// over `memory`, instead of allocating its own.
     ///
     /// A refusal gives the device back, with `Failed` exactly if the device failed, `NoMemory` only if memory
     /// ran out, and else the least of reasons 1 to 7 to refuse an image.

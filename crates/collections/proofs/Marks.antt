@@ -249,12 +249,12 @@ module _ (count : ℕ) (words summary : List ℕ) (sums : IsSummed count words s
   count_is : length marks ≡ count
   count_is = sym (ap length is_marks) ∙ length_marks count words
 
-  -- the number of marks fits a machine number
+  -- the number of marks is below 2^64
   pub few_marks : length marks < 2 ^ 64
   few_marks = omega (arith, count_is, sums.fits)
 
   module _ (seen : List ℕ) (is_seen : seen ≡ words) where
-    -- a number is in a word
+    -- each number has a word
     pub has_word : (n : ℕ) → n < length marks → n / 64 < length seen
     has_word n within = omega (arith, count_is, ap length is_seen, sums.words_each)
 

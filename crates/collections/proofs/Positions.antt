@@ -143,6 +143,6 @@ module _ (n : ℕ) (at : List ℕ) (at_is : at ≡ replicate n n) where
       go zero = refl
       go (suc k) = ap (λ (os : List (Option X)). None ∷ os) (go k)
 
--- an empty vector, extended to n items of value d, is n times d
+-- an empty vector, extended to n items of value d, holds d n times
 pub filled : (n d k : ℕ) (xs at : List ℕ) → at ≡ take n xs ++ replicate (n - k) d → xs ≡ [] → k ≡ 0 → at ≡ replicate n d
 filled n d k xs at is none zero_is = grind (arith, nat_tests, take_all)

@@ -10,7 +10,7 @@ use Rattle.std.proofs.Common.{◌≡◌, ◌+◌, ◌-◌, ◌*◌, ◌≤◌, �
 pub adds_more : {X : Type 0} (a b c : Option (List X)) (xs ys : List X) → Adds a b xs → Adds b c ys → Adds a c (xs ++ ys)
 adds_more {X} a b c xs ys p q = grind (arith, nat_tests, append_assoc)
 
--- no call adds nothing
+-- without a call nothing is added
 pub adds_none : {X : Type 0} (a : Option (List X)) → Adds a a []
 adds_none {X} a = grind (arith, nat_tests, append-nil)
 
@@ -45,7 +45,7 @@ takes_on byte a b c bytes i n within t adds =
     let adds' : Adds b c (took (byte + length (take i bytes)) (take n (drop i bytes)) ∷ []) = grind (arith, nat_tests) in
     subst (Takes byte a c) (sym (take-add i n bytes)) (takes_more byte a b c (take i bytes) (take n (drop i bytes)) t adds')
 
--- if the first i bytes were taken, a beginning of the bytes was
+-- if the first i bytes were taken, a prefix of the bytes was
 pub takes_front : (byte : ℕ) (a b : Option (List Call)) (bytes : List ℕ) (i : ℕ) → Takes byte a b (take i bytes) → TakesFront byte a b bytes
 takes_front byte a b bytes i t = (t.0, drop i bytes, ap (λ (l : List ℕ). l ++ drop i bytes) t.1 ∙ take-append-drop i bytes, t.2)
 
@@ -56,7 +56,7 @@ taken_append byte (p ∷ ps) qs =
     ap (λ (l : List Call). took byte p ∷ l) (taken_append (byte + length p) ps qs
     ∙ ap (λ (n : ℕ). taken (byte + length p) ps ++ taken n qs) (omega (arith, length-append p (concat ps))))
 
--- if the first i bytes and then a beginning of the rest were taken, a beginning of all was
+-- if the first i bytes and then a prefix of the rest were taken, a prefix of all was
 pub takes_then : (byte : ℕ) (a b c : Option (List Call)) (bytes : List ℕ) (i : ℕ) → i ≤ length bytes → Takes byte a b (take i bytes)
     → TakesFront (byte + i) b c (take (length bytes - i) (drop i bytes)) → TakesFront byte a c bytes
 takes_then byte a b c bytes i within t f =
@@ -70,16 +70,16 @@ takes_then byte a b c bytes i within t f =
           (adds_more a b c (taken byte t.0) (taken (byte + i) f.0) t.2 f.3),
     )
 
--- a call that takes no byte takes a beginning, the empty one
+-- a call that takes no byte takes a prefix: the empty one
 pub takes_zero : (byte : ℕ) (a b : Option (List Call)) (bytes : List ℕ) → Adds a b (took byte (take 0 bytes) ∷ []) →
     TakesFront byte a b bytes
 takes_zero byte a b bytes adds = ([] ∷ [], bytes, refl, adds)
 
--- no call takes a beginning, the empty one
+-- without a call a prefix is taken: the empty one
 pub takes_nothing : (byte : ℕ) (a : Option (List Call)) (bytes : List ℕ) → TakesFront byte a a bytes
 takes_nothing byte a bytes = ([], bytes, refl, adds_none a)
 
--- if no call succeeded, the empty beginning was taken
+-- if no call succeeded, the empty prefix was taken
 pub takes_still : (byte : ℕ) (a b : Option (List Call)) (bytes : List ℕ) → b ≡ a → TakesFront byte a b bytes
 takes_still byte a b bytes same = subst (λ (o : Option (List Call)). TakesFront byte a o bytes) (sym same) (takes_nothing byte a bytes)
 
@@ -113,7 +113,7 @@ pub tells_failed_sync : (h : History) (old new : Option (List Call)) → ∥ Tel
 tells_failed_sync h old new tells same =
     tells_more h.events h.failures old new fails_sync tells (subst (λ (o : Option (List Call)). Adds old o []) (sym same) (adds_none old))
 
--- a failed write adds a failure, its events, and the calls of a beginning of its bytes
+-- a failed write adds a failure, its events, and the calls of a prefix of its bytes
 pub tells_failed_write : (h : History) (old new : Option (List Call)) (at : ℕ) (bytes : Bor (List ℕ)) → ∥ Tells h.events h.failures old ∥₁
     → TakesFront (512 * at) old new bytes.now → (let then = stepped (stepped h (Wrote at bytes)) Failed in
     ∥ Tells then.events then.failures new ∥₁)

@@ -8,7 +8,7 @@ use Rattle.devices.proofs.Past.{replay-append, replay-one, elapses_still, elapse
 use Rattle.devices.proofs.Past.{written-present_inside, quiet-unsynced}
 use Rattle.devices.proofs.Keeps.{written-unsynced, names-entries_of}
 
--- time goes on through two calls, if all that a crash may leave after the first it may leave after the second
+-- two calls in a row satisfy `Elapses` if each does, and after the second a crash may leave all that it may leave after the first
 elapses_on : {old mid new : Disk} → Elapses old mid → Elapses mid new → ((c : Image) → mid.may_leave c → new.may_leave c) → Elapses old new
 elapses_on {old} {mid} {new} first second grows = grind (arith, nat_tests)
 

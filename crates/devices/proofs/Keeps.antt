@@ -148,7 +148,7 @@ module _ (sectors : ℕ) (first present durable : List ℕ) (entries : List Reco
       inside = λ i hit. let never : false ≡ true = sym (nothing_left_cut i) ∙ hit in cc;
     }
 
-    -- a read after the power cut returns what it left
+    -- a read after a power cut returns what the cut left
     pub cut_left : Agrees (now_of first more).present (left_by outcome (now_of first entries))
     cut_left i = sym (now_cut i).present_is ∙ left i
 

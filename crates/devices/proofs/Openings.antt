@@ -46,7 +46,7 @@ gets_join byte next a b c xs ys next_is first second =
           (adds_more a b c (reads byte first.0) (reads next second.0) first.2 second.2),
     )
 
--- no call reads no bytes
+-- without a call no bytes are read
 pub gets_none : (byte : ℕ) (a : Calls) → GetsFrom byte a a []
 gets_none byte a = ([], refl, adds_none a)
 

@@ -37,7 +37,7 @@ image_is (x ∷ xs) whole (suc i) within =
     ∙ ap (λ (l : List ℕ). take 512 l) (drop-append-add (bytes_of x) (bytes_in xs) (512 * i))
     ∙ image_is xs (rest_whole x xs whole) i (omega (arith, within))
 
--- there are no bytes past all sectors
+-- past the last sector the image is empty
 image_past : (xs : Stored) → AreWhole xs → (i : ℕ) → length xs ≤ i → image_of (bytes_in xs) i ≡ []
 image_past xs whole i past = grind (arith, nat_tests, drop_all, length_bytes)
 

@@ -44,7 +44,7 @@ events_by syncs = synced ∷ []
 events_by fails_sync = []
 events_by cuts = cut Keep ∷ []
 
--- how many failures of the device a deed is
+-- how many failures a deed counts as
 abbrev pub failures_by : Deed → ℕ
 failures_by (writes at pieces) = 0
 failures_by (fails_write at pieces rest) = 1
@@ -56,7 +56,7 @@ failures_by cuts = 0
 abbrev pub Takes : ℕ → Option (List Call) → Option (List Call) → List ℕ → Type 0
 Takes byte old new bytes = (pieces : List (List ℕ)) × (concat pieces ≡ bytes) × Adds old new (taken byte pieces)
 
--- a beginning of the bytes was written from a byte on, one piece after another
+-- a prefix of the bytes was written from a byte on, one piece after another
 abbrev pub TakesFront : ℕ → Option (List Call) → Option (List Call) → List ℕ → Type 0
 TakesFront byte old new bytes =
     (pieces : List (List ℕ)) × (rest : List ℕ) × (concat pieces ++ rest ≡ bytes) × Adds old new (taken byte pieces)

@@ -49,7 +49,7 @@ fn put_some<F: RawFile>(file: &mut F, at: u64, from: &[u8]) -> Result<usize, Fai
     Err(Failed)
 }
 
-// Writes all of the bytes at the byte `at`. `Failed` may leave a beginning of the bytes written.
+// Writes all of the bytes at the byte `at`. After `Failed`, a prefix of them may be written.
 #[tactic(auto, using(crate::proofs::Deeds::takes_none))]
 fn put_fully<F: RawFile>(file: &mut F, at: u64, from: &[u8]) -> Result<(), Failed>
     requires { at ≤ 512 * 131072 }
@@ -64,7 +64,7 @@ fn put_fully<F: RawFile>(file: &mut F, at: u64, from: &[u8]) -> Result<(), Faile
     Ok(())
 }
 
-// Writes these sectors from `at` on. `Failed` may leave a beginning of the bytes written.
+// Writes these sectors from `at` on. After `Failed`, a prefix of the bytes may be written.
 fn put_sectors<F: RawFile>(file: &mut F, at: u64, from: &[u8]) -> Result<(), Failed>
     requires { at ≤ 131072 }
     ensures ok { OnOk result (Takes (512 * at) (F.calls file.old) (F.calls file.new) from.now) }
@@ -83,8 +83,8 @@ fn sync_all<F: RawFile>(file: &mut F) -> Result<(), Failed>
     file.keep().map_err(|_| Failed)
 }
 
-// The history of a file that holds these sectors, before any event. It takes no bytes: the loop only proves
-// it, because no slice has all sectors.
+// The history of a file that holds these sectors, before any event. The loop computes nothing, because a
+// history takes no bytes. It is there for the proof: no slice has all sectors at once.
 #[tactic(auto, using(crate::proofs::Histories::all_held))]
 fn history_of(copy: &SectorCopy) -> History
     ensures { result ≡ fresh copy.now }

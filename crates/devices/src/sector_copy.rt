@@ -52,7 +52,7 @@ fn array_of(bytes: &[u8]) -> [u8; SECTOR_SIZE]
     array
 }
 
-// Replaces a sector. Zeros aren't stored if the sector isn't.
+// Replaces a sector. If the sector isn't stored and the new bytes are zeros, nothing is stored.
 fn store(stored: &mut SparseVec<[u8; SECTOR_SIZE]>, at: usize, sector: &[u8])
     requires size { length sector.now ≡ 512 }
     requires inside { at < length stored.old }
@@ -119,7 +119,7 @@ impl SectorCopy {
         requires inside { 512 * (at + sectors_of into.old) ≤ length self.now }
         ensures { AreSectors (image_of self.now) at into.new }
     {
-        // This brings in a bound, so `at + i` doesn't overflow.
+        // For the proof: the contract of `sectors` has a bound, by which `at + i` doesn't overflow.
         let _sectors = self.sectors();
         for i in 0..into.len() / SECTOR_SIZE {
             sectors::put(into, i, self.sector(at + i));
@@ -148,7 +148,7 @@ impl SectorCopy {
         ensures length { length self.new ≡ length self.old }
         ensures fits { All (λ b. b < 256) self.new }
     {
-        // This brings in a bound, so `at + i` doesn't overflow.
+        // For the proof: the contract of `sectors` has a bound, by which `at + i` doesn't overflow.
         let _sectors = self.sectors();
         for i in 0..from.len() / SECTOR_SIZE {
             let start = i * SECTOR_SIZE;

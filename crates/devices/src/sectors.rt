@@ -21,7 +21,7 @@ pub fn put(sectors: &mut [u8], at: usize, from: &[u8])
     sectors[start..start + from.len()].copy_from_slice(from);
 }
 
-// Copies the sector that this action wrote, if it wrote one, from `from`.
+// If this action wrote a sector, copies that sector from `from`.
 fn copy_sector(into: &mut [u8], from: &[u8], action: &Action)
     requires same_size { length from.now ≡ length into.old }
     requires inside { (i : ℕ) → writes action.now i ≡ true → 512 * (i + 1) ≤ length into.old }
@@ -50,7 +50,7 @@ pub(crate) fn copy_written(into: &mut [u8], from: &[u8], entries: &[RecordEntry]
     }
 }
 
-// Fills the sector that this action wrote, if it wrote one.
+// If this action wrote a sector, fills that sector with this byte.
 fn fill_sector(into: &mut [u8], byte: u8, action: &Action)
     requires inside { (i : ℕ) → writes action.now i ≡ true → 512 * (i + 1) ≤ length into.old }
     ensures patched { Patches (writes action.now) (λ _. replicate 512 byte) (image_of into.old) (image_of into.new) }

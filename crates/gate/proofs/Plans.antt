@@ -112,7 +112,7 @@ by_words : (c : Capability) (w : ℕ) → ((g : Geometry) (us : List Object) (a 
     order g us c w a ≡ order g us c w (with_sent a sent)) → ReadsOnlyWords c w
 by_words c w same g us a b first second = grind (arith, nat_tests)
 
--- the outcome of the order that was found or, if none was, another; it is the same if the outcome of each order is
+-- the outcome of the order that was found or, if none was, another; two such outcomes are equal if they are for each order
 abbrev found_or : {R : Type 0} → OrderOutcome → (R → OrderOutcome) → Option R → OrderOutcome
 found_or other on found = elim found [ None ↦ other | Some requested ↦ on requested ]
 

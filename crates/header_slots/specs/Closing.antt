@@ -1,4 +1,5 @@
--- What a crash leaves while the gates of an image are closed, one by one, before another image overwrites it.
+-- What a crash leaves while the gates of an image are closed, one by one, before another image overwrites it. If
+-- header s is committed, the third slot is the one for neither s nor s - 1.
 use Rattle.std.specs.Prelude.{◌≡◌, ◌⊎◌, ℕ, ◌+◌, ◌%◌, ◌<◌, List, None}
 use Rattle.header_slots.specs.Publish.{OthersStay}
 use Rattle.header_slots.specs.Slots.{Counts, Opens, Slots}

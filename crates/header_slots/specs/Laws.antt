@@ -25,8 +25,8 @@ abbrev pub RunsCommit : Type 0
 RunsCommit = (first last : Slots) (published : List (List ℕ)) (s : ℕ) (a : List ℕ) → Opens first s a →
     Runs first published last → (t : ℕ) × (b : List ℕ) × (s ≤ t) × (b ≡ a ⊎ IsOneOf b published) × Opens last t b
 
--- if one header is no longer sound, or the third slot's header changes in any way, the same header is committed, or
--- none
+-- if header s is committed, and then some header is no longer sound, or the header in the slot of s + 1 changes in any
+-- way, header s stays committed, or none is
 abbrev pub BrokenHeadersAreSeen : Type 0
 BrokenHeadersAreSeen = (old new : Slots) (s slot t : ℕ) (a b : List ℕ) → Opens old s a → OthersStay slot old new →
     (new slot).gate ≡ (old slot).gate → ((new slot).header ≡ None ⊎ (slot ≡ (s + 1) % 3)) → Opens new t b →

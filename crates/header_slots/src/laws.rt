@@ -18,8 +18,8 @@ pub fn publishing_is_safe()
     ensures runs { RunsCommit }
 {}
 
-/// If a header is no longer sound, or the header in the third slot changes in any way, the same header stays
-/// committed, or none is. The function does nothing: its contract is the law.
+/// If a header is no longer sound, or the header in the slot after the committed one changes in any way, the
+/// same header stays committed, or none is. The function does nothing: its contract is the law.
 pub fn damage_changes_nothing()
     ensures { BrokenHeadersAreSeen }
 {}

@@ -106,7 +106,7 @@ header_fits room age most = record {
 
 -- ---- what holds if a call succeeds
 
--- after a sync, each crash leaves an image with the property that a read shows
+-- if a read gives an image with P, and each crash leaves what a read gives, each crash leaves an image with P
 pub durable_is : {T E : Type 0} (result : Result T E) (left P : Image → Type 0) (seen : Image) → OnOk result (P seen) →
     OnOk result ((c : Image) → left c → Agrees c seen) → OnOk result ((c : Image) → left c → P c)
 durable_is {T} {E} result left P seen is only = search (arith, agrees_is)

@@ -19,7 +19,7 @@ module _ (old new : Image) (kept : KeepsImage old new) where
   holds : (size : ℕ) (saved : SavedFrames) → Holds size old saved → Holds size new saved
   holds size saved x2 = grind (arith, nat_tests, same_directory, same_frame)
 
--- if `old` keeps the image of `new`, `new` keeps that of `old`
+-- `KeepsImage` is symmetric
 back : (old new : Image) → KeepsImage old new → KeepsImage new old
 back old new kept = record { elsewhere = λ i two four. sym (kept.elsewhere i two four); committed = sym kept.committed }
 

@@ -3,8 +3,8 @@
 use Rattle.image_writer.specs.Names.{ℕ, Image, HasNoHeader, KeepsImage, Holds, SavedFrames}
 use Rattle.std.specs.Prelude.{◌↔◌}
 
--- if only gates change, and the committed header stays the same, an image holds the same saved frames, or none as
--- before
+-- if only gates change, and the committed header stays the same, the image holds the saved frames that it held before,
+-- if any
 abbrev pub KeptHoldsTheSame : Type 0
 KeptHoldsTheSame = (size : ℕ) (old new : Image) (saved : SavedFrames) → KeepsImage old new →
     (Holds size old saved ↔ Holds size new saved)

@@ -3,8 +3,8 @@
 
 ghost use Rattle.image_writer.specs.Laws.{KeptHoldsTheSame, NoneIsHeld};
 
-/// If only the gates of an image changed, and the committed header is the same, the image holds the same
-/// saved frames, or none as before.
+/// If only the gates of an image changed, and the committed header is the same, the image holds the saved
+/// frames that it held before, if any.
 pub fn kept_holds_the_same()
     ensures { KeptHoldsTheSame }
 {}

@@ -52,7 +52,7 @@ pub number_splits : (m n : ℕ) (x y : List ℕ) → m < 2 ^ 64 → n < 2 ^ 64 �
 unfolding number
 number_splits m n x y fits fits' e = grind (arith, nat_tests, take_at, drop_at, from_le_bytes-to_le_bytes_8)
 
--- any is 0 exactly if the first i bytes are
+-- `any` is 0 exactly if the first i bytes are
 pub record IsSum (bytes : List ℕ) (i any : ℕ) : Type 0 where
   pub zero_bytes : any ≡ 0 → (k : ℕ) → k < i → get_or bytes k 0 ≡ 0
   pub zero_sum : ((k : ℕ) → k < i → get_or bytes k 0 ≡ 0) → any ≡ 0
@@ -112,7 +112,7 @@ stream_splits (m ∷ ms) (n ∷ ns) x y fits fits' len e =
     let others = stream_splits ms ns x y fits.1 fits'.1 (omega (arith, len)) first.1 in
     (ap (λ (k : ℕ). k ∷ ms) first.0 ∙ ap (λ (ks : List ℕ). n ∷ ks) others.0, others.1)
 
--- the bytes before `at` are `front`, and those after it are as filled
+-- the bytes before `at` are `front`, and those from `at` on are as in `filled`
 pub record IsWritten (filled front now : List ℕ) (at : ℕ) : Type 0 where
   pub before : take at now ≡ front
   pub after : drop at now ≡ drop at filled
@@ -125,7 +125,7 @@ pub written_more : (filled front old new : List ℕ) (at n : ℕ) → IsWritten 
     IsWritten filled (front ++ number n) new (at + 8)
 written_more filled front old new at n was before after = grind (arith, nat_tests, drop-drop 8 at old, drop-drop 8 at filled)
 
--- once all is written, the bytes are `front` and then the rest as filled
+-- if the bytes before `at` are written, the bytes are `front` followed by `filled` from `at` on
 pub written_all : (filled front now : List ℕ) (at : ℕ) → IsWritten filled front now at → now ≡ front ++ drop at filled
 written_all filled front now at was = grind (arith, nat_tests, take-append-drop)
 

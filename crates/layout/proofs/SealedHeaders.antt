@@ -7,14 +7,14 @@ use Rattle.std.specs.Prelude.{◌==◌, if◌then◌else◌}
 use Rattle.model.specs.declared.object.Role.TheVariants as role
 use Rattle.layout.proofs.SealedSectors.{listed, listing}
 
--- eleven numbers that begin with the magic are those of the header that they decode to
+-- if eleven numbers begin with the magic, the header that they decode to has these numbers
 pub header_read : (ns : List ℕ) → length ns ≡ 11 → get_or ns 0 0 ≡ 0x4441_4548_534f_5245 → ns ≡ header_numbers (sealed_header_from ns)
 header_read ns len magic = listing 11 0 ns len ∙ ap (λ (m : ℕ). m ∷ listed 1 10 ns) magic
 
 pub header_magic : (h : SealedHeader) (ns : List ℕ) → ns ≡ header_numbers h → get_or ns 0 0 ≡ 0x4441_4548_534f_5245
 header_magic h ns e = ap (λ (xs : List ℕ). get_or xs 0 0) e
 
--- seven numbers that begin with the number of their role are those of the page header that they decode to
+-- if seven numbers begin with the number of their role, the page header that they decode to has these numbers
 pub page_read : (ns : List ℕ) → length ns ≡ 7 → role_number (page_header_from ns).object.role ≡ get_or ns 0 0 →
     ns ≡ page_header_numbers (page_header_from ns)
 page_read ns len is = listing 7 0 ns len ∙ ap (λ (m : ℕ). m ∷ listed 1 6 ns) (sym is)

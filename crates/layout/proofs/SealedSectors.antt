@@ -110,7 +110,7 @@ zeros_apart : (m n : ℕ) → zeros (m + n) ≡ zeros m ++ zeros n
 unfolding zeros
 zeros_apart m n = sym (replicate-append-replicate m n 0)
 
--- numbers written over zeros have the body of their sector
+-- numbers written over zeros form the body of their sector
 pub body_written : (ns row : List ℕ) → length ns ≤ 61 → row ≡ words_bytes ns ++ zeros (512 - 8 * length ns) → body_of row ≡ body_with ns
 body_written ns row few e =
     let end : 512 - 8 * length ns ≡ 488 - 8 * length ns + 24 = omega (arith, few) in

@@ -85,7 +85,7 @@ front_listed (suc n) at ns room =
     ∙ ap (λ (t : List ℕ). get_or ns at 0 ∷ t)
     (front_listed n (suc at) ns (omega (arith, room)) ∙ ap (λ (m : ℕ). listed (suc at) n ns ++ drop m ns) (omega arith))
 
--- 32 numbers with the magic and version 3 are those of the row and the ranges that they decode to
+-- if 32 numbers have the magic and version 3, the row and the ranges that they decode to have these numbers
 pub row_read : (ns : List ℕ) (rs : List HomeRange) → length ns ≡ 32 → get_or ns 0 0 ≡ 0x5450_4b43_534f_5245 → get_or ns 1 0 % 2 ^ 32 ≡ 3
     → drop 8 ns ≡ range_numbers rs → ns ≡ superblock_numbers (row_from ns) rs
 row_read ns rs len magic version ranges =

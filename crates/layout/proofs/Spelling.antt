@@ -33,7 +33,7 @@ pub spelt_read : (image : Image) (p : Plan) (age generation : ℕ) (es : List En
     → IsSpelt image p age generation es n × (frame_read image p generation es n ≡ f)
 spelt_read image p age generation es n f is = grind (arith, nat_tests, frame_again p.geometry age n (frame_in image p generation es n) f is)
 
--- a frame that is encoded at one age, and may be kept at another, is encoded at that age
+-- if the bytes of object n encode a frame at one age, and the frame may be kept at another, they encode it at that age too
 pub spelt_at : (image : Image) (p : Plan) (first second generation : ℕ) (es : List Entry) (n : ℕ) → IsSpelt image p first generation es n →
     IsKeepable p.geometry second n (frame_read image p generation es n)
     → IsSpelt image p second generation es n

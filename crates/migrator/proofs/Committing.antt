@@ -102,7 +102,7 @@ module _ {size : ℕ} {image : Image} {b : Books} (k : ℕ) (kept : IsIntact siz
   abbrev frozen_puts : List Put
   frozen_puts = puts_in image b.plan (frozen_generation b) b.frozen
 
-  -- each object without a slot, in a cluster with one, has its home frame in that slot
+  -- if an object has no slot, but its cluster has one, that slot contains the object's home frame
   module _ (complete : AreComplete image b.plan (frozen_generation b) (entries_of b.frozen)) where
     -- the frame that the commit saves for an object without a slot is the saved one
     home_frame : {n : ℕ} → n < count_of b.plan → slot_of (place_at b.frozen n) ≡ None →

@@ -39,7 +39,7 @@ pub gathered_copied : {T E : Type 0} (result : Result T E) (old new : Image) (p 
     OnOk result (IsCopied old new p generation es n)
 gathered_copied {T} {E} result old new p generation es n block are held = grind (arith, nat_tests)
 
--- if a block that ends in zeros is written, so do the sectors
+-- if a block that ends in zeros is written, its sectors end in zeros
 pub zeros_there : {T E : Type 0} (result : Result T E) (p : Plan) (n : ℕ) (there block : List ℕ) → OnOk result (there ≡ block) →
     EndsInZeros p n block → OnOk result (EndsInZeros p n there)
 zeros_there {T} {E} result p n there block written zeros = grind (arith, nat_tests)

@@ -18,7 +18,7 @@ use Rattle.migrator.proofs.Committing.{directory_spares, committed_stored, may_c
 use Rattle.migrator.proofs.Completing.{IsCompleted, goes_after, has_after, keepable_at, kept_with, mid_kept, ready, stored_after, none_idle, without}
 use Rattle.migrator.proofs.Kept.{are_put_same, goes_seen, nowhere_frozen}
 
--- ---- without an unwritten cluster, the device has all frames
+-- ---- if no cluster is unwritten, reads of the device give all frames
 
 pub kept_raw : {disk : Disk} {b : Books} → b.unwritten ≡ None → IsDurable disk b → IsIntact disk.sectors disk.seen b
 kept_raw {disk} {b} none is = subst (λ (o : Option Unwritten). IsIntact disk.sectors (mended disk.seen o) b) none is.kept
@@ -27,7 +27,7 @@ pub stored_raw : (disk : Disk) (b : Books) → b.unwritten ≡ None → (c : Boo
     stored_on disk c ≡ stored_in disk.seen c
 stored_raw disk b none c same = ap (λ (o : Option Unwritten). stored_in (mended disk.seen o) c) (same ∙ none)
 
--- ---- the calls
+-- ---- the calls of a publish
 
 -- the directory was written outside all sectors that the saved states need
 module _ {old mid : Disk} {b : Books} {next : CheckpointHeader} {fs : List Entry} (may : MayAdopt old b next fs)
@@ -191,12 +191,12 @@ pub publishes_none : {T E U F : Type 0} {old new : Disk} {b c : Books} {next : S
     IsSoundOn old b → IsErr r → Counts {T = T} old new (Err e) → Publishes old new b c next r
 publishes_none {T} {E} {U} {F} {old} {new} {b} {c} {next} {e} {r} stays sound failed counts = grind (arith, nat_tests)
 
--- if the earlier calls changed nothing stored, and succeeded, the result is that of the publish
+-- a publish after successful calls that changed nothing stored is a publish from the state before these calls
 pub publishes_after : {T E : Type 0} {old mid new : Disk} {a b c : Books} {next after : Stored} {r : Result T E} → Stays old mid a b →
     IsSoundOn old a → mid.failures ≡ old.failures → next ≡ after → Publishes mid new b c next r → Publishes old new a c after r
 publishes_after {T} {E} {old} {mid} {new} {a} {b} {c} {next} {after} {r} stays sound none same is = grind (arith, nat_tests)
 
--- publishing `next` is publishing an equal state
+-- a publish of `next` is one of any state equal to `next`
 pub publishes_as : {T E : Type 0} {old new : Disk} {b c : Books} {next after : Stored} {r : Result T E} → next ≡ after →
     Publishes old new b c next r → Publishes old new b c after r
 publishes_as {old = old} {new = new} {b = b} {c = c} {r = r} same is = subst (λ (s : Stored). Publishes old new b c s r) same is

@@ -103,7 +103,7 @@ newest s n = put_or (put_at s.working n) (below_at s n)
 
 -- ---- the invariant
 
--- the homes of all objects that share the home of entry i have their saved frames
+-- each object that shares the home of entry i has its saved frame at home
 abbrev pub IsHome : Image → Plan → ℕ → List Entry → ℕ → Type 0
 IsHome image p generation es i = IsCopied image image p generation es (entry_at es i).object
 

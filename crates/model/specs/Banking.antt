@@ -20,7 +20,7 @@ use Rattle.model.specs.OrderOutcome.{OrderOutcome, refused, replying_three, made
 use Rattle.model.specs.Revoke.{rescind}
 use Rattle.model.specs.World.{annex_at, content_at, object_at, owner_at}
 
--- which of the numbers ns are free; then all free numbers of nodes, and of pages: the least first
+-- three lists of free numbers, the least first: those among ns, those for nodes, those for pages
 abbrev pub are_free : List Object → List ℕ → List ℕ
 are_free os ns = filter (λ n. is_free (content_at os n)) ns
 
@@ -86,7 +86,8 @@ under os b = filter (λ n. (n == b) || is_under os b (object_at os n)) (range_wi
 unfoldable pub owned_by : List Object → ℕ → List ℕ
 owned_by os b = filter (λ n. not (is_free (content_at os n)) && (owner_at os n == b)) (range_with_len 0 (length os))
 
--- an object, moved to the owner `parent` if bank b owns it; then all objects, moved to the owner of b
+-- an object, with the owner `parent` if bank b owns it; then all objects, where those of bank b now belong to b's
+-- owner
 abbrev pub transferred : ℕ → ℕ → Object → Object
 transferred b parent o = if not (is_free o.content) && (o.owner == b) then
     record { owner = parent; content = o.content } else o

@@ -23,7 +23,7 @@ use Rattle.model.specs.Invoke.{invoke}
 use Rattle.model.specs.Machine.{Saved, Frozen, Running, Machine, Up, Down, candidates, untouched, touching}
 use Rattle.model.specs.Machine.{touched_count, renewing, opened}
 
--- whether the touched numbers, with those written, are more than a half of the log has slots
+-- whether the touched and the written numbers together are more than the slots in half of the log
 abbrev pub overfills : Geometry → List Bool → List ℕ → Bool
 overfills g touched written = nat_lt g.log (touched_count (touching touched written))
 
@@ -212,7 +212,7 @@ abbrev pub takes_memory : Command → Bool
 takes_memory (command.Show n) = true
 takes_memory c = opens c
 
--- whether the answer may be `no memory` where it would be this refusal, or none
+-- whether `no memory` may replace this refusal or, for `None`, any other answer
 abbrev pub gives_way : Option Refusal → Bool
 gives_way (Some refusal.BadNumber) = false
 gives_way _ = true

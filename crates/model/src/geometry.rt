@@ -16,7 +16,7 @@ pub struct Geometry {
     pub nodes: u64,
     /// How many pages.
     pub pages: u64,
-    /// How many objects a half of the log has slots for, and so the most that one checkpoint can write.
+    /// How many objects half of the log has slots for, and so the most that one checkpoint can write.
     pub log: u64,
 }
 

@@ -19,7 +19,7 @@ use Rattle.model_laws.proofs.BankRescind.{held_as_before, rescinded_now, used_ow
 use Rattle.model_laws.proofs.BankFreed.{IsGivenUp, differ_where, freed_set, tree_induction, under_given_up, under_owner}
 use Rattle.model_laws.proofs.BankFreed.{usage_given_up}
 
--- the owner of an object after the bank's objects were transferred
+-- the owner, after the transfer, of an object that n owned: the parent if n is the returned bank
 abbrev pub heir : ℕ → ℕ → ℕ → ℕ
 heir b parent n = if n == b then parent else n
 

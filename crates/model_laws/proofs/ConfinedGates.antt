@@ -39,7 +39,7 @@ map_stays inside f [] j h = inl tt
 map_stays inside f (r ∷ rs) zero h = h r
 map_stays inside f (r ∷ rs) (suc j) h = map_stays inside f rs j h
 
--- a process of a set that may invoke
+-- p is a running process in the set, and the set encloses its members
 record IsInvoker (inside : ℕ → Bool) (os : List Object) (p : ℕ) : Type 0 where
   pub encloses : Encloses inside os
   pub member : IsTrue (inside p)

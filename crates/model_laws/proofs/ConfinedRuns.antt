@@ -92,7 +92,7 @@ along_inside inside os h (Space o k a) (slot ∷ slots) found stays e full =
     subst (λ n. IsTrue (inside n)) (sym b.same) (along_inside inside os h c slots b.next stays_there b.is full_there)
 along_inside inside os h c slots found stays e full = cc
 
--- a conditional result that is `Ok` is the result whose condition was tested
+-- if `if b then r else Err why` is `Ok`, it is r
 if_found : (b : Bool) (r : Result (ℕ × Access) MemoryFault) (why : MemoryFault) (found : ℕ × Access) →
     (if b then r else Err why) ≡ Ok found → r ≡ Ok found
 if_found b r why found e = grind (arith, nat_tests)
@@ -119,7 +119,7 @@ writable_inside inside os p address page h in_p e = cases (reached os p address)
 
 -- steps
 
--- the world of a machine is sound, and everything outside the set is kept since os
+-- the world of a machine is sound, and each object outside the set `IsKept` since os
 record IsWithin (g : Geometry) (inside : ℕ → Bool) (os : List Object) (s : Running) : Type 0 where
   sound : IsSound g s.now
   stays : StaysWithin inside os s.now.objects
@@ -179,7 +179,7 @@ store_keeps g inside os s p address value (Err why) is in_p fits h = h
 abbrev IsTurnBy : (ℕ → Bool) → Turn → Type 0
 IsTurnBy inside t = (l : Line) → Says t.line l → IsLineBy inside l
 
--- the answer to a command, by the refusal if there is one
+-- a and `after` are the answer and the machine after a command: refused for this reason or, if there is none, carried out
 abbrev IsAnswer : Geometry → Running → Command → Answer → Machine → Option Refusal → Type 0
 IsAnswer g s c a after refused = elim refused [
   | Some why ↦ (a ≡ answer.Refused why) × (after ≡ Up s)

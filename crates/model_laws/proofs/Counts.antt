@@ -50,7 +50,7 @@ one_within {X} m k (x ∷ xs) from below =
       | inr other ↦ rw (ne_eqb k m other) (zero-add _ ∙ one_within m (k + 1) xs (grind (arith, from, other)) (omega (arith, below)))
     ])
 
--- the items with number m, where b holds, are one if b holds and else none
+-- among numbered items, the count of those with number m where b holds is one if b holds, else zero
 pub count_where : {X : Type 0} (m : ℕ) (b : Bool) (xs : List X) (d : X) → m < length xs
     → count_by (λ p. (p.0 == m) && b) (enumerate_from 0 xs) ≡ (if b then 1 else 0)
 count_where {X} m true xs d below =

@@ -48,7 +48,7 @@ new_used os n b c some m used = grind (arith, nat_tests, get_or-set_other, get_o
 pub none_in_frame : (os us : List Object) → SameFrame os us → (n : ℕ) → is_given_up os us n ≡ false
 none_in_frame os us frame n = none_given_up os us n (λ used. (tests_at os us frame n).free ∙ used)
 
--- an order gives up exactly a list if it is done, and nothing otherwise
+-- an order that is done gives up n exactly if n is in the list; one that isn't done gives up nothing
 abbrev GivesUp : List Object → ℕ → List ℕ → OrderOutcome → Type 0
 GivesUp os n list o = (o.code ≡ code.Done → is_given_up os o.objects n ≡ is_member list n)
     × ((o.code ≡ code.Done → ⊥) → is_given_up os o.objects n ≡ false)

@@ -53,7 +53,7 @@ kept_refl inside o = (
       (content_same o.content),
 )
 
--- an object that is kept twice is kept
+-- an object that two changes in a row keep is kept by both together
 pub kept_trans : (inside : ℕ → Bool) (o p q : Object) → IsKept inside o p → IsKept inside p q → IsKept inside o q
 kept_trans inside o p q a b = grind (arith, nat_tests, content_twice)
 
@@ -85,7 +85,7 @@ kept_content inside os n c in_n m =
     at_set (λ k o. inside k ≡ false → IsKept inside (object_at os k) o) os n m (record { owner = owner_at os n; content = c }) free
     (λ out. absurd (let both : false ≡ true = sym out ∙ in_n in cc)) (λ out. kept_refl inside (object_at os m))
 
--- putting such a content at a member changes objects only within the set
+-- replacing the content of a member by one that `MayStand` there changes objects only within the set
 pub stays_content : (inside : ℕ → Bool) (os : List Object) (n : ℕ) (c : Content Capability) → Encloses inside os → IsTrue (inside n)
     → MayStand inside os n c → StaysWithin inside os (with_content os n c)
 stays_content inside os n c h in_n may = record {
@@ -106,7 +106,7 @@ stays_content inside os n c h in_n may = record {
   kept = λ m out. kept_content inside os n c in_n m out;
 }
 
--- the content of a member may be put back there
+-- the present content of a member `MayStand` there
 may_stay : (inside : ℕ → Bool) (os : List Object) (n : ℕ) → Encloses inside os → IsTrue (inside n) → MayStand inside os n (content_at os n)
 may_stay inside os n h in_n = grind (arith, nat_tests)
 

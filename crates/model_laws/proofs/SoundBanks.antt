@@ -173,7 +173,7 @@ member_passes test (y ∷ ys) x all member =
       | inr differ ↦ member_passes test ys x parts.1 (sym (member_tail x y ys differ) ∙ member)
     ]
 
--- if the quota allows a new object, it makes no usage in the chain exceed its limit
+-- if the quota of bank b allows `count` more objects, each bank in its chain can own that many more
 spare_body_at : (os : List Object) (b count x : ℕ) → has_quota os b count ≡ true → is_member (chain os b) x ≡ true →
     usage os x + count ≤ limit_in (content_at os x)
 unfolding has_quota

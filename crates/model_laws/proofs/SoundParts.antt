@@ -23,7 +23,7 @@ pub record IsHeld (os : List Object) (W : ℕ → Type 0) (c : Capability) : Typ
   pub well_formed : IsWellFormed c
   pub names : NamesAmong os W c
 
--- a content of valid shape whose capabilities may be held so
+-- a content of valid shape, in which each capability satisfies `IsHeld`
 pub record IsFilled (os : List Object) (W : ℕ → Type 0) (c : Content Capability) : Type 0 where
   pub shape : HasShape c
   pub words : (i : ℕ) → slice_index (words_in c) i < 2 ^ 64
@@ -32,7 +32,7 @@ pub record IsFilled (os : List Object) (W : ℕ → Type 0) (c : Content Capabil
   pub space : IsHeld os W (root_in c).space
   pub is_space : IsSpace (root_in c).space
 
--- the part of soundness that depends on the frame
+-- the part of soundness that depends only on owners, roles, annexes and limits (the frame of the objects)
 pub record IsFramed (g : Geometry) (os : List Object) : Type 0 where
   pub size : length os ≡ object_count g
   pub kinds : (n : ℕ) → IsOfKind g n (content_at os n)

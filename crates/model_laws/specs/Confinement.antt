@@ -1,4 +1,5 @@
--- What processes can change if they have authority over a set of numbers only: that set, and free numbers.
+-- What processes can change if they have authority only over a set of numbers: the objects in the set, and free
+-- numbers.
 use Rattle.model_laws.specs.Names.{ℕ, Bool, true, false, None, Some, List, IsTrue, All, Capability, Command, Invocation}
 use Rattle.model_laws.specs.Names.{Geometry, Line, Object, named, IsClosed, Effect, invoke, Up, is_free, without, IsRun}
 use Rattle.model_laws.specs.Names.{Turn, IsSound, Fits, Says, World, content_at, object_at, is_running_process}

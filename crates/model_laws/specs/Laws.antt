@@ -81,14 +81,14 @@ TouchesWritten = (touched : List Bool) (written : List ℕ) (n : ℕ) → n < le
     (slice_get (touching touched written) n ≡ Some true) ↔ ((slice_get touched n ≡ Some true) ⊎ Contains written n)
 
 -- an invocation that no earlier condition refuses is refused as log full exactly if the touched numbers, with those
--- that it writes, are more than a half of the log has slots
+-- that it writes, are more than half of the log has slots for
 abbrev pub LogFullIsExact : Type 0
 LogFullIsExact = (g : Geometry) (s : Running) (i : Invocation) (e : Effect) →
     IsTrue (is_running_process s.now.objects i.process) → s.now.age < 2 ^ 62 → invoke g s.now.objects i ≡ Some e →
     (refusal_of g s (command.Invoke i) ≡ Some refusal.LogFull) ↔ (g.log < touched_count (touching s.touched e.written))
 
--- a store to a writable page is refused as log full exactly if the touched numbers and that page are more than a half
--- of the log has slots; a store with a memory fault isn't refused
+-- a store to a writable page is refused as log full exactly if the touched numbers, with that page, are more than half
+-- of the log has slots for; a store with a memory fault isn't refused
 abbrev pub StoreLogFullIsExact : Type 0
 StoreLogFullIsExact = (g : Geometry) (s : Running) (p address value : ℕ) → IsTrue (is_running_process s.now.objects p) →
     ((page : ℕ) → writable (reached s.now.objects p address) ≡ Ok page →
@@ -105,7 +105,7 @@ may_lack_memory (command.Store p address value) = true
 may_lack_memory (command.Show n) = true
 may_lack_memory c = opens c
 
--- whether the specification allows `no memory` where the answer would be this refusal, or none
+-- whether the specification allows `no memory` in place of this refusal or, for `None`, of any other answer
 abbrev pub may_give_way : Option Refusal → Bool
 may_give_way (Some refusal.NoProcess) = false
 may_give_way (Some refusal.BadNumber) = false

@@ -43,15 +43,15 @@ pub fn touches_written()
     ensures { TouchesWritten }
 {}
 
-/// An invocation that nothing else refuses is refused as log full exactly if, with the numbers that it
-/// writes, more numbers would be touched than a half of the log has slots.
+/// An invocation that nothing else refuses is refused as log full exactly if the touched numbers, with those
+/// that it writes, are more than half of the log has slots for.
 #[tactic(auto, using(crate::proofs::Touching::log_full_is_exact))]
 pub fn log_full_is_exact()
     ensures { LogFullIsExact }
 {}
 
-/// A store to a page that it may write is refused as log full exactly if the touched numbers and that page
-/// are more than a half of the log has slots. If the store has a memory fault too, the answer is the memory
+/// A store to a page that it may write is refused as log full exactly if the touched numbers, with that page,
+/// are more than half of the log has slots for. If the store has a memory fault too, the answer is the memory
 /// fault.
 pub fn store_log_full_is_exact()
     ensures { StoreLogFullIsExact }

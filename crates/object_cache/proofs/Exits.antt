@@ -57,11 +57,11 @@ module _ {D : Type 0} {disk : D → Disk} where
       Moves disk like s (cache_of disk d m left order most_entries) r
   moves_next {like} {s = s} next same r cause = record { rest = as_like like s next.view same; continues = next.continues; cause = cause }
 
-  -- a move that changes only the device's part also allows changed cache entries
+  -- if `Moves` holds with only the device's part changed, it also holds where entries may change
   pub moves_more : {s t : StoreState D} {T E : Type 0} {r : Result T E} → Moves disk on_device s t r → Moves disk on_device_with s t r
   moves_more {s} moves = record { rest = as_like on_device_with s moves.rest refl; continues = moves.continues; cause = moves.cause }
 
-  -- changing only the order of use is a move
+  -- if only the order of use changed, `Moves` holds
   pub moves_used : {s t : StoreState D} {os : List ℕ} → t ≡ record s { order = os } → GoesOnIn disk s t →
       Moves {T = Unit {0}} {E = Failed} disk on_device_with s t (Ok tt)
   moves_used {s} {t} is goes = record {
@@ -86,7 +86,7 @@ module _ {D : Type 0} {disk : D → Disk} where
       cause = counts_on (counted_ok first.cause) second.cause;
     }
 
-  -- changing entries and order after a move is a move, since the device is unchanged
+  -- if a call satisfies `Moves`, and then entries and order change in memory, the whole satisfies `Moves`
   pub moves_in_memory : {s t u : StoreState D} {cached : List Bool} {order : List ℕ} {T U E : Type 0} {x : T} {y : U} →
       Moves {E = E} disk on_device s t (Ok x) → u ≡ record t { cached = cached; order = order } →
       Moves {E = E} disk on_device_with s u (Ok y)

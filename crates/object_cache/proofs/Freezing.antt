@@ -21,7 +21,7 @@ masked_same r c is = search arith
 pub none_counted : (n : ℕ) → touched_count (replicate n false) ≡ 0
 none_counted n = omega (arith, sum_by-replicate (λ b. cond b 1 0) n false)
 
--- a list of marks that are all in another list has at most as many
+-- if each mark of a list is set in another list too, the first has at most as many marks
 pub fewer_of : (ds ts : List Bool) → ((k : ℕ) → mark_at ds k ≡ true → mark_at ts k ≡ true) → count_by (λ b. b) ds ≤ count_by (λ b. b) ts
 fewer_of [] ts each = omega arith
 fewer_of (false ∷ ds) [] each =

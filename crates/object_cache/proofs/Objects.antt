@@ -149,7 +149,7 @@ module _ (s : Stored) {m : Memory} {hs : List ObjectHeader} {es : List (Option E
 
 -- ---- a store's view after one object changed
 
--- replacing a header by one of the same role is such a change
+-- replacing a header by one of the same role satisfies `Changes`
 pub header_changes : (m : Memory) (n : ℕ) (h : ObjectHeader) → n < length m.headers → h.role ≡ (header_at m.headers n).role →
     Changes m (set m.headers n h) m.entries n
 header_changes m n h within same = search (arith, length-set, get_or-set_other, get_or-set_same)
@@ -168,7 +168,7 @@ pub cached_stay : (change : Entry → Entry) (n : ℕ) (es : List (Option Entry)
 unfolding cached_in
 cached_stay change n es = map-set_same is_some es n (option_map change (entry_at es n)) None (some_map change (entry_at es n))
 
--- replacing a header, and the present body if there is an entry, is such a change
+-- replacing a header, and the present body if there is an entry, satisfies `Changes`
 edit_changes : (m : Memory) (n : ℕ) (h : ObjectHeader) (f : Content Cap → Content Cap) → n < length m.headers → n < length m.entries →
     (entry_at m.entries n ≡ None → h.role ≡ role.Free) → Changes m (set m.headers n h) (with_entry (changing f) n m.entries) n
 edit_changes m n h f within entry_within free = search (arith, length-set, get_or-set_other, present_kept, get_or-set_same, none_of)

@@ -82,7 +82,7 @@ module _ {D : Type 0} (disk : D → Disk) {s t : DurableState D} (reads : ReadsS
 module _ {D : Type 0} (disk : D → Disk) {s : DurableState D} (sound : is_sound disk s) (es : List (Option Entry)) (h : ObjectHeader)
     (is_known : Bool)
     (n age : ℕ) where
-  -- the result for an equal header and an equal answer whether the number is known
+  -- `JournalsPage` also holds for an equal header, and an equal answer to whether the number is known
   pub journals_as : {t : DurableState D} {g : ObjectHeader} {k : Bool} {r : Result ℕ Refusal} → h ≡ g → is_known ≡ k →
       JournalsPage disk s t es h is_known n age r → JournalsPage disk s t es g k n age r
   journals_as {t = t} {g = g} {r = r} h_is k_is is =

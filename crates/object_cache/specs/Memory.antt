@@ -9,7 +9,7 @@ use Rattle.model.specs.declared.object.Role.TheVariants as role
 pub use Rattle.object_cache.specs.declared.frozen.FrozenState.{FrozenState}
 pub use Rattle.object_cache.specs.declared.frozen.FrozenState.TheVariants.{Nothing, Shared, Apart}
 
--- a frozen body without an entry, read so that its frame can be written with a newer header
+-- a frozen body without an entry, read from the device so that its frame can be written with its newer, frozen header
 pub record Held : Type 0 where
   pub number : ℕ
   pub content : Content Cap

@@ -305,7 +305,7 @@ pub record IsCache (all : Bool) (s : Stored) (m : Memory) (left count : ℕ) : T
   pub keepable : (f : FrozenPuts) → s.frozen ≡ Some f → AreKeepable s.saved.geometry most (frozen_in s m)
   pub held : (h : Held) → m.staging ≡ Some h → mark_at m.pending h.number ≡ true
   pub apart : (n : ℕ) (e : Entry) → entry_at m.entries n ≡ Some e → (e.kept ≡ None) ⊎ (mark_at m.pending n ≡ true)
-  -- if an object without an entry was frozen as free, its body isn't needed: it is free now, or has a working frame
+  -- if a pending object was frozen as free and has no entry, it is free now or has a working frame: no body is lost
   pub freed : (n : ℕ) → entry_at m.entries n ≡ None → mark_at m.pending n ≡ true →
       (header_at m.frozen_headers n).role ≡ role.Free →
       (is_kept (put_at s.working n) ≡ true) ⊎ ((header_at m.headers n).role ≡ role.Free)

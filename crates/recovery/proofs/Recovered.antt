@@ -137,7 +137,7 @@ module _ (p q : Parts) (old new : Disk) (before : p.failures ≡ old.failures) (
       (p.failures < q.failures)) → (why ≡ fault.Failed) ↔ (old.failures < new.failures)
   refused_cause {T} why cause = grind (arith, nat_tests)
 
--- a fault that is `Bad` for a reason has that reason
+-- if P holds of each reason with which opening is refused, it holds of the reason in `why`
 pub refused_for : {T : Type 0} (why : OpenFault) {P : BadImage → Type 0} → ((reason : BadImage) →
     (let r : Result T OpenFault = Err why in IsErrOf r (fault.Bad reason)) → P reason) → (reason : BadImage) → why ≡ fault.Bad reason →
     P reason

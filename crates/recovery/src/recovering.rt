@@ -52,7 +52,7 @@ pub fn recover<D: Device, S: ObjectStore<D>>(
     recover_in(alloc, device, setting, &mut None)
 }
 
-/// As `recover`, but the store uses what it can of `memory`.
+/// As `recover`, but the store may take over `memory`, instead of allocating its own.
 pub fn recover_in<D: Device, S: ObjectStore<D>>(
     alloc: Global,
     device: D,

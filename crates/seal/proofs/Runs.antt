@@ -50,13 +50,13 @@ one_more x y (z ∷ xs) (w ∷ ys) len =
 abbrev Same : Sums → Sums → Type 0
 Same s t = (s.a ≡ t.a) × (s.b ≡ t.b) × (s.c ≡ t.c)
 
--- if the rest of both lists is equal and the sums after it are, the sums before it are equal
+-- if two runs over the same numbers end with equal sums, they started with equal sums
 none_left : (s t : Sums) (hs : List ℕ) → Same (run s hs) (run t hs) → Same s t
 none_left s t [] same = same
 none_left s t (h ∷ hs) same = let next = none_left (step s h) (step t h) hs same in
     (omega (arith, next), omega (arith, next), omega (arith, next))
 
--- what must hold of b and c before the last difference, so that it can balance a
+-- how b and c must differ, given which list has the greater a, if the sums are to be equal after one more difference
 record IsBalanced (s t : Sums) : Type 0 where
   pub less_b : s.a < t.a → t.b ≤ s.b
   pub less_c : s.a < t.a → s.c ≤ t.c
@@ -106,7 +106,7 @@ one_left s t (x ∷ xs) (y ∷ ys) len few same =
           }
     ]
 
--- if all three sums are greater, at most two differences don't make them equal
+-- if all three sums of s are greater than those of t, lists with at most two differences don't make them equal
 two_left : (s t : Sums) (xs ys : List ℕ) → length xs ≡ length ys → differences xs ys ≤ 2 → t.a < s.a → t.b < s.b → t.c < s.c →
     Same (run s xs) (run t ys) → ⊥
 two_left s t [] [] len few a b c same = omega (arith, same)
@@ -126,7 +126,7 @@ two_left s t (x ∷ xs) (y ∷ ys) len few a b c same =
           ]
     ]
 
--- lists that differ in at most three numbers, and lead from the same sums to the same sums, are equal
+-- if lists differ in at most three numbers, and give equal sums from the same start, they are equal
 three_left : (s : Sums) (xs ys : List ℕ) → length xs ≡ length ys → differences xs ys ≤ 3 → Same (run s xs) (run s ys) → xs ≡ ys
 three_left s [] [] len few same = refl
 three_left s [] (y ∷ ys) len few same = absurd (omega (arith, len))

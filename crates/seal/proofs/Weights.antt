@@ -30,7 +30,7 @@ pub a_push : (h : ℕ) (hs : List ℕ) → weighted one (hs ++ h ∷ []) ≡ wei
 a_push h [] = omega arith
 a_push h (x ∷ hs) = omega (arith, a_push h hs)
 
--- one more number at the end raises each place by one, so b grows by a and the number
+-- if h is added at the end, the place of each other number rises by one, so b grows by a + h
 pub b_push : (h : ℕ) (hs : List ℕ) → weighted place (hs ++ h ∷ []) ≡ weighted place hs + (weighted one hs + h)
 b_push h [] = omega arith
 b_push h (x ∷ hs) =

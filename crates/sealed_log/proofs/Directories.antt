@@ -134,7 +134,7 @@ reads_more {a} {b} {c} first second = grind (arith, nat_tests)
 pub reads_none : {disk : Disk} → OnlyNow disk → ReadsOnly disk disk
 reads_none {disk} only_now = grind (arith, nat_tests)
 
--- what was read of the first k sectors, and then of the next, is what k + 1 sectors have
+-- if the entries of the first k sectors were read, and then those of the next, the entries of k + 1 sectors were read
 pub entries_turn : (first mid last : Disk) (at k : ℕ) (es ds : List Entry) (sums seal result : Sums) (found : Option Sums) →
     HaveEntries first.seen at es k × (sums ≡ directory_sums (seals_of es k)) × ReadsOnly first mid × (mid.failures ≡ first.failures) →
     take (30 * k) ds ≡ take (30 * k) es → ReadsOnly mid last → last.failures ≡ mid.failures → found ≡ Some seal →

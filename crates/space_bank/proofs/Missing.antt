@@ -88,7 +88,7 @@ module _ {g : Geometry} {os : List Object} {s : BanksState} (h : AreCounted g os
   unfolding free_pages
   made_of_pages are first is made = grind (arith, nat_tests)
 
--- an object of another role has no kept number
+-- the number recorded for an object of another role is 0
 pub kept_other : (r : Role) (c : Content Capability) → (role_of c ≡ r → ⊥) → kept_number r c ≡ 0
 kept_other r c other = grind (arith, nat_tests)
 

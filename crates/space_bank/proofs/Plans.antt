@@ -361,7 +361,7 @@ new_may : (g : Geometry) (os : List Object) (b : ℕ) (c : BankChange) → IsTru
 unfolding free_nodes free_pages
 new_may g os b c bank kind room some short = grind (arith, nat_tests, one_may, two_may, short_chain)
 
--- in worlds with the same frame, what a capability frees is of its kind in both
+-- in worlds with the same frame, if a capability frees an object, and names one of its kind in the first, it does in the second
 names_there : (os us : List Object) → SameFrame os us → (c : Capability) (n : ℕ) (ns : List ℕ) → freed_by os c ≡ n ∷ ns →
     NamesItsKind os c → NamesItsKind us c
 names_there os us frame c n ns some names = grind (arith, nat_tests)

@@ -24,7 +24,7 @@ SameAllocations p q = (n : ℕ) → (header_at q.headers n).allocations ≡ (hea
 abbrev pub SameFree : Parts → Parts → Type 0
 SameFree p q = (n : ℕ) → is_free (content_at (objects_in q) n) ≡ is_free (content_at (objects_in p) n)
 
--- the allocation count of a header, which was freed or not
+-- if a header is given up exactly if `gone` holds, its allocation count rises by one then, and else stays
 given_or_kept : (gone : Bool) (member : Bool) (h k : ObjectHeader) → gone ≡ member → k ≡ (if member then given_up h else h) →
     k.allocations ≡ h.allocations + (if gone then 1 else 0)
 given_or_kept gone member h k e is = grind (arith, nat_tests)

@@ -183,7 +183,7 @@ module _ {os : List Object} (t : IsTree os) {b i c : ℕ} (at : Climbs os b i c)
         share_prime,
       )
 
--- a step of the proof: adding 0 in either case
+-- a step of the proof: the choice between 0 and 0 is 0
 nothing : (is : Bool) → ◌≡◌ {A = ℕ} (if is then 0 else 0) 0
 nothing is = grind (arith, nat_tests)
 

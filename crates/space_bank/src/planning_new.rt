@@ -40,7 +40,7 @@ impl New {
     }
 }
 
-// Plans a new object at the least number in a set. Index 0 of the set means number `first`.
+// Plans a new object at the least number in a set. Member k of the set means number `first` + k.
 #[tactic(auto, using(crate::proofs::Missing::found_none))]
 fn next_one(numbers: &NumberSet, first: u64, fresh: Fresh, bank: u64) -> Option<BankChange>
     requires { first + length numbers.now < 2 ^ 64 }
