@@ -37,7 +37,7 @@ abbrev pub HalvesAreWithin : Type 0
 HalvesAreWithin = (p : Plan) (generation : ℕ) → IsPlan p →
     IsWithin p.total (half_extent p.version p.geometry (half_sector p generation))
 
--- halves of different generations mod 2 don't overlap
+-- generations that differ mod 2 have halves that don't overlap
 abbrev pub HalvesAreApart : Type 0
 HalvesAreApart = (p : Plan) (a b : ℕ) → IsPlan p → (a % 2 ≡ b % 2 → ⊥) →
     IsApart (half_extent p.version p.geometry (half_sector p a)) (half_extent p.version p.geometry (half_sector p b))

@@ -33,7 +33,7 @@ bit_past : (word from k : ℕ) → bit_at (word / 2 ^ from) k ≡ bit_at word (f
 bit_past word from k = ap (λ x. x % 2) (shr-shr word from k)
 
 module _ (word from : ℕ) where
-  -- past a word's last set bit all bits are 0
+  -- if a word shifted right by `from` is 0, all its bits from `from` on are 0
   pub none_from : word / 2 ^ from ≡ 0 → (other : ℕ) → from ≤ other → bit_at word other ≡ 0
   none_from rest other after = grind (arith, nat_tests, bit_past word from (other - from), bit_at-zero (other - from))
 
@@ -91,7 +91,7 @@ module _ (words : List ℕ) where
   pub none_past_all : (from w : ℕ) → length words ≤ w → ((m : ℕ) → from ≤ m → m < w * 64 → bit_of words m ≡ 0) → HasNoneSet words from
   none_past_all from w past_all before m past = grind (arith, nat_tests, bit_of_zero, get_or_past)
 
-  -- the first set bit of a word is the first of all, if no word before it has one
+  -- if no bit from `from` up to word w is set, the first set bit in word w is the first one from `from` on
   pub first_by_word : (from w low bit : ℕ) → low ≡ from - w * 64 → from / 64 ≤ w → ((m : ℕ) → from ≤ m → m < w * 64 → bit_of words m ≡ 0) →
       IsLowestFrom (slice_index words w) low bit → IsFirstSet words from (w * 64 + bit)
   first_by_word from w low bit is_low after before lowest = record {
@@ -133,7 +133,7 @@ module _ (words : List ℕ) (from w low : ℕ) (fits : slice_index words w < 2 ^
   here_is : (m : ℕ) → w * 64 ≤ m → m < (w + 1) * 64 → bit_of words m ≡ bit_at (slice_index words w) (m - w * 64)
   here_is m past within = grind (arith, nat_tests, bit_in_word words w (m - w * 64) (omega arith))
 
-  -- the first clear bit of a word is the first of all, if no word before it has one
+  -- if no bit from `from` up to word w is clear, the first clear bit in word w is the first one from `from` on
   pub clear_by_word : (bit : ℕ) → IsLowestFrom (bit_not w64 (slice_index words w)) low bit → IsFirstClear words from (w * 64 + bit)
   clear_by_word bit lowest = grind (arith, nat_tests, bit_in_word, flipped_one, here_is, flipped_zero)
 
@@ -162,7 +162,7 @@ module _ (words summary : List ℕ) (summed : SumsUp words summary) where
     none_here : (m : ℕ) → from ≤ m → m < (from / 64 + 1) * 64 → bit_of words m ≡ 0
     none_here = none_by_word words from (from / 64) (from % 64) (omega arith) (omega arith) (λ m past before. absurd (omega arith)) none
 
-    -- the first set bit of the first later word that is not 0 is the first of all
+    -- the lowest set bit of the first later word that isn't 0 is the first set bit from `from` on
     pub first_later : (later : ℕ) → IsFirstSet summary (from / 64 + 1) later → slice_index words later < 2 ^ 64 →
         IsFirstSet words from (later * 64 + trailing_zeros w64 (slice_index words later))
     first_later later first fits =
@@ -176,7 +176,7 @@ module _ (words summary : List ℕ) (summed : SumsUp words summary) where
         first_by_word words from later 0 _ (omega (arith, first.past)) (omega (arith, first.past)) before
         (record { past = omega arith; inside = lowest.0; set = lowest.1; least = λ other _ lower. lowest.2 other lower })
 
-    -- no bit is set if all later words are 0
+    -- if all later words are 0, no bit is set from `from` on
     pub none_later : HasNoneSet summary (from / 64 + 1) → HasNoneSet words from
     none_later none_summed m past = grind (arith, nat_tests, none_here, bit_of_zero)
 

@@ -86,7 +86,7 @@ changed_annex os list (change.Space process held) within q = field_kept annex_in
     (content.Root (with_space (root_at os process) held)) refl q
 changed_annex os list (change.Bank made) within q = absurd within
 
--- an edit of one object doesn't depend on the listed numbers, and keeps the frame
+-- an edit of one object doesn't depend on the listed numbers, and keeps the `SameFrame`
 pub changed_any : (os : List Object) (list : List ℕ) (c : Change) → IsWithinObject c → changed os [] c ≡ changed os list c
 changed_any os list c within = grind (arith, nat_tests)
 
@@ -188,7 +188,7 @@ module _ (os : List Object) (c : Capability) (args : Arguments) (kind : NamesIts
       (root_used (content_at os n) (subst (λ (m : ℕ). is_process os m ≡ true) e (process_there os c kind process for.0)))
   for_target annexes (change.Bank made) for n is = absurd for
 
--- in worlds with the same frame, the same edits may be made
+-- if two lists of objects have the `SameFrame`, the same edits may be made in both
 module _ (g : Geometry) (os us : List Object) (frame : SameFrame os us) where
   process_alike : (x : Change) → IsOfProcess os x → IsOfProcess us x
   process_alike x of = grind (arith, nat_tests, tests_at)

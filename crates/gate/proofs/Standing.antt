@@ -136,7 +136,7 @@ requested_annex p sound q a is same = subst (λ (n : ℕ). n < length p.headers)
 pub gate_no_bank : (gate : Gate) (w : ℕ) → IsNoBankOrder (gate_capability gate) w
 gate_no_bank gate w = grind (arith, nat_tests)
 
--- if the frame is the same, so are the free numbers
+-- objects with the `SameFrame` have the same free numbers
 pub free_in_frame : (p q : Parts) (us : List Object) → objects_in q ≡ us → SameFrame (objects_in p) us → SameFree p q
 free_in_frame p q us objects frame n = grind (arith, nat_tests, tests_at)
 

@@ -80,7 +80,7 @@ IsWithinObject (change.RootWord process index word) = index < 4
 IsWithinObject (change.Bank made) = ⊥
 IsWithinObject _ = Unit {0}
 
--- if a change is of a root, the number is that of a process
+-- a change of a root names a process
 abbrev pub IsOfProcess : List Object → Change → Type 0
 IsOfProcess os (change.RootWord process index word) = IsTrue (is_process os process)
 IsOfProcess os (change.SetState process state) = IsTrue (is_process os process)

@@ -110,7 +110,7 @@ usage_falls : (os : List Object) (set : List ℕ) → IsTree os → IsClosedSet 
     → usage (rescind set os) x ≤ usage os x
 usage_falls os set tree closed x stays = omega (arith, usage_rescinded os set tree closed x stays)
 
--- framed objects stay framed if a closed set is rescinded
+-- objects satisfy `IsFramed` after a rescind of a closed set if they did before
 framed_rescind : (g : Geometry) (os : List Object) (set : List ℕ) → IsFramed g os → IsClosedSet os set → IsFramed g (rescind set os)
 framed_rescind g os set h closed =
     let tree = tree_of g os h in

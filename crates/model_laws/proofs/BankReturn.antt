@@ -157,7 +157,7 @@ module _ (os : List Object) (t : IsTree os) (b : ℕ) (is : IsTrue (is_bank (con
       count_none (λ p. not (p.0 == b) && is_under (inherited os b) b p.1) (inherited os b) free
       (λ i. and_right (not (i == b)) _ (no_under i))
 
--- framed objects stay framed if a bank's objects are transferred
+-- objects satisfy `IsFramed` after a transfer of a bank's objects if they did before
 pub framed_inherited : (g : Geometry) (os : List Object) (b : ℕ) → IsFramed g os → IsTrue (is_bank (content_at os b)) → b ≢ 0 →
     IsFramed g (inherited os b)
 framed_inherited g os b h is on =

@@ -12,7 +12,7 @@ pub record IsTree (os : List Object) : Type 0 where
   pub prime : IsTrue (is_bank (content_at os 0)) × (owner_at os 0 ≡ 0)
   pub chains : (b : ℕ) → IsTrue (is_bank (content_at os b)) → Contains (chain os b) 0
 
--- the banks of framed objects form a tree
+-- if objects satisfy `IsFramed`, their banks form a tree
 pub tree_of : (g : Geometry) (os : List Object) → IsFramed g os → IsTree os
 tree_of g os h = record { unowned = h.unowned; owners = h.owners; prime = h.prime; chains = h.chains }
 

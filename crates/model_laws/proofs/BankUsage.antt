@@ -57,7 +57,7 @@ module _ (os : List Object) (n b : ℕ) (c : Content Capability) (t : IsTree os)
             (under_kept n i differ ∙ under_none i)
       ])
 
--- In worlds with the same frame, an order of a bank does the same.
+-- If two lists of objects have the `SameFrame`, an order of a bank does the same in both.
 
 module _ (os us : List Object) (s : SameFrame os us) where
   free_alike : (ns : List ℕ) → are_free us ns ≡ are_free os ns

@@ -44,7 +44,7 @@ pub new_used : (os : List Object) (n b : ℕ) (c : Content Capability) → is_fr
 unfolding with_new
 new_used os n b c some m used = grind (arith, nat_tests, get_or-set_other, get_or-set_same, used_within)
 
--- between objects of the same frame nothing is given up
+-- if two lists of objects have the `SameFrame`, nothing was given up between them
 pub none_in_frame : (os us : List Object) → SameFrame os us → (n : ℕ) → is_given_up os us n ≡ false
 none_in_frame os us frame n = none_given_up os us n (λ used. (tests_at os us frame n).free ∙ used)
 

@@ -14,7 +14,7 @@ pub at_set : {X : Type 0} (P : ℕ → X → Type 0) (xs : List X) (n m : ℕ) (
     P m (get_or (set xs n x) m d)
 at_set {X} P xs n m x d new old = grind (arith, nat_tests, get_or-set_other, get_or-set_same, set_past)
 
--- replacing a content by one of the same role, annex and limit keeps the frame
+-- replacing a content by one of the same role, annex and limit keeps the `SameFrame`
 
 pub frame_content : (os : List Object) (n : ℕ) (c : Content Capability) → AreAlike (object_at os n)
     (record { owner = owner_at os n; content = c }) → SameFrame os (with_content os n c)
@@ -147,7 +147,7 @@ pub root_frame : (os : List Object) (p : ℕ) (r : Root Capability) → IsTrue (
 unfolding with_root
 root_frame os p r is same = frame_content os p (content.Root r) (alike_root (owner_at os p) r (content_at os p) is same)
 
--- changing the state of a process keeps the frame
+-- changing the state of a process keeps the `SameFrame`
 pub state_frame : (os : List Object) (p : ℕ) (s : State) → IsTrue (is_process os p) → SameFrame os (with_state os p s)
 unfolding with_state
 state_frame os p s is = root_frame os p _ is refl
@@ -167,7 +167,7 @@ pub root_other : (os : List Object) (p q : ℕ) (r : Root Capability) → q ≢ 
 unfolding with_root with_content
 root_other os p q r differ = grind (arith, nat_tests, get_or-set_other)
 
--- replacing a root by one of the same state keeps nearly sound objects so
+-- nearly sound objects stay nearly sound if a root is replaced by one of the same state
 pub edited_root : (g : Geometry) (W : ℕ → Type 0) (os : List Object) (p : ℕ) (r : Root Capability) → IsNearlySound g W os →
     IsRootOf os W p r → r.state ≡ state_at os p → IsEdited g W os (with_root os p r)
 edited_root g W os p r h fits e = record {

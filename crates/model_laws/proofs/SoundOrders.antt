@@ -133,7 +133,7 @@ root_now g W os p h is =
       is_space = (h.filled p).is_space;
     }
 
--- nearly sound objects stay so if a process changes its state
+-- nearly sound objects stay nearly sound if a process changes its state
 pub nearly_state : (g : Geometry) (W : ℕ → Type 0) (os : List Object) (p : ℕ) (s : State) → IsNearlySound g W os →
     IsTrue (is_process os p) → IsNearlySound g W (with_state os p s)
 unfolding with_state

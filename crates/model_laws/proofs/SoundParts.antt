@@ -94,7 +94,7 @@ framed_on g os us s h =
       limits = λ b is. rw (usage_same os us s b, (s.alike b).limit) (h.limits b (sym (t b).bank ∙ is));
     }
 
--- objects with the same frame are nearly sound if all their contents are filled
+-- if os satisfies `IsFramed`, us has the `SameFrame`, and all contents of us are filled, us is nearly sound
 pub nearly_on : (g : Geometry) (W : ℕ → Type 0) (os us : List Object) → SameFrame os us → IsFramed g os
     → ((n : ℕ) → IsFilled os W (content_at us n)) → IsNearlySound g W us
 nearly_on g W os us s h filled = record {

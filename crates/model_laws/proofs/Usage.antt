@@ -11,7 +11,7 @@ pub record AreAlike (x y : Object) : Type 0 where
   pub annex : (root_in y.content).annex ≡ (root_in x.content).annex
   pub limit : limit_in y.content ≡ limit_in x.content
 
--- two lists whose objects are alike, number by number
+-- two lists of objects have the same frame: at each number the objects are alike
 pub record SameFrame (os us : List Object) : Type 0 where
   pub size : length us ≡ length os
   pub alike : (n : ℕ) → AreAlike (object_at os n) (object_at us n)

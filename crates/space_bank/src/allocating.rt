@@ -106,7 +106,7 @@ impl Banks {
         ensures snapshots { KeepsRest F.parts F.IsFetched F.IsAnnounced F.ContinuesTo store.old store.new }
         ensures made { IsMade self.old self.new number }
     {
-        // There is a limit for each node, and pages come after the nodes.
+        // `limits` has an item for each node, so its length is the number of the first page.
         let first_page = self.limits.len();
         mark(&mut self.nodes, &mut self.pages, first_page, number, false);
         claim(store, number, fresh, bank);

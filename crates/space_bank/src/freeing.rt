@@ -60,7 +60,7 @@ impl Banks {
         self.release(store, parent, 1);
         transfer(store, &self.listed[skip + 1..], parent);
         rescind(store, &[bank]);
-        // There is a limit for each node, and pages come after the nodes.
+        // `limits` has an item for each node, so its length is the number of the first page.
         let first_page = self.limits.len();
         mark(&mut self.nodes, &mut self.pages, first_page, bank, true);
     }
@@ -81,7 +81,7 @@ impl Banks {
         let count = (self.listed.len() - skip) as u64;
         self.release(store, above, count);
         rescind(store, &self.listed[skip..]);
-        // There is a limit for each node, and pages come after the nodes.
+        // `limits` has an item for each node, so its length is the number of the first page.
         let first_page = self.limits.len();
         mark_free(
             &mut self.nodes,
