@@ -22,7 +22,7 @@ digit_one b = grind (arith, nat_tests)
 digit_of_bit : (d : ℕ) → d < 2 → digit (nat_eq d 1) ≡ d
 digit_of_bit d small = grind (arith, nat_tests)
 
--- the digit of the test whether n isn't 0 is the lesser of 1 and n
+-- for each n, the digit of whether n isn't 0 is the lesser of 1 and n
 digit_some : (n : ℕ) → digit (not (nat_eq n 0)) ≡ min 1 n
 digit_some n = grind (arith, nat_tests, eqb-suc-zero)
 
@@ -229,7 +229,7 @@ module _ (count : ℕ) (words : List ℕ) where
       least = λ m past before. marked m (omega (arith, within, before)) (first.least m past before);
     }
 
--- the marks after one bit of the words was set or cleared
+-- setting or clearing the bit of n sets or clears the mark of n
 marks_put : (count n : ℕ) (b : Bool) (words new : List ℕ) → IsBitPut words n (digit b) new →
     marks_of count new ≡ slice_set (marks_of count words) n b
 marks_put count n b words new put =

@@ -162,7 +162,7 @@ pub length_new : (os : List Object) (n b : ℕ) (c : Content Capability) → len
 unfolding with_new
 length_new os n b c = length-set os n (record { owner = b; content = c })
 
--- the number of a bank isn't free
+-- a bank's number differs from each free number
 pub bank_not_free : (os : List Object) (x n : ℕ) → IsTrue (is_bank (content_at os x)) → IsTrue (is_free (content_at os n)) → x ≢ n
 bank_not_free os x n is gone same = bank_used (content_at os x) is (ap (λ (m : ℕ). is_free (content_at os m)) same ∙ gone)
 

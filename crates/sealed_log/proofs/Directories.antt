@@ -70,7 +70,7 @@ module _ (old part : List Entry) (k e : ℕ) (after : 30 * k ≤ e) (few : e ≤
       read (piece ds k) size (piece_fits ds k fits) is
   none_in bytes (Some seal) read = tt
 
-  -- after one sector was read, its entries are those of the sector, or it has none
+  -- if sector k was read as a sector of entries, all entries now contain its entries at their place
   pub found_next : {E : Type 0} (result : Result (Option Sums) E) (bytes : List ℕ) (n : ℕ) →
       length part ≡ length (take (e - 30 * k) (drop (30 * k) old)) → IfOk result (λ (found : Option Sums). IsPieceIn bytes n part found) →
       IfOk result (λ (found : Option Sums). IfSome found (λ (seal : Sums).
