@@ -168,7 +168,7 @@ fn descend<F: Frames>(
     }
 }
 
-// Returns the capability, in the top node of a tree, on the way to the page with an index.
+// Returns the capability in the top node of a tree that leads to the page with an index.
 fn next_slot<F: Frames>(frames: &mut F, tree: Tree, index: u64) -> Result<Capability, Failed>
     requires usable { F.IsUsable frames.old }
     requires sound { AreSound (F.parts frames.old) }

@@ -47,11 +47,11 @@ pub record IsNamed (fs : List Frame) (c : Cap) : Type 0 where
 abbrev pub AreNamed : List Frame → Type 0
 AreNamed fs = (n : ℕ) → All (IsNamed fs) (caps_in (frame_at fs n).content)
 
--- p is a root, and its annex is a
+-- number p is a root, whose annex is number `a`
 abbrev pub IsRootOf : List Frame → ℕ → ℕ → Type 0
 IsRootOf fs p a = annex_in (frame_at fs p).content ≡ Some a
 
--- a is an annex with the same owner as p
+-- number `a` is an annex with the same owner as p
 abbrev pub IsAnnexFor : List Frame → ℕ → ℕ → Type 0
 IsAnnexFor fs p a = (role_at fs a ≡ role.Annex) × (owner_of fs a ≡ owner_of fs p)
 

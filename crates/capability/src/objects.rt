@@ -107,8 +107,8 @@ pub fn set_word<F: PresentFrames>(store: &mut F, number: u64, index: usize, word
     store.set_word(number, index, word);
 }
 
-/// Puts a capability, live, into a slot of a node or a register of an annex. The object must be fetched and
-/// announced. No other object changes.
+/// Puts a capability into a slot of a node or a register of an annex, with its object's present count, so it
+/// is live. The object must be fetched and announced. No other object changes.
 pub fn set_slot<F: PresentFrames>(store: &mut F, number: u64, slot: usize, capability: Capability)
     requires fetched { F.IsFetched store.old number }
     requires announced { F.IsAnnounced store.old number }
@@ -123,8 +123,9 @@ pub fn set_slot<F: PresentFrames>(store: &mut F, number: u64, slot: usize, capab
     store.set_slot(number, slot, held);
 }
 
-/// Puts the capabilities of a message, live, into the last four slots of a node or registers of an annex. The
-/// object must be fetched and announced. No other object changes.
+/// Puts the capabilities of a message into the last four slots of a node or registers of an annex, each with
+/// its object's present count, so they are live. The node or annex must be fetched and announced. No other
+/// object changes.
 #[inline(always)]
 pub fn set_last_slots<F: PresentFrames>(store: &mut F, number: u64, message: &Message)
     requires fetched { F.IsFetched store.old number }

@@ -114,7 +114,8 @@ pub fn set_state<F: PresentFrames>(store: &mut F, process: u64, state: State)
     store.change_root(process, RootChange::State(state));
 }
 
-/// Sets the address space of a process to a capability, live. Its root must be fetched and announced.
+/// Sets the address space of a process to a capability, with its object's present count, so it is live. Its
+/// root must be fetched and announced.
 pub fn set_space<F: PresentFrames>(store: &mut F, process: u64, capability: Capability)
     requires fetched { F.IsFetched store.old process }
     requires announced { F.IsAnnounced store.old process }

@@ -24,7 +24,7 @@ pub all_members : (P : ℕ → Type 0) (xs : List ℕ) → ((n : ℕ) → is_mem
 all_members P xs each k d within = each (get_or xs k d) (list_any_at (nat_eq (get_or xs k d)) xs k d within
     (eq-eqb (get_or xs k d) (get_or xs k d) refl))
 
--- a member of the numbers from a on that pass a test lies among these numbers and passes it
+-- if a number is among those from `a` on that pass a test, it lies in the range and passes the test
 
 pub found_in : (f : ℕ → Bool) (a count n : ℕ) → is_member (filter f (range_with_len a count)) n ≡ true →
     (a ≤ n) × (n < a + count) × (f n ≡ true)

@@ -19,7 +19,7 @@ pub record AreNoted (fs : List Frame) (notes : List (Option Noted)) : Type 0 whe
   pub count : length notes ≡ length fs
   pub each : (n : ℕ) → note_at notes n ≡ noted_in (frame_at fs n).content
 
--- whether a root has taken annex a
+-- whether a root has taken number `a` as its annex
 abbrev pub is_taken : List Bool → ℕ → Bool
 is_taken taken a = slice_index_or taken a false
 
@@ -38,7 +38,7 @@ is_waiting_note None = false
 abbrev pub waits_at : List (Option Noted) → ℕ → Bool
 waits_at notes p = is_waiting_note (note_at notes p)
 
--- root p takes annex a, which no other root has taken
+-- root p takes annex `a`, which no other root has taken
 pub record IsTaking (fs : List Frame) (p a : ℕ) (old new : List Bool) : Type 0 where
   pub annex : IsAnnexFor fs p a
   pub vacant : is_taken old a ≡ false

@@ -52,7 +52,7 @@ gate_is bytes (Some m) has n = (
   λ other. ap (λ (k : ℕ). Some k) (one_gate_number bytes m n has other),
 )
 
--- three slots in a and b have the same numbers
+-- in both lists of slots, each of the three slots has the same numbers
 pub record SameNumbers (a b : Slots) : Type 0 where
   pub header : (k : ℕ) → k < 3 → (a k).header ≡ (b k).header
   pub gate : (k : ℕ) → k < 3 → (a k).gate ≡ (b k).gate

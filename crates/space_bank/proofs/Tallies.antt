@@ -69,7 +69,7 @@ module _ {p : Parts} {s : BanksState} {b : ℕ} (asks : MayServe p s b) where
   pub serve_roles : HaveTheirRoles (frames_of p)
   serve_roles = keepable_roles p.geometry asks.sound.0 (frames_of p) asks.sound.1.keepable
 
-  -- in the chain of a bank, each usage is at most its limit, and both have 64 bits
+  -- each number in the chain of a bank is a bank
   pub chain_bank : (x : ℕ) → is_member (chain (objects_in p) b) x ≡ true → IsTrue (is_bank (content_at (objects_in p) x))
   chain_bank x member = chain_banks (objects_in p) serve_tree b x asks.bank member
 
