@@ -19,7 +19,7 @@ read : (ks : List Kind) (ps : List (Option (List ℕ))) (ns : List (Option (List
 unfolding contents_in
 read ks ps ns k = grind (arith, nat_tests, get_or-map-range_with_len, get_or_past, length_contents)
 
--- a body of a kind with words has words at its place; one of a kind with slots has slots
+-- if a body's kind has words, and these are stored, `HasRoom` holds
 word_room : (a : Kind) (w : List ℕ) (s : Option (List Cap)) → words_are_of a ≡ true → HasRoom a (Some w) s
 word_room a w s is = grind (arith, nat_tests)
 

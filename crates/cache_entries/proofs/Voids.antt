@@ -14,7 +14,7 @@ void_from_start slots are = (
       ∙ get_or-replicate 32 i void_held void_held within,
 )
 
--- 32 slots are void if those before an index are, and those from `end`, at most this index, on
+-- 32 slots are void if those before `index` are, and those from `end` on, where `end` is at most `index`
 pub all_void : (slots : List Cap) (end index : ℕ) → length slots ≡ 32 → end ≤ index →
     ((i : ℕ) → i < index → get_or slots i void_held ≡ void_held) → AreVoidFrom end slots → slots ≡ replicate 32 void_held
 all_void slots end index count past before from =

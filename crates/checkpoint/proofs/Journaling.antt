@@ -31,7 +31,7 @@ pub content_is_page : (c : Content Cap) → role_of c ≡ role.Page → is_page 
 content_is_page (content.Page words) is = refl
 content_is_page other is = absurd cc
 
--- if a header has the role of a page, the number has an object, and its content is a page
+-- if the header of a number has the role of a page, the number has an object
 pub known_page : (hs : List ObjectHeader) (n : ℕ) → (header_at hs n).role ≡ role.Page → n < length hs
 known_page hs n page = elim (cases_lt n (length hs)) [
   | inl lt ↦ lt

@@ -55,7 +55,7 @@ sound_after g age fs gs i e young fits runs is objects sound keepable current = 
       (invocation_keeps g (world_at age fs) i e sound.sound fits runs young is);
 }
 
--- An invocation of a kernel object: a call, a return or a send.
+-- the reply of an order's outcome
 abbrev reply_in : OrderOutcome → Reply
 reply_in o = record { code = o.code; words = o.words; capability = o.capability }
 
@@ -101,7 +101,7 @@ module _ {g : Geometry} {os : List Object} {i : Invocation} {caller : Caller} {p
   pub order_written : list ≡ (on_kernel_object g os i).written
   order_written = planned.listed ∙ sym (ap (λ (e : Effect). e.written) (effect_requested ∙ effect_planned caller.operation))
 
-  -- each number that an invocation of a kernel object writes is that of an object
+  -- a property of the process, its annex and the numbers of all objects holds of each listed number
   pub listed_known : (P : ℕ → Type 0) → P caller.process → P caller.annex → ((n : ℕ) → n < length os → P n) → All P list
   listed_known P of_process of_annex known = grind (arith, nat_tests)
 

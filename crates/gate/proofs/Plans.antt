@@ -53,7 +53,7 @@ after_process os i is q = grind (arith, nat_tests, state_process)
 pub after_annex : (os : List Object) (i : Invocation) (q : ℕ) → annex_at (after_gate os i) q ≡ annex_at os q
 after_annex os i q = grind (arith, nat_tests, state_annex)
 
--- setting a slot or a word, and making capabilities void, keep annexes
+-- setting a word keeps the annex that a content names
 word_annex : (c : Content Capability) (i word : ℕ) → annex_in (with_word_in c i word) ≡ annex_in c
 word_annex c i word = grind (arith, nat_tests)
 
@@ -86,7 +86,7 @@ changed_annex os list (change.Space process held) within q = field_kept annex_in
     (content.Root (with_space (root_at os process) held)) refl q
 changed_annex os list (change.Bank made) within q = absurd within
 
--- an edit of one object doesn't depend on the listed numbers, and keeps the `SameFrame`
+-- an edit of one object doesn't depend on the listed numbers
 pub changed_any : (os : List Object) (list : List ℕ) (c : Change) → IsWithinObject c → changed os [] c ≡ changed os list c
 changed_any os list c within = grind (arith, nat_tests)
 

@@ -141,7 +141,7 @@ module _ {disk : Disk} {b : Books} (only_now : (c : Image) → disk.left_since d
   pub moved_none : b.moved ≤ b.header.entries → MovedBy disk disk b b 0
   moved_none few = grind (arith, nat_tests)
 
-  -- the next entry's frame is home already, so no call was made
+  -- if the next entry's frame is home already, the entry is moved without a call
   pub moved_on : MovedBy disk disk b (moved_books b 1) 1
   moved_on = grind (arith, nat_tests)
 

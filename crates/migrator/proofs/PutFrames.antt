@@ -63,7 +63,7 @@ module _ {first : ℕ} {was : Image} {b : Books} (n : ℕ) (q : Place) (before :
       search (subst (IsRunning (with_places false b (set b.frozen n q))) (sym has.1)
       (runs.0, taken_set b.frozen q lt slot runs.1 has.2, runs.2))
 
--- only the frame of object n differs
+-- setting what was written of object n changes nothing else that is stored
 stored_put : (since : Bool) (image : Image) (b : Books) (ps qs : List Place) (n : ℕ) (x : Put) →
     puts_in image b.plan (generation_of since b) qs ≡ set (puts_in image b.plan (generation_of since b) ps) n x →
     stored_in image (with_places since b qs) ≡ putting since n x (stored_in image (with_places since b ps))

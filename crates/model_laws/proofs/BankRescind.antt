@@ -79,7 +79,7 @@ module _ (os : List Object) (set : List ℕ) (tree : IsTree os) (closed : IsClos
   unfolding chain
   chain_kept b is stays = chain_within_kept 16 b is stays
 
-  -- an object that stays is under the same banks as before, and a rescinded one under none
+  -- an object that stays is under the same banks as before
   under_kept : (x n : ℕ) → is_member set n ≡ false → is_under (rescind set os) x (object_at (rescind set os) n)
       ≡ is_under os x (object_at os n)
   under_kept x n stays = grind (arith, nat_tests, kept_tests, kept_alike, chain_kept, used_owner, owner_stays)

@@ -137,7 +137,7 @@ module _ (os : List Object) (t : IsTree os) (b : ℕ) (is : IsTrue (is_bank (con
         (chain_heir 0 c (λ e. on (sym e)) bank ∙ has_prime c bank)
   ]
 
-  -- the usage of other banks doesn't change, and the bank has usage 0
+  -- after the transfer an object is under another bank exactly if it was before
   under_heir : (x n : ℕ) → x ≢ b → is_under (inherited os b) x (object_at (inherited os b) n) ≡ is_under os x (object_at os n)
   under_heir x n differ = grind (arith, nat_tests, inherited_content, inherited_owner, chain_heir, used_owner)
 
@@ -261,7 +261,7 @@ returned_fits g os b h is on x differ = omega (arith, usage_returned_both g os b
 
 -- outcomes
 
--- an outcome that gives no capability
+-- an outcome with sound objects that gives no capability is valid
 void_keeps : (g : Geometry) (os : List Object) (written : List ℕ) → IsNow g os → IsOutcome g (made os written Void)
 void_keeps g os written h = grind (arith, nat_tests)
 

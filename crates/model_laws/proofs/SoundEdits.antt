@@ -190,7 +190,7 @@ module _ (os us : List Object) (W V : ℕ → Type 0) (f : Capability → Capabi
   pub filled_map : (c : Content Capability) → IsFilled os W c → IsFilled us V (map_content f c)
   filled_map c h = grind (arith, nat_tests, length-map, slots_map, held_void, at_map)
 
--- after a consume no object holds a capability that resumes p, and nothing else has changed
+-- after a consume each object has lost its capabilities that resume p, and nothing else
 
 pub object_consume : (p : ℕ) (os : List Object) (n : ℕ) → object_at (consume p os) n ≡ without (resumes p) (object_at os n)
 unfolding consume

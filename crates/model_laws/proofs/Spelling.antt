@@ -213,7 +213,7 @@ spelling_is_no_skip : (c : Command) → IsSkipped (spelling c) → ⊥
 unfolding spelling command_words
 spelling_is_no_skip c skipped = grind (arith, nat_tests)
 
--- a line that is skipped or spells a command is not bad, and no spelling is skipped
+-- a line that is skipped is not bad
 pub skip_is_not_bad : (text : List ℕ) → Says text line.Skip → Says text line.Bad → ⊥
 skip_is_not_bad text skip bad = elim bad [ inl long ↦ omega arith | inr none ↦ none.0 skip.1 ]
 

@@ -35,7 +35,7 @@ touched_count-set t n inside unmarked = search (arith, sum_by-set)
 pub set-marked : (t : List Bool) (n : ℕ) → get_or t n false ≡ true → set t n true ≡ t
 set-marked t n marked = ap (λ b. set t n b) (sym marked) ∙ set-get_or t n false
 
--- marking a number raises the count by at most one; marking a list, by at most its length
+-- marking a number raises the count by at most one
 one_more_by : (t : List Bool) (n : ℕ) (b : Bool) → get_or t n false ≡ b → n < length t → touched_count (set t n true) ≤ touched_count t + 1
 one_more_by t n true is inside = omega (arith, ap touched_count (set-marked t n is))
 one_more_by t n false is inside = omega (arith, touched_count-set t n inside is)

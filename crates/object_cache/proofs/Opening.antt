@@ -14,7 +14,7 @@ use Rattle.object_cache.proofs.Objects.{content_in, contents_count, cached_entry
 use Rattle.model.specs.declared.object.Content.TheVariants as content
 use Rattle.object_cache.proofs.PutsOut.{dropping}
 
--- saved frames have the roles of their contents, and there is one for each object
+-- the header of each saved frame has the role of its content
 pub held_roles : (size : ℕ) (c : Image) (saved : SavedFrames) → Holds size c saved → HaveTheirRoles saved.frames
 held_roles size c saved holds = search (arith, cases_lt, get_or_past)
 

@@ -7,7 +7,7 @@ use Rattle.recovery.proofs.Names.{is_waiting_root, owner_of, role_at}
 use Rattle.std.proofs.Common.{◌≡◌, ◌==◌, ◌∙◌}
 use Rattle.model.specs.declared.object.Role.TheVariants as role
 
--- the header and the owner at a number are those of its frame
+-- the header at a number is that of its frame
 pub header_is : (fs : List Frame) (n : ℕ) → header_at (headers fs) n ≡ (frame_at fs n).header
 header_is fs n = get_or-map (λ (f : Frame). f.header) fs n blank_frame
 
@@ -62,7 +62,7 @@ module _ (fs : List Frame) (p : ℕ) where
   annex_is : annex_in (content_at (objects_of fs) p) ≡ annex_in (frame_at fs p).content
   annex_is = grind (arith, nat_tests, content_is)
 
-  -- p is a process exactly if its frame is a root, and its annex is the root's
+  -- if p is a process, its frame is a root that names the process's annex
   pub root_of : IsTrue (is_process (objects_of fs) p) → IsRootOf fs p (annex_at (objects_of fs) p)
   root_of process = grind (arith, nat_tests, annex_is)
 

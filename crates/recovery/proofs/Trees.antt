@@ -27,7 +27,7 @@ reaches b xs P is p = (
   λ there. is ∙ any_of xs (there p),
 )
 
--- if numbers 0 to n satisfy the rules, and these are all, all do
+-- if number 0, and all numbers below n, satisfy the rules of owners and chains, and no object has a greater number, `AreOwned` holds
 module _ (p : Parts) (hs : List ObjectHeader) (count n : ℕ) (table : hs ≡ p.headers) (all : count ≡ length hs) (past : count ≤ n) where
   pub owned_whole : (role_at (frames_of p) 0 ≡ role.Bank) × (owner_of (frames_of p) 0 ≡ 0) →
       ((m : ℕ) → m < n → role_at (frames_of p) m ≢ role.Free → role_at (frames_of p) (owner_of (frames_of p) m) ≡ role.Bank) →

@@ -80,7 +80,7 @@ module _ (w : ℕ) (x y : List ℕ) (rx : IsRow x) (ry : IsRow y) (len : length 
   row_y : IsRow (body_of y)
   row_y = body_row y (sealed_room y sy) ry
 
-  -- if the burst lies before the seal, the seals are equal, and so are the sums
+  -- if the burst lies before the seal, the bodies are equal, because the seals are equal, and so are the sums
   in_body : 4 * w + 12 ≤ length x - 24 → body_of x ≡ body_of y
   in_body clear =
       let tails : seal_of x ≡ seal_of y =
@@ -98,7 +98,7 @@ module _ (w : ℕ) (x y : List ℕ) (rx : IsRow x) (ry : IsRow y) (len : length 
       get_or_default (body_of x) q d 0 lt ∙ body_byte x y q len (is.before q (omega (arith, lt, length_body x, late)))
       ∙ get_or_default (body_of y) q 0 d inside)
 
-  -- if the burst lies across both, b and c are equal, and at most two numbers of the body differ
+  -- if the burst lies across body and seal, the bodies are equal: b and c are equal, and at most two numbers differ
   across : 4 * w < length x - 24 → length x - 24 < 4 * w + 12 → body_of x ≡ body_of y
   unfolding sums_of
   across early late =

@@ -246,7 +246,7 @@ pub used_whole : (os : List Object) (b n : ℕ) → length os ≤ n → usage os
 unfolding usage
 used_whole os b n whole = ap (count_by (is_used os b)) (sym (take_all n (enumerate_from 0 os) (rw (length-enumerate_from 0 os) whole)))
 
--- number 0 counts for no usage
+-- if the banks of a list of objects form a tree, the list isn't empty
 not_empty : (os : List Object) → IsTree os → 0 < length os
 not_empty os t = grind (arith, nat_tests, get_or_past)
 

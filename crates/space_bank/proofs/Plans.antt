@@ -29,8 +29,7 @@ pub past_read : (p : Parts) (hs : List ObjectHeader) (count n : ℕ) → hs ≡ 
     length (objects_in p) ≤ n
 past_read p hs count n table is past = grind (arith, nat_tests, length_objects)
 
--- A walk along a chain that has passed i banks: it ends at the bank it looks for, at number 0, or after 16 banks; otherwise it goes on
--- with the owner.
+-- a walk along a chain that has passed fewer than 16 banks, and is at the bank it looks for, has found it
 pub chain_here : (os : List Object) (i b sought : ℕ) → i < 16 → b ≡ sought → list_any (nat_eq sought) (chain_within (16 - i) os b) ≡ true
 chain_here os i b sought inside same = grind (arith, nat_tests)
 

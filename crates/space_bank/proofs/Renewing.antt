@@ -244,7 +244,7 @@ pub only_used : (os : List Object) (b : ℕ) → IsTrue (is_bank (content_at os 
 only_used os b is n member = subst (λ (k : ℕ). is_free (content_at os k) ≡ false) (sym (only_member b n member))
     (used_where is_bank refl (content_at os b) is)
 
--- the objects that a bank owns are in use, and each is listed once
+-- the objects that a bank owns are in use
 pub owned_used : (os : List Object) (b : ℕ) → All (λ n. is_free (content_at os n) ≡ false) (owned_by os b)
 owned_used os b = all_members (λ n. is_free (content_at os n) ≡ false) (owned_by os b) (λ n member. (owned_found os b n member).1)
 
