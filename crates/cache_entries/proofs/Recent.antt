@@ -17,7 +17,7 @@ module _ (n : ℕ) where
   front_stays (m ∷ ms) (suc i) (suc k) last once at below =
       grind (arith, nat_tests, without_tail, apart_from, front_stays ms i k (omega (arith, last)) once.1 at (omega (arith, below)))
 
-  -- the first k numbers don't include the last
+  -- if there are more than k numbers, the first k don't include the last
   pub front_apart : (ns : List ℕ) (i k m : ℕ) → i + 1 ≡ length ns → AllDiffer ns → slice_get ns i ≡ Some n → k < length ns →
       is_member (take k ns) m ≡ true → m ≢ n
   front_apart ns i k m last once at below is same = true≢false (

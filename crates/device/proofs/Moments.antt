@@ -80,7 +80,7 @@ counted_ok {old = old} {new = new} counts =
     ⊎_elim (λ rose. let never : false ≡ true = counts.cause.1 rose in cc) (λ le. omega (arith, le, counts.never_falls))
     (cases_lt old.failures new.failures)
 
--- if the earlier calls of a run raise no count of failures, it rises exactly if the last call fails
+-- if the earlier calls of a run don't raise the count of failures, it rises exactly if the last call fails
 pub counts_on : {T E : Type 0} {old mid new : Disk} {result : Result T E} → mid.failures ≡ old.failures → Counts mid new result →
     Counts old new result
 counts_on {old = old} {mid = mid} {new = new} same counts = record {

@@ -63,7 +63,7 @@ half_of u d q is =
     ap (λ (x : ℕ). (2 * u + 1) * x) even ∙ mul_left_comm (2 * u + 1) 2 e in
     (e, even, omega (arith, is, double))
 
--- if an odd number times d is a multiple of 2^k, d is one
+-- if an odd number times d is a multiple of 2^k, d is a multiple of 2^k
 odd_factor : (k u d m : ℕ) → (2 * u + 1) * d ≡ 2 ^ k * m → (e : ℕ) × (d ≡ 2 ^ k * e)
 odd_factor zero u d m is = (d, omega arith)
 odd_factor (suc k) u d m is =

@@ -14,7 +14,7 @@ header_read ns len magic = listing 11 0 ns len ∙ ap (λ (m : ℕ). m ∷ liste
 pub header_magic : (h : SealedHeader) (ns : List ℕ) → ns ≡ header_numbers h → get_or ns 0 0 ≡ 0x4441_4548_534f_5245
 header_magic h ns e = ap (λ (xs : List ℕ). get_or xs 0 0) e
 
--- if seven numbers begin with the number of their role, the page header that they decode to has these numbers
+-- if the first of seven numbers is that of the role in the page header that they decode to, the header has these numbers
 pub page_read : (ns : List ℕ) → length ns ≡ 7 → role_number (page_header_from ns).object.role ≡ get_or ns 0 0 →
     ns ≡ page_header_numbers (page_header_from ns)
 page_read ns len is = listing 7 0 ns len ∙ ap (λ (m : ℕ). m ∷ listed 1 6 ns) (sym is)

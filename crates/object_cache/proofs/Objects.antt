@@ -163,7 +163,7 @@ present_kept : (f : Content Cap → Content Cap) (n : ℕ) (es : List (Option En
 present_kept f n es within = ap (option_map kept_of) (get_or-set_same es n (option_map (changing f) (entry_at es n)) None within)
     ∙ kept_stays f (entry_at es n)
 
--- changing an entry keeps which numbers have one
+-- changing an entry doesn't change which numbers have entries
 pub cached_stay : (change : Entry → Entry) (n : ℕ) (es : List (Option Entry)) → cached_in (with_entry change n es) ≡ cached_in es
 unfolding cached_in
 cached_stay change n es = map-set_same is_some es n (option_map change (entry_at es n)) None (some_map change (entry_at es n))

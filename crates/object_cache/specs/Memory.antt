@@ -127,8 +127,8 @@ contents_in s m = map (content_at s m) (range_with_len 0 (length m.headers))
 unfoldable pub frozen_in : Stored → Memory → List Frame
 frozen_in s m = map (frozen_at s m) (range_with_len 0 (length m.headers))
 
--- Which body an entry has for a frozen frame that isn't in the log. The arguments say whether the frame is pending,
--- whether there is a frozen copy, and whether the object was written since the freeze.
+-- Which body an entry has for a pending frozen frame, from whether it has a frozen copy, and whether the object was
+-- written since the freeze. If the frame isn't pending, or there is no entry: `Nothing`.
 abbrev pub frozen_state_body : Bool → Bool → FrozenState
 frozen_state_body true touched = Apart
 frozen_state_body false true = Nothing
