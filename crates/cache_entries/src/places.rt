@@ -145,7 +145,7 @@ impl Places {
     pub(crate) fn lists(&self, number: u64) -> bool
         ensures { result ≡ is_member self.now.numbers number }
     {
-        // Proof only: this brings in that each number in the order has a place.
+        // For the proof: by the contract of `len`, each number in the order has a place.
         self.len();
         (number as usize) < self.places.len() && self.has(number)
     }

@@ -202,7 +202,7 @@ impl UseOrder {
         ensures { self.new ≡ used_last number self.old }
     {
         spare_use(&mut self.order, &mut self.log);
-        // Proof only: this brings in that each number in the order has a place.
+        // For the proof: by the contract of `len`, each number in the order has a place.
         self.order.len();
         self.log.push(number);
     }
@@ -248,7 +248,7 @@ impl UseOrder {
         ensures within { result < self.old.most }
     {
         spare_use(&mut self.order, &mut self.log);
-        // Proof only: this brings in that each number in the order has a place.
+        // For the proof: by the contract of `len`, each number in the order has a place.
         self.order.len();
         let place = self.order.insert(number);
         self.log.push(number);

@@ -41,7 +41,7 @@ pub fn invoke<F: PresentFrames>(
     ensures counted { (F.parts store.new).failures ≡ (F.parts store.old).failures
         → AreCounted (F.parts store.new).geometry (objects_in (F.parts store.new)) banks.new }
 {
-    // Proof only: these two bring in invariants of the invocation and of the object table.
+    // For the proof: these two calls bring in invariants of the invocation and of the object table.
     invocation.can_be_spelt();
     numbers_fit(store);
     let process = invocation.process;

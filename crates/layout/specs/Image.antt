@@ -174,7 +174,7 @@ pub record SavedState : Type 0 where
   pub directory : List Entry
   pub frames : List Frame
 
--- an image encodes a saved state if none of reasons 1 to 7 holds
+-- the sectors of an image encode the saved state s: its superblock, header, directory and frames
 pub record Encodes (image : Image) (size : ℕ) (s : SavedState) : Type 0 where
   pub plan : HasPlan image size s.plan
   pub header : HasHeader image s.plan s.header

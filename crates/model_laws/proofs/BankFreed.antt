@@ -16,7 +16,7 @@ use Rattle.model_laws.proofs.BankRescind.{IsClosedSet, lost_together, used_owner
 pub used_within : (os : List Object) (n : ℕ) → is_free (content_at os n) ≡ false → n < length os
 used_within os n used = grind (arith, nat_tests, get_or_past)
 
--- a set of objects that are given up together, each listed once
+-- a set of objects that are rescinded together, each listed once
 pub record IsGivenUp (os : List Object) (set : List ℕ) : Type 0 where
   pub closed : IsClosedSet os set
   pub once : AllDiffer set
@@ -110,7 +110,7 @@ pub usage_freed : (g : Geometry) (os : List Object) (c : Capability) (b n : ℕ)
     → usage (rescind (n ∷ ns) os) x ≡ usage os x - (if is_member (chain os b) x then length (n ∷ ns) else 0)
 usage_freed g os c b n ns h own frees names x bank = omega (arith, usage_freed_both g os c b n ns h own frees names x bank)
 
--- a bank's usage is at least the number of objects that a free gives up
+-- a bank's usage is at least the number of objects that the order `Free` rescinds
 pub freed_fits : (g : Geometry) (os : List Object) (c : Capability) (b n : ℕ) (ns : List ℕ) → IsNow g os → owner_at os n ≡ b →
     freed_by os c ≡ n ∷ ns → NamesItsKind os c → (x : ℕ) → IsTrue (is_bank (content_at os x)) →
     (if is_member (chain os b) x then length (n ∷ ns) else 0) ≤ usage os x

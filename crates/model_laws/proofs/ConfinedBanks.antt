@@ -133,7 +133,7 @@ module _ (g : Geometry) (inside : ℕ → Bool) (os : List Object) (h : IsNow g 
         | inr no_annex ↦ grind (arith, nat_tests, fresh_root, at_other)
       ])
 
-  -- giving up objects of a bank
+  -- freeing objects of a bank
 
   -- a rescind of members stays within the set
   gone_stays : (set : List ℕ) → ((n : ℕ) → is_member set n ≡ true → IsTrue (inside n)) → StaysWithin inside os (rescind set os)

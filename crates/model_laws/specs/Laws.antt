@@ -58,7 +58,7 @@ rescinded_by os b bank.Destroy args = under os b
 rescinded_by os b bank.ReturnToParent args = b ∷ []
 rescinded_by os b _ args = []
 
--- an order of a bank gives up exactly the objects that it rescinds if its code is `Done`, else none
+-- an order of a bank whose code is `Done` frees exactly the objects that it rescinds; any other frees none
 abbrev pub GivesUpRescinded : Type 0
 GivesUpRescinded = (g : Geometry) (w : World) (b : ℕ) (requested : BankOrder) (args : Arguments) (n : ℕ) →
     IsSound g w → IsTrue (is_bank (content_at w.objects b)) → MayBeHeld w.objects args.capability →
@@ -68,7 +68,7 @@ GivesUpRescinded = (g : Geometry) (w : World) (b : ℕ) (requested : BankOrder) 
     × (((on_bank g w.objects b requested args).code ≡ code.Done → ⊥) →
     is_given_up w.objects (on_bank g w.objects b requested args).objects n ≡ false)
 
--- an invocation by a running process gives up no object, unless it is an order of a bank
+-- an invocation by a running process frees no object, unless it is an order of a bank
 abbrev pub GivesUpNothing : Type 0
 GivesUpNothing = (g : Geometry) (w : World) (i : Invocation) (e : Effect) (n : ℕ) →
     IsSound g w → Fits (command.Invoke i) → IsTrue (is_running_process w.objects i.process) →

@@ -43,8 +43,8 @@ stable = after frozen (writes Send 43 ∷ command.Stabilize 5 ∷ [])
 abbrev pub committed : Machine
 committed = after stable (command.Commit ∷ [])
 
--- if the device fails in a commit or a journal, the old or the new state is saved; in the migration of the last
--- object, the state is saved with its entries or with none; in other commands only one state may be saved
+-- if the device fails in a commit or a journal, the old or the new state is saved; if it fails as the last object goes
+-- home, the saved state has its entries or none; in other commands only one state may be saved
 abbrev pub FailsBetween : Type 0
 FailsBetween =
     (replying_saved (candidates (Up stable) ++ second (Up stable) command.Commit) ≡ (0, 0, 0) ∷ (1, 2, 3) ∷ [])

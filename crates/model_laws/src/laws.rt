@@ -25,13 +25,13 @@ pub fn consumes_all()
     ensures { ConsumesAll }
 {}
 
-/// An order of a bank gives up exactly the objects that it rescinds, and none if it isn't done.
+/// An order of a bank frees exactly the objects that it rescinds, and none if it isn't done.
 #[tactic(auto, using(crate::proofs::GivenUp::gives_up_rescinded))]
 pub fn gives_up_rescinded()
     ensures { GivesUpRescinded }
 {}
 
-/// An invocation that is not an order of a bank, through a gate or not, gives up no object.
+/// An invocation that is not an order of a bank, through a gate or not, frees no object.
 #[tactic(auto, using(crate::proofs::GivenUp::gives_up_nothing))]
 pub fn gives_up_nothing()
     ensures { GivesUpNothing }

@@ -58,7 +58,7 @@ impl<D: Device, P: Policy> Frames for Store<D, P> {
             ↔ ((parts_of D.disk self.old).failures < (parts_of D.disk self.new).failures) }
         ensures snapshots { OnlyFetches (parts_of D.disk) (ContinuesIn P.KEEPS_ALL D.disk) self.old self.new }
     {
-        // Proof only: the borrow brings in the store's invariant.
+        // For the proof: borrowing a field brings in the store's invariant.
         let _ = &self.durable;
         if P::KEEPS_ALL {
             return Ok(());
@@ -67,7 +67,7 @@ impl<D: Device, P: Policy> Frames for Store<D, P> {
             return Ok(());
         }
         let read = self.read_all_in(numbers);
-        // Proof only: this brings in that the order has exactly the numbers with an entry.
+        // For the proof: by the contract of `len`, the order has exactly the numbers with an entry.
         self.len();
         read
     }
@@ -106,7 +106,7 @@ impl<D: Device, P: Policy> PresentFrames for Store<D, P> {
         ensures all { P.KEEPS_ALL ≡ true → self.new.order ≡ self.old.order }
         ensures prepares { Prepares (parts_of D.disk) (ContinuesIn P.KEEPS_ALL D.disk) self.old self.new written.now result }
     {
-        // Proof only: the borrow brings in the store's invariant.
+        // For the proof: borrowing a field brings in the store's invariant.
         let _ = &self.durable;
         self.fetch(fetched)?;
         self.make_writable(written)

@@ -71,7 +71,7 @@ impl<D: Device, P: Policy> Store<D, P> {
         ensures fewer { OnOk result (pending_count self.new < pending_count self.old) }
         ensures moves { Moves D.disk on_device self.old self.new result }
     {
-        // Proof only: the borrow brings in the store's invariant.
+        // For the proof: borrowing a field brings in the store's invariant.
         let _ = &self.durable;
         if let FrozenState::Nothing = self.frozen_state(number) {
             self.take_below(number)?;
