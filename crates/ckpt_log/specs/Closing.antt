@@ -23,7 +23,7 @@ pub record KeepsOrHasNone (old new : Image) : Type 0 where
   pub elsewhere : SparesRest old new
   pub committed : (committed_bytes new ≡ committed_bytes old) ⊎ HasNoHeader new
 
--- c was left by a crash now, and then changed so that only gates differ, with the same committed header or none
+-- c differs only in gates from an image that a crash now may leave; it has the same committed header, or none
 abbrev pub WasKeptOrHasNone : Disk → Image → Type 0
 WasKeptOrHasNone disk c = (d : Image) × disk.may_leave d × KeepsOrHasNone d c
 

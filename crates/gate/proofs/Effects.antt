@@ -110,7 +110,7 @@ module _ {g : Geometry} {os : List Object} {i : Invocation} {caller : Caller} {p
       change_fetched g os rest P plan.change (planned.plans.may os (frame_refl os) now)
       (λ k d inside. known _ (planned.plans.known k d inside))
 
-  -- the objects after the order are sound, and the capability in the reply fits
+  -- the objects after the order are sound, and the capability in the reply satisfies `FitsCap`
   module _ (now : IsNow g os) (fits : Fits (command.Invoke i)) (runs : IsTrue (is_running_process os i.process)) where
     ordered_requested : ordered g os i ≡ order g (state_before caller.operation os caller.process) caller.invoked word args
     ordered_requested = λ k. order g (state_before (sym is.operation k) os (sym is.process k)) (sym is.invoked k) word args
@@ -181,7 +181,7 @@ pub gate_process : (p : Parts) (sound : AreSound p) {i : Invocation} {caller : C
     caller.invoked ≡ gate_capability gate → IsTrue (is_process (objects_in p) gate.process)
 gate_process p sound {i} {caller} gate requested same = grind (arith, nat_tests, gate_names, register_kind)
 
--- the capabilities that the receiver gets fit
+-- each capability that the receiver gets satisfies `FitsCap`
 pub received_fits : (g : Geometry) (os : List Object) (i : Invocation) (sent : List Capability) → IsNow g os → object_count g < 2 ^ 64 →
     IsTrue (is_process os i.process) → sent ≡ sent_by os i →
     All (FitsCap g) (received i sent)

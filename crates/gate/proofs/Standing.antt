@@ -46,7 +46,7 @@ module _ (g : Geometry) (age : ℕ) (fs : List Frame) (keepable : AreKeepable g 
   pub live_is_kept : (c : Capability) → FitsCap g c → IsKeptCap g age (record { what = c; count = current_count (headers fs) c })
   live_is_kept c fits = grind (arith, nat_tests, allocations_fit, calls_fit)
 
--- a capability that may be held fits
+-- a capability that may be held satisfies `FitsCap`
 module _ (g : Geometry) (os : List Object) (kinds : (n : ℕ) → IsOfKind g n (content_at os n)) (few : object_count g < 2 ^ 64) where
   kept_number : (n : ℕ) → n < g.nodes → IsNodeNumber g n
   kept_number n inside = (inside, omega (arith, inside, few))
@@ -57,11 +57,11 @@ module _ (g : Geometry) (os : List Object) (kinds : (n : ℕ) → IsOfKind g n (
   pub held_fits : (c : Capability) → MayBeHeld os c → FitsCap g c
   held_fits c h = grind (arith, nat_tests, page_number, zero_count, kept_number, node_number, root_number, bank_number)
 
-  -- the resume capability of a process fits
+  -- the resume capability of a process satisfies `FitsCap`
   pub resume_fits : (p : ℕ) → IsTrue (is_root (content_at os p)) → FitsCap g (Resume p)
   resume_fits p is = (kept_number p (root_number g p (content_at os p) (kinds p) is), zero_count)
 
--- a capability that fits may be kept in a store's frames with its object's present count
+-- a capability that satisfies `FitsCap` may be kept in a store's frames with its object's present count
 pub fits_kept : (g : Geometry) (age : ℕ) (p : Parts) → AreKeepable g age (frames_of p) → (c : Capability) → FitsCap g c →
     IsKeptCap g age (record { what = c; count = current_count p.headers c })
 fits_kept g age p keepable c fits =

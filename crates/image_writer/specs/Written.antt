@@ -64,7 +64,7 @@ pub record IsWritten (p : Plan) (h : CheckpointHeader) (es : List Entry) (frames
 abbrev pub LeavesClosed : Disk → Type 0
 LeavesClosed disk = (c : Image) → disk.may_leave c → AreClosed c
 
--- c was left by a crash now, and then changed so that only gates differ and the same header is committed
+-- c differs only in gates from an image that a crash now may leave, and has the same committed header
 abbrev pub WasBefore : Disk → Image → Type 0
 WasBefore disk c = (d : Image) × disk.may_leave d × KeepsImage d c
 

@@ -64,7 +64,7 @@ pub not_covered : (g : Geometry) (rs : List HomeRange) (i next : ℕ) → i < le
     (IsNext g (range_at rs i) next → (range_at rs i).count ≤ g.nodes + g.pages - next → ⊥) → Cover g 0 rs → ⊥
 not_covered g rs i next lt was hold c = grind (arith, nat_tests, drop_more, cover_within)
 
--- no range begins after the last number, or counts more than all numbers
+-- no range begins after the last number, or has more numbers than there are objects
 pub ranges_within : (g : Geometry) (n : ℕ) (rs : List HomeRange) → Cover g n rs →
     All (λ r. (r.first ≤ g.nodes + g.pages) × (r.count ≤ g.nodes + g.pages)) rs
 ranges_within g n [] c k d lt = absurd (omega arith)

@@ -1,4 +1,4 @@
-// How much a device holds, and how far the machine may go.
+// How many objects a device holds, and the greatest age.
 ghost use Rattle.std.specs.Prelude.{◌↔◌, IsTrue};
 ghost use Rattle.model.specs.Keepable.{IsTarget};
 

@@ -208,7 +208,7 @@ module _ (g : Geometry) (os : List Object) (h : IsFramed g os) (b : ℕ) (is : I
     ]
   ]
 
-  -- a bank that stays is above everything under this bank exactly if it is above this bank
+  -- a bank that isn't under b is in the chain of each bank under b exactly if it is in the chain of b's owner
   above_alike : (x : ℕ) → is_member (under os b) x ≡ false → (c : ℕ) → IsTrue (is_bank (content_at os c)) → is_member (chain os c) b ≡ true
       → is_member (chain os c) x ≡ is_member (chain os (owner_at os b)) x
   above_alike x stays =

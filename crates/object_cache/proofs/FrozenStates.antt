@@ -22,7 +22,7 @@ module _ {D : Type 0} (disk : D → Disk) {d : DurableState D} {m : Memory} {all
     frozen_state_is : frozen_state_of (entry_at m.entries n) (mark_at m.pending n) (mark_at m.touched n) ≡ frozen_state_at s.frozen_state n
     frozen_state_is = sym (frozen_state_entry m n known_there) ∙ ap (λ t. frozen_state_at t.frozen_state n) view
 
-    -- the frozen state of an entry, from whether it has a frozen copy
+    -- the frozen state of an entry depends on whether it has a frozen copy, not on what the copy is
     pub frozen_state_with : (k : Option (Content Cap)) → option_map kept_of (entry_at m.entries n) ≡ Some k → (p b t : Bool) →
         p ≡ mark_at m.pending n → b ≡ is_some k →
         t ≡ mark_at m.touched n →

@@ -44,7 +44,7 @@ pub role_holds_none : (c : Content Cap) (r : Role) → r ≡ role_of c → (r �
     caps_in c ≡ []
 role_holds_none c r is node root annex = grind (arith, nat_tests)
 
--- if the capabilities of the first n objects satisfy `IsNamed`, and these are all, `AreNamed` holds
+-- if there are at most n objects, and the capabilities of each satisfy `IsNamed`, `AreNamed` holds
 pub named_whole : (p : Parts) (hs : List ObjectHeader) (count n : ℕ) → hs ≡ p.headers → count ≡ length hs → count ≤ n →
     ((m : ℕ) → m < n → All (IsNamed (frames_of p)) (caps_in (frame_at (frames_of p) m).content)) → AreNamed (frames_of p)
 named_whole p hs count n table all past each m k d inside = grind (arith, nat_tests, frame_beyond)

@@ -20,7 +20,7 @@ pub record KeepsOrHasNone (old new : Image) : Type 0 where
   pub elsewhere : (i : ℕ) → ((k : ℕ) → k < 3 → i ≡ gate_sector k → ⊥) → new i ≡ old i
   pub committed : (h : SealedHeader) → Commits new h → Commits old h
 
--- c was left by a crash now, and then changed so that only gates differ, with the same committed header or none
+-- c differs only in gates from an image that a crash now may leave; it has the same committed header, or none
 abbrev pub WasKeptOrHasNone : Disk → Image → Type 0
 WasKeptOrHasNone disk c = (d : Image) × disk.may_leave d × KeepsOrHasNone d c
 
