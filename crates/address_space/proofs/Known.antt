@@ -1,4 +1,4 @@
--- Objects that sound capabilities name have headers. Frames stay sound with another word in a page. A descent through a tree.
+-- Objects named by capabilities that may be held have headers. Frames stay sound after a word of a page is written. A walk down a tree.
 use Rattle.address_space.proofs.Names.{ℕ, List, length, sym, ap, subst, arith, IsTrue, Access, Capability, Space, Frame, Geometry}
 use Rattle.address_space.proofs.Names.{objects_of, AreKeepable, IsSoundFrames, is_page, MayBeHeld, content_at, root_at, Parts, frames_of, objects_in}
 use Rattle.address_space.proofs.Names.{known_used, node_used, page_used, keepable_later, Object, AreCurrent, world_at, is_waiting, IsSound, World, with_word}
@@ -12,11 +12,11 @@ space_known p n h a held = known_used p n (node_used (content_at (objects_in p) 
 pub page_known : (p : Parts) (n : ℕ) → IsTrue (is_page (content_at (objects_in p) n)) → n < length p.headers
 page_known p n is = known_used p n (page_used (content_at (objects_in p) n) is)
 
--- sound frames can be kept at any age
+-- sound frames may be kept at any age
 pub sound_keepable : (g : Geometry) (age : ℕ) (fs : List Frame) → IsSoundFrames g age fs → AreKeepable g (2 ^ 64 - 1) fs
 sound_keepable g age fs sound = keepable_later g age (2 ^ 64 - 1) fs (omega (arith, sound.sound.age)) sound.keepable
 
--- Parts after a call that only reads, which are the same: their objects are, and they are as sound.
+-- Facts after a call that only reads: the parts are the same, so their objects are, and the frames are as sound as before.
 module _ (p q : Parts) (same : q ≡ p) where
   pub space_held : {g : Geometry} {age : ℕ} → IsSoundFrames g age (frames_of p) → (n : ℕ) (c : Capability) →
       c ≡ (root_at (objects_in q) n).space → MayBeHeld (objects_in p) c
@@ -44,14 +44,14 @@ word_stays_sound g age fs gs n i word fits is current keepable sound = record {
       (world_with_word g (world_at age fs) n i word fits sound.sound);
 }
 
--- an announced page with another word
+-- after a word of an announced page is written, the frames are as sound as before
 pub word_written : (p q : Parts) (written : List ℕ) → q ≡ touched_too written p → (fs : List Frame) → ((age : ℕ) →
     IsSoundFrames q.geometry age (frames_of q) → IsSoundFrames q.geometry age fs) → (age : ℕ) → IsSoundFrames p.geometry age (frames_of p) →
     IsSoundFrames p.geometry age fs
 word_written p q written is fs =
     subst (λ (r : Parts). (age : ℕ) → IsSoundFrames r.geometry age (frames_of r) → IsSoundFrames r.geometry age fs) is
 
--- the walk went from one tree to another, on the way to the page with an index
+-- the walk went from `tree` down to `at`, on the way to the page with this index, and only read
 pub record HasDescended {S : Type 0} (parts : S → Parts) (Continues : S → S → Type 0) (index : ℕ) (tree : Tree) (old : S) (at : Tree)
     (now : S) : Type 0 where
   pub same : parts now ≡ parts old

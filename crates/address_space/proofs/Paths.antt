@@ -1,4 +1,4 @@
--- Trees of nodes, level by level. Accesses merged along the way restrict a page as they do one by one.
+-- Walks down trees of nodes, level by level. The accesses on the way may be merged in any order.
 use Rattle.address_space.proofs.Names.{nat_tests, ℕ, zero, suc, List, Result, Ok, Err, refl, ap, arith, eq-eqb, ne_eqb, Access, MemoryFault, Hole, Malformed}
 use Rattle.address_space.proofs.Names.{Capability, Void, Page, Space, Object, union, below, path, restricted, walk_along, slot_at, Bool, [], bit_or, IfOk}
 use Rattle.address_space.proofs.Names.{IsAccess, IsWellFormed, MayBeHeld}
@@ -16,7 +16,7 @@ pub bits_power : (h : ℕ) → h ≤ 4 → 2 ^ (5 * h) ≡ 32 ^ h
 bits_power (suc (suc (suc (suc (suc h))))) le = absurd (omega (arith, le))
 bits_power other le = refl
 
--- A tree of height at least one, and the slot on the way.
+-- A tree of height at least one, and the slot on the way to the page.
 module _ (os : List Object) (o h index : ℕ) (a : Access) (s : Capability) (some : 1 ≤ h)
     (there : s ≡ slot_at os o (index / 32 ^ (h - 1) % 32)) where
   abbrev k : ℕ
@@ -56,7 +56,7 @@ Merges x y z = bit_or x (bit_or y z) ≡ bit_or (bit_or x y) z
 merges : (x y z : ℕ) → IsSet x → IsSet y → IsSet z → Merges x y z
 merges x y z of_x of_y of_z = grind (arith, nat_tests, each)
 
--- the access to the page that is reached is one that a capability may have
+-- the access to the page that is reached is a valid one
 abbrev HasAccess : Result (ℕ × Access) MemoryFault → Type 0
 HasAccess r = IfOk r (λ found. IsAccess found.1)
 
@@ -82,7 +82,7 @@ module _ (os : List Object) (held : (n i : ℕ) → MayBeHeld os (slot_at os n i
       (slot_at os o slot)
   walk_access c slots formed = tt
 
-  -- a tree goes on in a slot
+  -- if the slot holds a tree one level lower, the walk goes on there with both accesses merged
   pub goes_on : (o h index : ℕ) (a : Access) (s : Capability) → 1 ≤ h → s ≡ slot_at os o (index / 32 ^ (h - 1) % 32) →
       (n l : ℕ) (b : Access) → s ≡ Space n l b → l ≡ h - 1 → IsAccess a → IsAccess b →
       walk_along os (Space o h a) (path h index) ≡ walk_along os (Space n l (union a b.0)) (path l index)

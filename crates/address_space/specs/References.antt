@@ -12,13 +12,14 @@ use Rattle.model.specs.declared.answer.Refusal.{Refusal}
 use Rattle.model.specs.declared.answer.Refusal.TheVariants as refusal
 use Rattle.capability.specs.Parts.{AreSameUnlessFailed, IsUnprepared, Parts, frames_of}
 
--- a load gives the word at the address, or the memory fault
+-- a load returns the word at the address, or the memory fault of the walk
 abbrev pub IsLoaded : List Object → ℕ → ℕ → Result ℕ MemoryFault → Type 0
 IsLoaded os p address (Ok word) =
     (found : ℕ × Access) × (reached os p address ≡ Ok found) × (word ≡ word_at os found.0 (address % 512))
 IsLoaded os p address (Err why) = reached os p address ≡ Err why
 
--- a store writes a word into a page, and half of the log holds all touched numbers; or it gives the memory fault
+-- a store writes the word, marks the page as touched, and at most as many numbers are touched as a log half has slots;
+-- or it returns the memory fault of the walk
 abbrev pub IsStored : ℕ → List Object → List Bool → ℕ → ℕ → ℕ → List Object → List Bool →
     Result (Unit {0}) MemoryFault → Type 0
 IsStored log before touched p address word after touched_after (Ok done) =
@@ -27,7 +28,7 @@ IsStored log before touched p address word after touched_after (Ok done) =
 IsStored log before touched p address word after touched_after (Err why) =
     (writable (reached before p address) ≡ Err why) × (after ≡ before) × (touched_after ≡ touched)
 
--- a store that would touch more numbers than half of the log has slots
+-- a store would touch more numbers than a log half has slots
 abbrev pub OverfillsStore : ℕ → List Object → List Bool → ℕ → ℕ → Type 0
 OverfillsStore log os touched p address =
     (page : ℕ) × (writable (reached os p address) ≡ Ok page) × (log < touched_count (touching touched (page ∷ [])))
@@ -37,8 +38,8 @@ abbrev pub KeepsSound : Parts → Parts → Type 0
 KeepsSound old new = (age : ℕ) → IsSoundFrames old.geometry age (frames_of old) →
     IsSoundFrames old.geometry age (frames_of new)
 
--- A store changes one content at most, and nothing if the log is full. Nothing is said of the parts after a failure of the
--- device. The parameters are ghost members of a store of present frames.
+-- A store changes the content of at most one page; if the log is full it changes nothing. After a failure of the
+-- device the parts are unknown. The parameters are the ghost members of a store of present frames.
 pub record WritesWord {S T : Type 0} (parts : S → Parts) (Continues : S → S → Type 0) (old new : S)
     (result : Result T Refusal) : Type 0 where
   pub sound : OnOk result (KeepsSound (parts old) (parts new))

@@ -1,4 +1,4 @@
-// Fetching objects, which comes before reading them.
+// Fetches objects before they are read.
 ghost use Rattle.std.specs.Prelude.{◌≡◌, ◌<◌, length, IfOk, OnOk, IsTrue};
 ghost use Rattle.model.specs.Sound.{MayBeHeld};
 ghost use Rattle.model.specs.World.{is_process, root_at};
@@ -19,7 +19,7 @@ pub fn fetch_one<F: Frames>(frames: &mut F, number: u64) -> Result<(), Failed>
     frames.fetch(&[number])
 }
 
-/// Returns the address space of a process. It is void if its capability is stale.
+/// Returns the address space of a process, or void if its capability is stale.
 #[tactic(auto, using(capability::proofs::FrameLists::process_known, crate::proofs::Known::space_held))]
 pub fn space_of<F: Frames>(frames: &mut F, process: u64) -> Result<Capability, Failed>
     requires usable { F.IsUsable frames.old }

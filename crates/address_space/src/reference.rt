@@ -1,4 +1,4 @@
-// The references of processes to memory: loads and stores.
+// Loads and stores of processes.
 ghost use Rattle.std.specs.Prelude.{◌≡◌, ◌%◌, ◌<◌, ◌≤◌, IfOk, OnOk, IsErrOf, IsTrue, [], ◌∷◌};
 ghost use Rattle.model.specs.Machine.{touched_count, touching};
 ghost use Rattle.model.specs.Object.{is_page};
@@ -15,8 +15,8 @@ use capability::{Frames, PresentFrames, objects};
 use device::Failed;
 use model::{MemoryFault, Refusal, WORDS};
 
-/// Reads the word at an address in the address space of a running process. If the walk to its page stops, returns the
-/// fault of the first place where it does, as `walk` does.
+/// Reads the word at an address in the address space of a running process. If the walk to its page stops,
+/// returns the memory fault of `walk`.
 ///
 /// Changes nothing. Fails exactly if the device fails.
 #[tactic(auto, using(crate::proofs::Known::page_still_known))]
@@ -41,13 +41,13 @@ pub fn load<F: Frames>(
     }
 }
 
-/// Writes a word at an address in the address space of a running process. If the walk to its page stops, returns the
-/// fault of the first place where it does, as `walk` does for a store, and writes nothing.
+/// Writes a word at an address in the address space of a running process. If the walk to its page stops,
+/// returns the memory fault of `walk` for a store, and writes nothing.
 ///
-/// Only the page is written. It is announced only once the walk has reached it, so a memory fault comes before a full
-/// log. Returns `LogFull` if, with the page, more objects would be touched than a log half has slots; then nothing
-/// changes. Returns `Fault` exactly if the device failed; then nothing is promised about the objects. There is no
-/// other refusal.
+/// Only the page is written. It is announced after the walk has reached it, so a memory fault comes before
+/// `LogFull`. Returns `LogFull` if, with the page, more objects would be touched than a log half has slots;
+/// then nothing changes. Returns `Fault` exactly if the device failed; then the objects are unknown. There is
+/// no other refusal.
 pub fn store<F: PresentFrames>(
     frames: &mut F,
     process: u64,

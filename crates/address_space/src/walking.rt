@@ -19,8 +19,8 @@ use model::{MemoryFault, SLOTS, WORDS};
 pub struct Reached {
     /// The number of the page.
     pub page: u64,
-    /// The bits of the union of the accesses of all capabilities on the way to the page. They take a whole word,
-    /// because copies of a struct with padding are slow.
+    /// The union of the accesses of all capabilities on the way to the page. It takes a whole word, because
+    /// copies of a struct with padding are slow.
     pub access: u64,
 }
 
@@ -59,15 +59,15 @@ impl Tree {
 /// Walks through the address space that `capability` names, to the page with an address, for a load or for a store
 /// (EROS: an address space is a page, or a tree of nodes 1 to 4 levels high).
 ///
-/// An address counts words, and a page has 512 of them. A page alone is a space of one page. In a tree of height h
-/// the index of the page, written as h digits to base 32, gives the slots on the way, from the most significant digit
-/// on. If a capability on the way is read-only or weak, so is all below it.
+/// An address is the number of a word, and a page has 512 words. A page alone is a space of one page. In a
+/// tree of height h the index of the page, written as h digits to base 32, gives the slots on the way, from
+/// the most significant digit on. If a capability on the way is read-only or weak, so is all below it.
 ///
-/// A memory fault is that of the first place where the walk stops: `NoSpace` if the capability is void, `Malformed`
-/// if it is no address space, `Beyond` if the space has no page with that index, `Hole` at a void slot, and
-/// `Malformed` at a slot that doesn't hold the next level (at height 1 a page, above it a tree one level lower). A
-/// stale capability counts as void, so on the way it is a hole. A store to a page that is reached with any
-/// restriction is `ReadOnly`.
+/// A memory fault says why the walk stops: `NoSpace` if the capability is void, `Malformed` if it is no
+/// address space, `Beyond` if the space has no page with that index, `Hole` at a void slot, and `Malformed`
+/// at a slot that doesn't hold the next level (at height 1 a page, above it a tree one level lower). A stale
+/// capability counts as void, so on the way it is a hole. `ReadOnly` is for a store, if any capability on the
+/// way restricts the access.
 ///
 /// Fetches at most four nodes, one after the other, but not the page. No object changes. Fails exactly if the device
 /// fails.
@@ -168,7 +168,7 @@ fn descend<F: Frames>(
     }
 }
 
-// Returns the capability in the node of a tree that leads to the page with an index.
+// Returns the capability in the top node of a tree that leads to the page with an index.
 fn next_slot<F: Frames>(frames: &mut F, tree: Tree, index: u64) -> Result<Capability, Failed>
     requires usable { F.IsUsable frames.old }
     requires sound { AreSound (F.parts frames.old) }
@@ -184,7 +184,7 @@ fn next_slot<F: Frames>(frames: &mut F, tree: Tree, index: u64) -> Result<Capabi
     Ok(objects::slot(frames, tree.node, digit(index, tree.height - 1)))
 }
 
-// How many bits of a page's index choose slots in `levels` levels: a digit to base 32 has five.
+// How many bits of a page's index select the slots of `levels` levels: five for each digit to base 32.
 fn bits(levels: u8) -> u32
     requires { levels ≤ 4 }
     ensures { result ≡ 5 * levels }
@@ -202,7 +202,7 @@ fn page_count(height: u8) -> u64
     1 << bits(height)
 }
 
-// Returns the slot that leads to a page, in a node that has `level` levels below it.
+// Returns the slot on the way to a page, in a node that has `level` levels below it.
 #[tactic(auto, using(crate::proofs::Paths::bits_power))]
 fn digit(index: u64, level: u8) -> usize
     requires { level < 4 }

@@ -19,7 +19,7 @@ read : (ks : List Kind) (ps : List (Option (List ℕ))) (ns : List (Option (List
 unfolding contents_in
 read ks ps ns k = grind (arith, nat_tests, get_or-map-range_with_len, get_or_past, length_contents)
 
--- a body of a kind has the words or slots of this kind
+-- if a body's kind has words, and these are stored, `HasRoom` holds
 word_room : (a : Kind) (w : List ℕ) (s : Option (List Cap)) → words_are_of a ≡ true → HasRoom a (Some w) s
 word_room a w s is = grind (arith, nat_tests)
 
@@ -32,12 +32,12 @@ some_words a o s is room = grind (arith, nat_tests)
 some_slots : (a : Kind) (o : Option (List ℕ)) (s : Option (List Cap)) → slots_are_of a ≡ true → HasRoom a o s → IsSome s
 some_slots a o s is room = grind (arith, nat_tests)
 
--- one body has changed
+-- the bodies at all places, after a change
 pub record Puts (ks : List Kind) (ps : List (Option (List ℕ))) (ns : List (Option (List Cap))) (after : List (Content Cap)) : Type 0 where
   pub are : AreBodies ks ps ns
   pub contents : contents_in ks ps ns ≡ after
 
--- a body whose root is changed
+-- changing the root of a body changes the root of its content
 module _ (change : Root Cap → Root Cap) where
   root_in : (a : Kind) (o : Option (List ℕ)) (s : Option (List Cap)) → content_in (kind_with_root change a) o s
       ≡ with_root_in change (content_in a o s)
@@ -46,7 +46,7 @@ module _ (change : Root Cap → Root Cap) where
   root_room : (a : Kind) (o : Option (List ℕ)) (s : Option (List Cap)) → HasRoom a o s → HasRoom (kind_with_root change a) o s
   root_room a o s room = grind (arith, nat_tests)
 
--- a slot of a content
+-- setting a slot of a body sets it in its content
 module _ (slot : ℕ) (c : Cap) where
   slot_in : (o : Option (List ℕ)) (s : List Cap) (a : Kind) → slots_are_of a ≡ true →
       with_slot_in (content_in a o (Some s)) slot c ≡ content_in a o (Some (set s slot c))
@@ -56,7 +56,7 @@ module _ (slot : ℕ) (c : Cap) where
       with_slot_in (content_in a o s) slot c ≡ content_in a o s
   no_slot a o s none = grind (arith, nat_tests)
 
--- the slots of a content from an index on
+-- setting the slots from an index on sets them in the content
 slots_in : (o : Option (List ℕ)) (s : List Cap) (i : ℕ) (cs : List Cap) (a : Kind) → slots_are_of a ≡ true →
     with_slots_in (content_in a o (Some s)) i cs ≡ content_in a o (Some (slots_from s i cs))
 slots_in o s i [] a is = refl
@@ -188,7 +188,7 @@ module _ {ks : List Kind} {ps : List (Option (List ℕ))} {ns : List (Option (Li
         ≡ set v k (with_root_in change (held_at v k))
     root_seen change = (root_put change).contents
 
-    -- the slots of a body have changed
+    -- changing the slots at a place changes the content there
     slots_put : slots_are_of b ≡ true → (s t : List Cap) → item_at ns k ≡ Some s → (change : Content Cap → Content Cap) →
         ((a : Kind) → slots_are_of a ≡ true → change (content_in a (item_at ps k) (Some s)) ≡ content_in a (item_at ps k) (Some t)) →
         Puts ks ps (set ns k (Some t)) (set v k (change (held_at v k)))
@@ -235,7 +235,7 @@ all_held ks ps ns free =
     (λ k below. get_or-replicate (length ks) k content.Free content.Free below
     ∙ sym (ap (λ (a : Kind). content_in a (item_at ps k) (item_at ns k)) (free k))))
 
--- at first no place has a body
+-- if all places are free, the content at each is `Free`
 pub none_held : (n : ℕ) (ks : List Kind) (ps : List (Option (List ℕ))) (ns : List (Option (List Cap))) → ks ≡ replicate n kind.Free →
     ps ≡ replicate n None → ns ≡ replicate n None →
     Puts ks ps ns (replicate n content.Free)

@@ -1,4 +1,4 @@
--- A log of uses that aren't in the order yet.
+-- A log of uses that haven't been moved to the order yet.
 use Rattle.cache_entries.proofs.Names.{nat_tests, ℕ, true, false, List, [], length, set, drop, get_or, get_or_default, get_or_past, Some, None, is_some, sym}
 use Rattle.cache_entries.proofs.Names.{ap, subst, arith, is_member, AreSpread, AreStamped, IsLogOf, LogState, OrderState, place_at, used_all, used_in_turn}
 use Rattle.cache_entries.proofs.Names.{used_last, used_longest_ago, without, true≢false, false_from_ne_true, length-set}
@@ -24,7 +24,7 @@ module _ {uses stamps : List ℕ} (are : AreStamped uses stamps) {us : List ℕ}
   pub number_known : n < length stamps
   number_known = are.known n was_used
 
-  -- a use at an index is followed by another one of its number if the number's stamp is later
+  -- if a number's stamp is after index i, the use at i is followed by another use of the same number
   pub used_behind : (j : ℕ) → j ≡ get_or stamps n j → i < j → is_member (drop (i + 1) us) (get_or us i 0) ≡ true
   used_behind j stamp after =
       let stamp_is : j ≡ get_or stamps n 0 = stamp ∙ get_or_default stamps n j 0 number_known in
@@ -70,7 +70,7 @@ module _ (uses : List ℕ) (i : ℕ) (start o p : OrderState) (below : i < lengt
 
 -- ---- a log of an order
 
--- a use moves from the log to the order
+-- moving a use from the log to the order keeps s, the order that both represent together
 pub record Moves (l : LogState) (s p : OrderState) : Type 0 where
   pub same : used_all l.uses p ≡ s
   pub log : IsLogOf l p
@@ -93,12 +93,12 @@ module _ (l : LogState) (o : OrderState) (are : IsLogOf l o) where
   pub settled_members : (p : OrderState) → p ≡ used_all l.uses o → (n : ℕ) → is_member p.numbers n ≡ is_member o.numbers n
   settled_members p is n = ap (λ (q : OrderState). is_member q.numbers n) is ∙ member_in_turn l.uses o.numbers n are.listed
 
-  -- adding one use to a log
+  -- a log of an order remains one if a number of the order is used once more
   pub logged : (m : LogState) (n : ℕ) → is_member o.numbers n ≡ true →
       m ≡ record { uses = l.uses ++ n ∷ []; count = l.count; most = l.most } → IsLogOf m o
   logged m n here is = rw is (record { listed = listed_end l.uses o.numbers n are.listed here; count = are.count; some = are.some })
 
-  -- the value of an order with a log
+  -- facts about an order with a log, by the value that it has
   module _ {s : OrderState} (view : used_all l.uses o ≡ s) where
     pub most_is : o.most ≡ s.most
     most_is = ap (λ (q : OrderState). q.most) view
@@ -118,7 +118,7 @@ module _ (l : LogState) (o : OrderState) (are : IsLogOf l o) where
     pub known_before : AreSpread o → (n : ℕ) → is_member s.numbers n ≡ true → n < l.count
     known_before spread n here = omega (arith, listed_below o spread n (member_is n ∙ here), are.count)
 
-    -- a number is removed from the order
+    -- removing a number that has no use in the log from the order
     module _ (n : ℕ) (none : is_member l.uses n ≡ false) (p : OrderState)
         (is : p ≡ record { numbers = without n o.numbers; places = set o.places n None; most = o.most }) where
       pub removed_log : IsLogOf l p
@@ -133,7 +133,7 @@ module _ (l : LogState) (o : OrderState) (are : IsLogOf l o) where
           (ap (λ (ns : List ℕ). let q : OrderState = record { numbers = ns; places = set o.places n None; most = o.most } in q)
           (sym (without_in_turn n l.uses o.numbers none)))
 
-    -- a number is added to the order
+    -- adding a number that has no place to the order
     module _ (n : ℕ) (absent : place_at s.places n ≡ None) (spread : AreSpread o) (p : OrderState) (place : ℕ)
         (is : p ≡ record { numbers = n ∷ o.numbers; places = set o.places n (Some place); most = o.most }) where
       unused : is_member l.uses n ≡ false

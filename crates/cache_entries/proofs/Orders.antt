@@ -1,4 +1,4 @@
--- Numbers in the order of their last use; a cache whose pairs have them as keys.
+-- Numbers in the order of their last use, stored as the keys of a cache of pairs.
 use Rattle.cache_entries.proofs.Names.{nat_tests, IsFilled, inl, inr, ℕ, nat_eq, Bool, true, false, cond, true≢false, List, [], length, take, Option, Some}
 use Rattle.cache_entries.proofs.Names.{None, is_some, refl, sym, ap, arith, keys_of, lookup_entry, remove_entry, option_map_or, eqb-true, eq-eqb, ne_eqb}
 use Rattle.cache_entries.proofs.Names.{take_all, LruCache, promoted, demoted, put_entries, Contains-lookup_entry, is_member, AllDiffer, without, or_right}
@@ -110,7 +110,7 @@ in_behind front ns n is = list_any-append (nat_eq n) front ns ∙ or_right (is_m
 pub in_front : (k : ℕ) (ns : List ℕ) (n : ℕ) → is_member (take k ns) n ≡ true → is_member ns n ≡ true
 in_front k ns n is = cc (take-append-drop k ns, list_any-append (nat_eq n) (take k ns) (drop k ns))
 
--- adding a number at the end of a list gives the same members as adding it in front
+-- a list with a number added at its end has the same members as with the number added in front
 pub member_end : (ns : List ℕ) (n m : ℕ) → is_member (ns ++ n ∷ []) m ≡ is_member (n ∷ ns) m
 member_end [] n m = refl
 member_end (k ∷ ns) n m = ap (λ (t : Bool). nat_eq m k || t) (member_end ns n m) ∙ swapped (nat_eq m k) (nat_eq m n)
@@ -126,7 +126,7 @@ without_here n m ms same = ap (λ (t : Bool). cond t ms (m ∷ without n ms)) (e
 pub without_tail : (n m : ℕ) (ms : List ℕ) → n ≢ m → without n (m ∷ ms) ≡ m ∷ without n ms
 without_tail n m ms other = ap (λ (t : Bool). cond t ms (m ∷ without n ms)) (ne_eqb n m other)
 
--- the length of a list with a number more or less
+-- removing a member shortens a list by one
 pub length_without : (n : ℕ) (ns : List ℕ) → is_member ns n ≡ true → length (without n ns) + 1 ≡ length ns
 length_without n [] is = absurd (true≢false (sym is))
 length_without n (m ∷ ms) is = go (nat_eq n m) is (length_without n ms)
@@ -151,6 +151,6 @@ differ_without n (m ∷ ms) once = grind (arith, nat_tests, still, differ_withou
 pub not_yet : (keys : List ℕ) (k : ℕ) → ((p : ℕ) → is_member keys p ≡ true → p < k) → is_member keys k ≡ false
 not_yet keys k known = false_from_ne_true (is_member keys k) (λ is. omega (arith, known k is))
 
--- one more key, which is greater than all others
+-- adding place k to all places below k gives all places below k + 1
 pub filled_more : (keys : List ℕ) (k : ℕ) → IsFilled keys k → IsFilled (k ∷ keys) (k + 1)
 filled_more keys k is = grind (arith, nat_tests, not_yet, member_tail)

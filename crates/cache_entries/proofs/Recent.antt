@@ -8,7 +8,7 @@ module _ (n : ℕ) where
   pub apart_from : (m : ℕ) (ms : List ℕ) (place : ℕ) → slice_get ms place ≡ Some n → is_member ms m ≡ false → n ≢ m
   apart_from m ms place at none same = true≢false (sym (listed_member ms place n at) ∙ ap (is_member ms) same ∙ none)
 
-  -- removing the last number leaves those before it
+  -- removing the last number leaves the first k
   pub front_stays : (ns : List ℕ) (i k : ℕ) → i + 1 ≡ length ns → AllDiffer ns → slice_get ns i ≡ Some n → k < length ns →
       take k (without n ns) ≡ take k ns
   front_stays [] i k last once at below = absurd (omega (arith, below))
@@ -17,7 +17,7 @@ module _ (n : ℕ) where
   front_stays (m ∷ ms) (suc i) (suc k) last once at below =
       grind (arith, nat_tests, without_tail, apart_from, front_stays ms i k (omega (arith, last)) once.1 at (omega (arith, below)))
 
-  -- none of the numbers before the last is the last one
+  -- if there are more than k numbers, the first k don't include the last
   pub front_apart : (ns : List ℕ) (i k m : ℕ) → i + 1 ≡ length ns → AllDiffer ns → slice_get ns i ≡ Some n → k < length ns →
       is_member (take k ns) m ≡ true → m ≢ n
   front_apart ns i k m last once at below is same = true≢false (

@@ -13,7 +13,7 @@ use Rattle.cache_entries.proofs.Recent.{front_apart, front_stays}
 
 -- ---- the first members of a list
 
--- the first numbers after one of them was removed
+-- the first k numbers after p was removed are the first k + 1 without p
 front_used : (p : ℕ) (ns : List ℕ) (k : ℕ) → is_member (take (suc k) ns) p ≡ true → take k (without p ns) ≡ without p (take (suc k) ns)
 front_used p [] k is = absurd (true≢false (sym is))
 front_used p (m ∷ ms) zero is = sym (without_here p m [] (elim (either_of m [] p is)
@@ -95,7 +95,7 @@ some_below most p is = grind (arith, nat_tests, past_is)
 none_past : (most p : ℕ) → place_below most p ≡ None → most ≤ p
 none_past most p is = grind (arith, nat_tests, none-some, below_is)
 
--- numbers with places, and the order that they stand for
+-- numbers with places, whose order is s
 pub record Spreads (keys numbers places : List ℕ) (count : ℕ) (s : OrderState) : Type 0 where
   pub are : ArePlaced keys numbers places count
   pub view : order_of keys numbers places count ≡ s
@@ -151,7 +151,7 @@ module _ {keys numbers places : List ℕ} {count : ℕ} (are : ArePlaced keys nu
     apart = grind (arith, nat_tests, placed_at, place_of);
   }
 
-  -- the same for an order that is given as a value
+  -- facts about an order that is given as s
   module _ {s : OrderState} (view : order_of keys numbers places count ≡ s) where
     pub spread_is : AreSpread s
     spread_is = subst AreSpread view spread
@@ -199,7 +199,7 @@ module _ {keys numbers places : List ℕ} {count : ℕ} (are : ArePlaced keys nu
     pub known_place : (q : ℕ) → q ≡ get_or places n q → q ≡ place n
     known_place q is = is ∙ get_or_default places n q most (place_known n below)
 
-    -- after its use the number is the last one used
+    -- after a number is used, it is the last one used
     module _ {s : OrderState} (view : order_of keys numbers places count ≡ s) where
       pub promoted_last : (after : List ℕ) → after ≡ place n ∷ without (place n) keys → Spreads after numbers places count (used_last n s)
       promoted_last after is =
@@ -217,7 +217,7 @@ module _ {keys numbers places : List ℕ} {count : ℕ} (are : ArePlaced keys nu
                 ∙ ap (used_last n) view;
           }
 
-      -- after a removal the place is free
+      -- after a number is removed, its place is free
       pub removed : (after : List ℕ) (c : ℕ) → after ≡ without (place n) keys ++ place n ∷ [] → c + 1 ≡ count →
           Spreads after numbers (set places n most) c (record {
             numbers = without n s.numbers;
@@ -247,7 +247,7 @@ module _ {keys numbers places : List ℕ} {count : ℕ} (are : ArePlaced keys nu
   pub last_below : (p : ℕ) → used_longest_ago keys ≡ Some p → p < most
   last_below p last = are.filled.known p (listed_member keys (length keys - 1) p last)
 
-  -- a number gets the place that was used longest ago
+  -- number n, which has no place, gets the place p that was used longest ago
   module _ (p n : ℕ) (last : used_longest_ago keys ≡ Some p) (short : count < most) (known : n < length places) (absent : most ≤ place n)
     where
       p_free : is_member used p ≡ false
@@ -341,14 +341,14 @@ module _ {keys numbers places : List ℕ} {count : ℕ} (are : ArePlaced keys nu
                 } in t) view;
           }
 
-  -- the number at the place used longest ago, if all places have a number
+  -- if all places have a number, the place used longest ago has the number used longest ago
   pub least_number : {s : OrderState} → order_of keys numbers places count ≡ s → s.most ≤ length s.numbers → (p n : ℕ) →
       used_longest_ago keys ≡ Some p → n ≡ get_or numbers p n →
       Some n ≡ used_longest_ago s.numbers
   least_number {s = s} view many p n last is =
       grind (arith, nat_tests, count_is, most_is, take_all, get_or_default, last_below, length_used, slice_get-map)
 
--- at first no number has a place
+-- in a new order no number has a place
 pub none_placed : (keys numbers places : List ℕ) (most count : ℕ) → 0 < most → IsFilled keys most → length numbers ≡ most →
     places ≡ replicate count most → Spreads keys numbers places 0 (record { numbers = []; places = replicate count None; most = most })
 none_placed keys numbers places most count some filled size is =

@@ -61,7 +61,7 @@ module _ (o : OrderState) {ps ks : List (Content Cap)} {ms : List Bool} (are : A
         }
         in u) view
 
-    -- the entry with another present body
+    -- changing the present body at a number's place changes the present body of its entry
     pub present_put : (change : Content Cap → Content Cap) → entries_of o (set ps p (change (held_at ps p))) ks ms
         ≡ with_entry_of (changing change) n s
     present_put change =
@@ -72,7 +72,7 @@ module _ (o : OrderState) {ps ks : List (Content Cap)} {ms : List Bool} (are : A
         (λ q other. ap (λ (d : Content Cap). let e : Entry = record { present = d; kept = (entry q).kept } in e)
         (get_or-set_other ps p q c content.Free other))
 
-    -- the frozen copy, or none
+    -- the frozen copy, if the mark says that there is one
     abbrev kept_by : Bool → Content Cap → Option (Content Cap)
     kept_by mark c = cond mark (Some c) None
 
@@ -90,7 +90,7 @@ module _ (o : OrderState) {ps ks : List (Content Cap)} {ms : List Bool} (are : A
     pub kept_dropped : entries_of o ps ks (set ms p false) ≡ with_entry_of (λ e. record e { kept = None }) n s
     kept_dropped = search (replaced, get_or-set_same, mark_within, get_or-set_other)
 
-  -- a number gets a free place
+  -- giving a number a free place adds an entry for it
   pub entered : (n p : ℕ) (c : Content Cap) → n < length s.at → p < o.most → ((m : ℕ) → place_at o.places m ≢ Some p) →
       entries_of (record { numbers = n ∷ o.numbers; places = set o.places n (Some p); most = o.most }) (set ps p c) ks (set ms p false)
       ≡ with_new n c s
@@ -118,7 +118,7 @@ module _ (o : OrderState) {ps ks : List (Content Cap)} {ms : List Bool} (are : A
       ∙ sym (get_map (option_map entry) o.places m None None refl)))
       ∙ ap (with_new n c) view
 
-  -- the entries after a number lost its place
+  -- taking a number's place away removes its entry
   pub left : (n : ℕ) → is_some (entry_at s.at n) ≡ true →
       entries_of (record { numbers = without n o.numbers; places = set o.places n None; most = o.most }) ps ks ms ≡ without_entry n s
   left n some =
@@ -134,7 +134,7 @@ module _ (o : OrderState) {ps ks : List (Content Cap)} {ms : List Bool} (are : A
       ∙ sym (get_map (option_map entry) o.places m None None refl)))
       ∙ ap (without_entry n) view
 
--- at first no number has an entry
+-- in a new cache no number has an entry
 pub none_stored : (o : OrderState) (ps ks : List (Content Cap)) (ms : List Bool) (count most : ℕ) → o ≡ record
     { numbers = []; places = replicate count None; most = most } →
     entries_of o ps ks ms ≡ record { at = replicate count None; order = []; most = most }

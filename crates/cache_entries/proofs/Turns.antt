@@ -1,4 +1,4 @@
--- Numbers that are used in turn, before and after the order has these uses.
+-- Using numbers one after another, at once or through a log.
 use Rattle.cache_entries.proofs.Names.{nat_tests, Uses, AreSpread, inl, inr, ℕ, nat_eq, Bool, true, false, true≢false, List, [], length, take, drop, get_or}
 use Rattle.cache_entries.proofs.Names.{Some, refl, sym, ap, subst, arith, slice_get, take_more, cases_eq, is_member, AllDiffer, OrderState, used_in_turn}
 use Rattle.cache_entries.proofs.Names.{used_last, without, keys_of, length-append, promoted, IsFilled, used_all, used_longest_ago, at_drop_more, none-some}
@@ -7,7 +7,7 @@ use Rattle.std.proofs.Common.{◌≡◌, ◌≢◌, ◌+◌, ◌-◌, ◌∷◌,
 use Rattle.cache_entries.proofs.Orders.{used_keys, unused_keys, differ_without, gone, length_without, member_head, member_tail, still, in_tail, either_of}
 use Rattle.cache_entries.proofs.Orders.{not_here, member_end, without_here, without_tail}
 
--- using a number of a list leaves the members of the list
+-- using a number of a list doesn't change the list's members
 pub member_used : (n : ℕ) (ns : List ℕ) (m : ℕ) → is_member ns n ≡ true → is_member (n ∷ without n ns) m ≡ is_member ns m
 member_used n ns m is = grind (arith, nat_tests, member_head, member_tail, still)
 
@@ -40,12 +40,12 @@ without_both : (n m : ℕ) (ns : List ℕ) → n ≢ m → without n (without m 
 without_both n m [] other = refl
 without_both n m (k ∷ ks) other = grind (arith, nat_tests, without_tail, without_here, without_both n m ks other)
 
--- a number is used after others
+-- using the numbers ns and then n puts n first
 pub used_at_end : (ns : List ℕ) (n : ℕ) (order : List ℕ) → used_in_turn (ns ++ n ∷ []) order ≡ n ∷ without n (used_in_turn ns order)
 used_at_end [] n order = refl
 used_at_end (m ∷ ms) n order = used_at_end ms n (m ∷ without m order)
 
--- using other numbers leaves this one where it is
+-- using other numbers doesn't move this one: it can be removed before or after
 pub without_in_turn : (n : ℕ) (ns order : List ℕ) → is_member ns n ≡ false →
     without n (used_in_turn ns order) ≡ used_in_turn ns (without n order)
 without_in_turn n [] order none = refl
@@ -54,7 +54,7 @@ without_in_turn n (m ∷ ms) order none =
     without_in_turn n ms (m ∷ without m order) apart.1
     ∙ ap (used_in_turn ms) (without_tail n m (without m order) apart.0 ∙ ap (λ (rest : List ℕ). m ∷ rest) (without_both n m order apart.0))
 
--- ---- used again in the same turn
+-- ---- numbers that are used again
 
 -- uses in turn don't depend on an earlier use of a number that is used again later
 used_later : (n : ℕ) (ns xs ys : List ℕ) → is_member ns n ≡ true → without n xs ≡ without n ys → used_in_turn ns xs ≡ used_in_turn ns ys
@@ -79,7 +79,7 @@ pub all_at_end : (ns : List ℕ) (n : ℕ) (s : OrderState) → used_all (ns ++ 
 all_at_end [] n s = refl
 all_at_end (m ∷ ms) n s = all_at_end ms n (used_last m s)
 
--- using one more number of a list
+-- if the first i numbers were used, and then the next, the first i + 1 were used
 pub one_more : (s t : List ℕ) (ns : List ℕ) (i : ℕ) → i < length ns → t ≡ used_in_turn (take i ns) s →
     get_or ns i 0 ∷ without (get_or ns i 0) t ≡ used_in_turn (take (i + 1) ns) s
 one_more s t ns i below is = cc (used_at_end (take i ns) (get_or ns i 0) s, take_more ns i 0 below)
@@ -110,24 +110,24 @@ used_again n ns o later =
     ap (λ (xs : List ℕ). let p : OrderState = record { numbers = xs; places = o.places; most = o.most } in p)
     (used_later n ns (n ∷ without n o.numbers) o.numbers later (without_here n n (without n o.numbers) refl))
 
--- moving one use of a log to the order
+-- using a log from its i-th use on is using that one, and then the rest
 pub settles : (uses : List ℕ) (i : ℕ) (o : OrderState) → i < length uses →
     used_all (drop i uses) o ≡ used_all (drop (i + 1) uses) (used_last (get_or uses i 0) o)
 settles uses i o below = at_drop_more (λ (us : List ℕ). used_all us o) uses i 0 below
 
--- leaving out a use that is followed by another one of its number
+-- a use can be left out if the log has a later use of the same number
 pub left_out : (uses : List ℕ) (i : ℕ) (o : OrderState) → i < length uses → is_member (drop (i + 1) uses) (get_or uses i 0) ≡ true →
     used_all (drop i uses) o ≡ used_all (drop (i + 1) uses) o
 left_out uses i o below later = settles uses i o below ∙ used_again (get_or uses i 0) (drop (i + 1) uses) o later
 
--- a number that is new in the order, and is used after all those of the log
+-- a new number that is used after all those of the log comes first in the order
 pub new_last : (uses order : List ℕ) (n : ℕ) → is_member uses n ≡ false → used_in_turn (uses ++ n ∷ []) (n ∷ order)
     ≡ n ∷ used_in_turn uses order
 new_last uses order n none =
     used_at_end uses n (n ∷ order)
     ∙ ap (λ (rest : List ℕ). n ∷ rest) (without_in_turn n uses (n ∷ order) none ∙ ap (used_in_turn uses) (without_here n n order refl))
 
--- the number used longest ago, after others were used
+-- the number used longest ago stays the same if another number is added in front
 last_behind : (m : ℕ) (ns : List ℕ) (n : ℕ) → used_longest_ago ns ≡ Some n → used_longest_ago (m ∷ ns) ≡ Some n
 last_behind m [] n last = absurd (none-some n last)
 last_behind m (k ∷ ks) n last =
@@ -174,7 +174,7 @@ spread_in_turn (n ∷ ns) s listed are =
 pub spread_uses : (s t : OrderState) (ns : List ℕ) (said : Bool) → Uses s t ns said → AreSpread s → AreSpread t
 spread_uses s t ns said uses are = subst AreSpread (sym uses.used) (spread_in_turn (take uses.count ns) s uses.listed are)
 
--- ---- all places, in another order
+-- ---- all places, after one was used
 
 module _ {keys : List ℕ} {count : ℕ} (are : IsFilled keys count) (p : ℕ) (has : is_member keys p ≡ true) where
   pub filled_front : IsFilled (p ∷ without p keys) count

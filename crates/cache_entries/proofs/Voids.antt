@@ -6,7 +6,7 @@ use Rattle.cache_entries.proofs.Names.{true≢false, [], cases_lt}
 use Rattle.std.proofs.Common.{◌≡◌, ◌<◌, ◌≤◌, ◌∙◌}
 use Rattle.cache_entries.proofs.Stored.{some_within}
 
--- slots that are all void are void from the start
+-- 32 void slots are void from index 0 on
 pub void_from_start : (slots : List Cap) → slots ≡ replicate 32 void_held → AreVoidFrom 0 slots
 void_from_start slots are = (
   omega arith,
@@ -14,7 +14,7 @@ void_from_start slots are = (
       ∙ get_or-replicate 32 i void_held void_held within,
 )
 
--- slots are all void if those before an index are, and those from an earlier index on
+-- 32 slots are void if those before `index` are, and those from `end` on, where `end` is at most `index`
 pub all_void : (slots : List Cap) (end index : ℕ) → length slots ≡ 32 → end ≤ index →
     ((i : ℕ) → i < index → get_or slots i void_held ≡ void_held) → AreVoidFrom end slots → slots ≡ replicate 32 void_held
 all_void slots end index count past before from =
@@ -22,7 +22,7 @@ all_void slots end index count past before from =
     let void : get_or slots k void_held ≡ void_held = grind (arith, before k, from.1 k) in
     get_or_default slots k d void_held within ∙ void ∙ sym (get_or-replicate 32 k void_held d (omega (arith, count, within))))
 
--- ---- by place
+-- ---- the slots at a place
 
 some_unwrapped : (o : Option (List Cap)) → is_some o ≡ true → o ≡ Some (unwrap_or o [])
 some_unwrapped None is = absurd (true≢false (sym is))
@@ -38,7 +38,7 @@ module _ {ns : List (Option (List Cap))} {ends : List ℕ} (are : AreEnds ns end
   pub end_within : (k : ℕ) → IsSome (item_at ns k) → k < length ends
   end_within k there = omega (arith, are.count, some_place ns k there)
 
-  -- a place has other slots
+  -- replacing the slots at a place, with an end that fits them, keeps all ends right
   pub ends_put : (k e : ℕ) (slots : List Cap) → k < length ns → AreVoidFrom e slots → AreEnds (set ns k (Some slots)) (set ends k e)
   ends_put k e slots below void = record {
     count = omega (arith, are.count, length-set ends k e, length-set ns k (Some slots));
@@ -60,7 +60,7 @@ module _ {ns : List (Option (List Cap))} {ends : List ℕ} (are : AreEnds ns end
   pub all_cleared : (k : ℕ) → k < length ns → AreEnds (set ns k (Some (replicate 32 void_held))) (set ends k 0)
   all_cleared k below = ends_put k 0 (replicate 32 void_held) below (void_from_start (replicate 32 void_held) refl)
 
-  -- setting one slot before the new end
+  -- setting a slot before the new end keeps all ends right
   pub one_put : (k i e : ℕ) (c : Cap) → IsSome (item_at ns k) → i < 32 → get_or ends k 0 ≤ e → i < e → e ≤ 32 →
       AreEnds (set ns k (Some (set (slots_at ns k) i c))) (set ends k e)
   one_put k i e c there within old new few =

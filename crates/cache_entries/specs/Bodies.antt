@@ -26,7 +26,7 @@ slots_are_of kind.Node = true
 slots_are_of kind.Annex = true
 slots_are_of _ = false
 
--- a body, with its root changed if it is one
+-- a body whose root is changed, if it has one
 abbrev pub kind_with_root : (Root Cap → Root Cap) → Kind → Kind
 kind_with_root change (kind.Root root) = kind.Root (change root)
 kind_with_root change other = other
@@ -36,7 +36,7 @@ abbrev pub slots_from : List Cap → ℕ → List Cap → List Cap
 slots_from slots i [] = slots
 slots_from slots i (c ∷ cs) = slots_from (slice_set slots i c) (i + 1) cs
 
--- each of 32 slots from an index on is void
+-- each of 32 slots from index `end` on is void
 abbrev pub AreVoidFrom : ℕ → List Cap → Type 0
 AreVoidFrom end slots = (end ≤ 32) × ((i : ℕ) → end ≤ i → i < 32 → slice_index_or slots i void_held ≡ void_held)
 
@@ -44,12 +44,12 @@ AreVoidFrom end slots = (end ≤ 32) × ((i : ℕ) → end ≤ i → i < 32 → 
 abbrev pub slots_at : List (Option (List Cap)) → ℕ → List Cap
 slots_at ns k = unwrap_or (item_at ns k) []
 
--- for each place: an index from which on all its slots are void
+-- for each place with slots, an index from which on they are all void
 pub record AreEnds (ns : List (Option (List Cap))) (ends : List ℕ) : Type 0 where
   pub count : length ends ≡ length ns
   pub void : (k : ℕ) (slots : List Cap) → item_at ns k ≡ Some slots → AreVoidFrom (slice_index ends k) slots
 
--- there are words or slots if a body of this kind has them
+-- words or slots exist if a body of this kind has them
 abbrev pub HasRoom : Kind → Option (List ℕ) → Option (List Cap) → Type 0
 HasRoom kind.Page words slots = IsSome words
 HasRoom kind.Node words slots = IsSome slots

@@ -1,8 +1,8 @@
 -- The entries of a store's cache: by number, and in the order of their last use.
 use Rattle.cache_entries.specs.Names.{ℕ, Option, None, List, option_map, slice_index_or, slice_set, Cap, Content}
 
--- a cache entry: an object's present body; and a frozen copy, if the frozen body isn't in the log yet and was copied
--- before a write
+-- A cache entry: an object's present body, and perhaps a frozen copy. It has a copy if the frozen body isn't in the
+-- log yet, and the object was written since the freeze.
 pub record Entry : Type 0 where
   pub present : Content Cap
   pub kept : Option (Content Cap)

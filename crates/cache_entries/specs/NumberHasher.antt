@@ -3,10 +3,10 @@ use Rattle.std.specs.Prelude.{◌==◌, if◌then◌else◌, ℕ, ◌*◌, ◌%�
 use Rattle.std.specs.Int.{w64, from_le_bytes}
 use Rattle.cache_entries.specs.declared.number_hasher.NumberHasher.{NumberHasher}
 
--- the number to be hashed, from its bytes, the lowest first
+-- the number to hash: the value of 8 bytes, lowest first; of any other bytes, how many there are
 abbrev pub number_in : List ℕ → ℕ
 number_in bytes = if length bytes == 8 then from_le_bytes w64 bytes else length bytes
 
--- Fibonacci hashing: the product with 2 ^ 64 over the golden ratio
+-- Fibonacci hashing: the product with 2^64 divided by the golden ratio
 abbrev pub hashed : NumberHasher → List ℕ → NumberHasher
 hashed h bytes = record { hash = (bit_xor h.hash (number_in bytes) * 0x9e37_79b9_7f4a_7c15) % 2 ^ 64 }

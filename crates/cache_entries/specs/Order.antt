@@ -15,7 +15,7 @@ abbrev pub without : ℕ → List ℕ → List ℕ
 without n [] = []
 without n (m ∷ ms) = if n == m then ms else m ∷ without n ms
 
--- the keys are all places below `count`, each once
+-- the keys are the numbers below `count`, each once
 pub record IsFilled (keys : List ℕ) (count : ℕ) : Type 0 where
   pub once : AllDiffer keys
   pub all : length keys ≡ count
@@ -47,7 +47,7 @@ used_last n s = record { numbers = n ∷ without n s.numbers; places = s.places;
 abbrev pub used_all : List ℕ → OrderState → OrderState
 used_all ns s = record { numbers = used_in_turn ns s.numbers; places = s.places; most = s.most }
 
--- the order has each number with a place once, and no two have the same place
+-- the order contains exactly the numbers that have a place, each once; no two have the same place
 pub record AreSpread (s : OrderState) : Type 0 where
   pub listed : (n : ℕ) → is_member s.numbers n ≡ is_some (place_at s.places n)
   pub once : AllDiffer s.numbers
@@ -59,8 +59,8 @@ pub record AreSpread (s : OrderState) : Type 0 where
 abbrev pub place_below : ℕ → ℕ → Option ℕ
 place_below most p = if nat_lt p most then Some p else None
 
--- An order from all places in the order of their last use, the number of each place, and the place of each number.
--- Only the first `count` places have a number.
+-- An order, from the list of all places by their last use, the number of each place, and the place of each number.
+-- Only the first `count` places in the list have a number.
 abbrev pub order_of : List ℕ → List ℕ → List ℕ → ℕ → OrderState
 order_of keys numbers places count = record {
   numbers = map (slice_index numbers) (take count keys);
@@ -79,7 +79,7 @@ pub record ArePlaced (keys numbers places : List ℕ) (count : ℕ) : Type 0 whe
   pub forth : (n : ℕ) → slice_index_or places n (length numbers) < length numbers
       → slice_index numbers (slice_index_or places n (length numbers)) ≡ n
 
--- a log of uses: the numbers that were used, in turn; a bound on these numbers; how many uses it may have
+-- a log of uses: the numbers used, in turn; a bound on these numbers; and the most uses that fit
 pub record LogState : Type 0 where
   pub uses : List ℕ
   pub count : ℕ
@@ -90,18 +90,18 @@ pub record IsUseAt (uses : List ℕ) (i n : ℕ) : Type 0 where
   pub within : i < length uses
   pub there : slice_index uses i ≡ n
 
--- the stamp of each number that was used is the index of a use of it
+-- each number in the log has a stamp: the index of one of its uses
 pub record AreStamped (uses stamps : List ℕ) : Type 0 where
   pub known : (n : ℕ) → is_member uses n ≡ true → n < length stamps
   pub stamped : (n : ℕ) → is_member uses n ≡ true → IsUseAt uses (slice_index stamps n) n
 
--- a log in which only numbers of this order are used
+-- the log uses only numbers of this order
 pub record IsLogOf (l : LogState) (s : OrderState) : Type 0 where
   pub listed : (n : ℕ) → is_member l.uses n ≡ true → is_member s.numbers n ≡ true
   pub count : l.count ≡ length s.places
   pub some : 0 < l.most
 
--- some numbers from the front of the list were used in turn; all of the list, if `said`
+-- the first `count` numbers of the list were used in turn; all of them, if `said`
 pub record Uses (s t : OrderState) (ns : List ℕ) (said : Bool) : Type 0 where
   pub count : ℕ
   pub used : t ≡ used_all (take count ns) s
@@ -114,7 +114,7 @@ pub record EntriesState : Type 0 where
   pub order : List ℕ
   pub most : ℕ
 
--- the entry at a place: its present body, and its frozen copy if the place has a mark
+-- the entry at a place: its present body, and its frozen copy if the place is marked
 abbrev pub entry_in : List (Content Cap) → List (Content Cap) → List Bool → ℕ → Entry
 entry_in presents kepts marks p = record {
   present = held_at presents p;
@@ -128,15 +128,14 @@ entries_of o presents kepts marks = record {
   most = o.most;
 }
 
--- there are at least eight places, and each has a present body, a frozen copy, and a mark that says whether the copy
--- counts
+-- at least eight places, each with a present body, a frozen copy, and a mark that says whether the copy counts
 pub record AreStored (most : ℕ) (ps ks : List (Content Cap)) (ms : List Bool) : Type 0 where
   pub least : 8 ≤ most
   pub presents : length ps ≡ most
   pub kepts : length ks ≡ most
   pub marks : length ms ≡ most
 
--- the order has each number with an entry once; these are at most `most`, which is at least eight
+-- the order contains each number with an entry, once; there are at most `most`, which is at least eight
 pub record AreOrdered (s : EntriesState) : Type 0 where
   pub listed : (n : ℕ) → is_member s.order n ≡ is_some (entry_at s.at n)
   pub once : AllDiffer s.order
@@ -155,6 +154,6 @@ with_new n c s = record { at = slice_set s.at n (Some (new_entry c)); order = n 
 abbrev pub without_entry : ℕ → EntriesState → EntriesState
 without_entry n s = record { at = slice_set s.at n None; order = without n s.order; most = s.most }
 
--- the entries after that of number n was used
+-- the entries after number n was used
 abbrev pub used_now : ℕ → EntriesState → EntriesState
 used_now n s = record { at = s.at; order = n ∷ without n s.order; most = s.most }

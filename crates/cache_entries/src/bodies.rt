@@ -113,7 +113,7 @@ fn is_page(kind: &Kind) -> bool
     }
 }
 
-// Changes the root of a process. Any other body stays.
+// Changes the root of a process. No other body changes.
 #[inline(always)]
 fn change_kind(kind: &mut Kind, change: RootChange)
     ensures { kind.new ≡ kind_with_root (changed_root change) kind.old }
@@ -224,7 +224,7 @@ impl Bodies {
         self.kinds[place] = kind_behind(content);
     }
 
-    /// Sets a word of the page at a place. Any other body stays.
+    /// Sets a word of the page at a place. No other body changes.
     #[tactic(auto, using(crate::proofs::Contents::kind_within, crate::proofs::Contents::word_edits))]
     pub(crate) fn set_word(&mut self, place: usize, index: usize, word: u64)
         requires place { place < length self.old }
@@ -236,7 +236,7 @@ impl Bodies {
         }
     }
 
-    /// Sets a slot of the node or annex at a place. Any other body stays.
+    /// Sets a slot of the node or annex at a place. No other body changes.
     #[tactic(auto, using(crate::proofs::Contents::kind_within, crate::proofs::Contents::slot_edits))]
     pub(crate) fn set_slot(&mut self, place: usize, slot: usize, held: Cap)
         requires place { place < length self.old }
@@ -248,7 +248,7 @@ impl Bodies {
         }
     }
 
-    /// Sets the last four slots of the node or annex at a place. Any other body stays.
+    /// Sets the last four slots of the node or annex at a place. No other body changes.
     #[tactic(auto, using(crate::proofs::Contents::kind_within, crate::proofs::Contents::slot_edits))]
     pub(crate) fn set_last_slots(&mut self, place: usize, held: [Cap; 4])
         requires { place < length self.old }
@@ -259,7 +259,7 @@ impl Bodies {
         }
     }
 
-    /// Changes the root at a place. Any other body stays.
+    /// Changes the root at a place. No other body changes.
     #[inline(always)]
     #[tactic(auto, using(crate::proofs::Contents::kind_within, crate::proofs::Contents::root_seen))]
     pub(crate) fn change_root(&mut self, place: usize, change: RootChange)

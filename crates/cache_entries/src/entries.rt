@@ -20,7 +20,8 @@ use std::alloc::{AllocError, Global};
 use std::marker::Model;
 use std::num::NonZeroUsize;
 
-/// Cache entries by number, at most a capacity, in the order of their last use. Only `new` and `renew` take memory.
+/// Cache entries by number, at most a capacity, in the order of their last use. Only `new` and `renew`
+/// allocate.
 #[derive(Drop)]
 pub struct Entries {
     order: UseOrder,
@@ -41,8 +42,8 @@ impl Model for Entries {
 }
 
 impl Entries {
-    /// Returns an empty cache for numbers below `count`, with memory for `capacity` entries. Later calls on it take
-    /// no memory. Fails only if memory runs out.
+    /// Returns an empty cache for numbers below `count`, with memory for `capacity` entries. Later calls
+    /// don't allocate. Fails only if memory runs out.
     pub fn new(alloc: Global, capacity: Capacity, count: usize) -> Result<Entries, AllocError>
         ensures none { IfOk result (λ entries. entries
             ≡ record { at = replicate count None; order = []; most = capacity }) }
@@ -151,7 +152,7 @@ impl Entries {
         }
     }
 
-    /// Sets a word of a page that has an entry. Any other body stays.
+    /// Sets a word of a page that has an entry. No other body changes.
     #[tactic(auto, using(crate::proofs::Stored::present_put))]
     pub fn set_word(&mut self, number: u64, index: usize, word: u64)
         requires entry { IsSome (entry_at self.old.at number) }
@@ -162,7 +163,7 @@ impl Entries {
         self.presents.set_word(place, index, word);
     }
 
-    /// Sets a slot of a node or a register of an annex that has an entry. Any other body stays.
+    /// Sets a slot of a node or a register of an annex that has an entry. No other body changes.
     #[tactic(auto, using(crate::proofs::Stored::present_put))]
     pub fn set_slot(&mut self, number: u64, slot: usize, held: Cap)
         requires entry { IsSome (entry_at self.old.at number) }
@@ -173,8 +174,7 @@ impl Entries {
         self.presents.set_slot(place, slot, held);
     }
 
-    /// Sets the last four slots of a node or registers of an annex that has an entry. Any other body
-    /// stays.
+    /// Sets the last four slots of a node or registers of an annex that has an entry. No other body changes.
     #[tactic(auto, using(crate::proofs::Stored::present_put))]
     pub fn set_last_slots(&mut self, number: u64, held: [Cap; 4])
         requires { IsSome (entry_at self.old.at number) }
@@ -184,7 +184,7 @@ impl Entries {
         self.presents.set_last_slots(place, held);
     }
 
-    /// Changes a root that has an entry. Any other body stays.
+    /// Changes a root that has an entry. No other body changes.
     #[inline(always)]
     #[tactic(auto, using(crate::proofs::Stored::present_put))]
     pub fn change_root(&mut self, number: u64, change: RootChange)

@@ -7,8 +7,8 @@ use std::hash::Hasher;
 // 2^64 over the golden ratio, and odd.
 const MULTIPLIER: u64 = 0x9e37_79b9_7f4a_7c15;
 
-/// Hashes 8 bytes, as one number, by one multiplication (Fibonacci hashing). Places are few and close together, so
-/// this spreads them well. If there are not 8 bytes, hashes how many there are.
+/// Hashes 8 bytes, as one number, by a multiplication (Fibonacci hashing). Places are few and consecutive, so
+/// this spreads them well. Any other bytes are hashed by their number.
 #[derive(Clone, Copy)]
 pub struct NumberHasher {
     hash: u64,

@@ -17,7 +17,7 @@ type UseList = LruCache<usize, (), BuildHasherDefault<NumberHasher>>;
 
 /// Numbers in the order of their last use, and a place for each.
 ///
-/// The order contains all places from the start, so only `new` takes memory. Places without a number come last.
+/// The order contains all places from the start, so only `new` allocates. Places without a number come last.
 #[derive(Drop)]
 pub(crate) struct Places {
     order: UseList,
@@ -54,7 +54,7 @@ fn all_places(alloc: Global, most: NonZeroUsize) -> Result<UseList, AllocError>
     Ok(order)
 }
 
-// Puts all places below `most` back into their first order, in which place 0 was used longest ago.
+// Puts all places below `most` into their first order, in which place 0 was used longest ago.
 #[tactic(auto, using(crate::proofs::Turns::filled_used))]
 fn restore_order(order: &mut UseList, most: usize)
     ensures { (count : ℕ) → IsFilled (keys_of order.old.entries) count → IsFilled (keys_of order.new.entries) count }
@@ -101,7 +101,7 @@ impl Places {
         self.numbers.len() == most && self.places.len() == count
     }
 
-    /// Frees all places, and puts them back into their first order.
+    /// Frees all places, and puts them into their first order.
     pub(crate) fn clear(&mut self)
         ensures { self.new ≡ record {
           numbers = [];
@@ -145,7 +145,7 @@ impl Places {
     pub(crate) fn lists(&self, number: u64) -> bool
         ensures { result ≡ is_member self.now.numbers number }
     {
-        // Proof only: each number in the order has a place.
+        // For the proof: by the contract of `len`, each number in the order has a place.
         self.len();
         (number as usize) < self.places.len() && self.has(number)
     }

@@ -1,11 +1,11 @@
-// A log of uses that are not yet entered in an order.
+// A log of uses that are not in an order yet.
 ghost use Rattle.std.specs.Prelude.{◌≡◌, ◌+◌, ◌<◌, [], ◌∷◌, ◌++◌, true, false, drop, length, slice_index, IfOk};
 ghost use Rattle.model.specs.Revoke.{is_member};
 
 use std::alloc::{AllocError, Global};
 use std::marker::Model;
 
-/// A log of uses of numbers, the last one at the end. Only `new` takes memory.
+/// A log of uses of numbers, the last one at the end. Only `new` allocates.
 #[derive(Drop)]
 pub(crate) struct UseLog {
     uses: Vec<u64>,

@@ -12,7 +12,7 @@ use std::alloc::{AllocError, Global};
 use std::marker::Model;
 use std::num::NonZeroUsize;
 
-// For how many uses the log has memory, for each place.
+// How many uses the log can hold, for each place.
 const USES_PER_PLACE: usize = 16;
 
 // The most uses that `settle_few` moves to the order before an eviction.
@@ -53,7 +53,7 @@ fn settle(order: &mut Places, log: &mut UseLog)
     log.clear();
 }
 
-// Makes space for one more use in the log.
+// Makes space in the log for one more use.
 fn spare_use(order: &mut Places, log: &mut UseLog)
     requires { IsLogOf log.old order.old }
     ensures same { used_all log.new.uses order.new ≡ used_all log.old.uses order.old }
@@ -93,8 +93,8 @@ fn settle_few(order: &mut Places, log: &mut UseLog)
     }
 }
 
-// Returns the number used longest ago. All places must have a number. A number with a use in the log may come first
-// in the order too early: it is moved to the end, and the search goes on.
+// Returns the number used longest ago. All places must have a number. If the first number in the order has a
+// use in the log, it is moved to the end, and the search goes on.
 fn find_least(order: &mut Places, log: &mut UseLog) -> u64
     requires log { IsLogOf log.old order.old }
     requires full { order.old.most ≤ length order.old.numbers }
@@ -169,7 +169,7 @@ impl UseOrder {
         self.order.is_full()
     }
 
-    /// Each number in the order has a place, and no two have the same.
+    /// A lemma as a function: each number in the order has a place, and no two have the same.
     #[tactic(auto, using(crate::proofs::Turns::spread_in_turn))]
     pub(crate) fn spread(&self)
         ensures { AreSpread self.now }
@@ -202,7 +202,7 @@ impl UseOrder {
         ensures { self.new ≡ used_last number self.old }
     {
         spare_use(&mut self.order, &mut self.log);
-        // Proof only: each number in the order has a place.
+        // For the proof: by the contract of `len`, each number in the order has a place.
         self.order.len();
         self.log.push(number);
     }
@@ -248,7 +248,7 @@ impl UseOrder {
         ensures within { result < self.old.most }
     {
         spare_use(&mut self.order, &mut self.log);
-        // Proof only: each number in the order has a place.
+        // For the proof: by the contract of `len`, each number in the order has a place.
         self.order.len();
         let place = self.order.insert(number);
         self.log.push(number);

@@ -1,4 +1,4 @@
--- After counts rise, capabilities compared with them are void; the frames stay sound.
+-- If counts rise, the capabilities compared with them become void, and the frames stay sound.
 use Rattle.capability.proofs.Names.{ℕ, Bool, List, [], map, length, slice_set, refl, sym, ap, subst, arith, zero-add, All, enumerate_from, nat_tests}
 use Rattle.capability.proofs.Names.{get_or-set_other, get_or-set_same, length-map, length-set, get_or-enumerate_from, length-enumerate_from, Cap, Capability}
 use Rattle.capability.proofs.Names.{Void, Number, Page, Node, Space, Process, Start, Resume, Bank, Discrim, ObjectHeader, Geometry, Content, Object, called}
@@ -19,7 +19,7 @@ raised b n = if b then n + 1 else n
 void_either : (b : Bool) → Void ≡ (if b then Void else Void)
 void_either b = grind (arith, nat_tests)
 
--- two tables of headers: the later one has counts raised for the capabilities that become void
+-- `ks` is `hs` with the counts raised that belong to the capabilities for which `goes` holds
 module _ (goes : Capability → Bool) (hs ks : List ObjectHeader) (raises : (w : Capability) →
     current_count ks w ≡ raised (goes w) (current_count hs w)) where
   stale : (c : Cap) → IsCurrent hs c → conveyed ks c ≡ void_where goes (conveyed hs c)
@@ -39,12 +39,12 @@ module _ (goes : Capability → Bool) (hs ks : List ObjectHeader) (raises : (w :
       ≡ map_content (λ d. void_where goes (conveyed hs d)) c
   content_twice c = grind (arith, nat_tests, twice)
 
-  -- the capabilities that a content conveys later are those that it conveyed before, some of them made void
+  -- a content conveys what it conveyed before, except that capabilities for which `goes` holds are void
   conveyed_without : (c : Content Cap) → All (IsCurrent hs) (caps_in c) →
       map_content (conveyed ks) c ≡ map_content (void_where goes) (map_content (conveyed hs) c)
   conveyed_without c all = search (content_agree, stale, content_twice)
 
--- Giving a set up.
+-- Rescinding the members of a set.
 allocations_given : (b : Bool) (h k : ObjectHeader) → k ≡ (if b then given_up h else h) → k.allocations ≡ raised b h.allocations
 allocations_given b h k is = grind (arith, nat_tests)
 
@@ -90,7 +90,7 @@ module _ (set : List ℕ) (p q : Parts) (given : AreGivenUp set p q) where
   length_rescinded os = length-map (enumerate_from 0 os) (λ e. if is_member set e.0 then free else without (names_member set) e.1)
       ∙ length-enumerate_from 0 os
 
-  -- raising both counts of the members, and freeing them, rescinds them
+  -- raising both counts of the members and freeing them rescinds them
   pub objects_given_up : AreCurrent (frames_of p) → objects_in q ≡ rescind set (objects_in p)
   objects_given_up current =
       let os = objects_in p in
@@ -116,7 +116,7 @@ module _ (set : List ℕ) (p q : Parts) (given : AreGivenUp set p q) where
       given_kept g age n few (is_member set n) (header_at p.headers n) (header_at q.headers n) (held_at p.contents n) (held_at q.contents n)
       (given.headers n) (given.contents n) (keepable_at g age p n old k))
 
--- Counting a call.
+-- Raising a call count.
 module _ (r : ℕ) (p q : Parts) (known : r < length p.headers) (is : q ≡ with_header p r (called (header_at p.headers r))) where
   abbrev next : List ObjectHeader
   next = slice_set p.headers r (called (header_at p.headers r))
@@ -140,7 +140,7 @@ module _ (r : ℕ) (p q : Parts) (known : r < length p.headers) (is : q ≡ with
       (conveyed_without (resumes r) p.headers next called_raises (held_at p.contents n) (current_held p current n old))
       ∙ sym (get_or-map (without (resumes r)) os n free free inside ∙ ap (without (resumes r)) (object_in p.headers p.contents n old)))
 
-  -- raising a call count is consuming the capabilities that resume the process
+  -- raising the call count of process r consumes the capabilities that resume r
   pub objects_called : AreCurrent (frames_of p) → objects_in q ≡ consume r (objects_in p)
   objects_called current = ap (λ (k : Parts). objects_in k) is ∙ consumed_objects current
 

@@ -1,4 +1,4 @@
--- The objects of frames after a header, a content or a root has changed at one number. What an edit of present frames leaves alone.
+-- The objects of frames after a header, a content or a root changed at one number, and what such an edit leaves unchanged.
 use Rattle.capability.proofs.Names.{ℕ, suc, inl, inr, nat_lt, List, [], map, length, slice_index_or, slice_set, refl, sym, ap, subst, arith, All, get_or-map}
 use Rattle.capability.proofs.Names.{map-set_same, cases_lt, nat_tests, length-set, map-set, set-get_or, All-replicate, All-set, Cap, Capability, Void, Page}
 use Rattle.capability.proofs.Names.{Node, Space, Process, Start, Resume, Bank, Frame, ObjectHeader, Content, Object, blank_header, conveyed, current_count}
@@ -21,11 +21,11 @@ map_agree f g (x ∷ xs) each = cc (each 0 x (omega arith), map_agree f g xs (λ
 pub content_agree : (f g : Cap → Capability) (c : Content Cap) → All (λ x. f x ≡ g x) (caps_in c) → map_content f c ≡ map_content g c
 content_agree f g x2 each = grind (arith, nat_tests, map_agree)
 
--- two headers with the same counts
+-- two headers have the same counts
 abbrev pub HasCounts : ObjectHeader → ObjectHeader → Type 0
 HasCounts h k = (h.allocations ≡ k.allocations) × (h.calls ≡ k.calls)
 
--- if the new header has the same field as the old one, the field is unchanged at each number
+-- if a new header has the same field as the old one, this field is unchanged in the whole table
 pub field_same : (field : ObjectHeader → ℕ) (hs : List ObjectHeader) (n : ℕ) (h : ObjectHeader) → field h ≡ field (header_at hs n) →
     (m : ℕ) → field (header_at (slice_set hs n h) m) ≡ field (header_at hs m)
 field_same field hs n h same m =
@@ -48,14 +48,14 @@ module _ (hs : List ObjectHeader) (n : ℕ) (h : ObjectHeader) (same : HasCounts
   pub conveyed_same : (c : Cap) → conveyed (slice_set hs n h) c ≡ conveyed hs c
   conveyed_same c = ap (λ (m : ℕ). if nat_lt c.count m then Void else c.what) (current_same c.what)
 
--- changing only a content leaves all headers
+-- changing only a content keeps the header
 pub header_kept : (p : Parts) (n : ℕ) (c : Content Cap) → with_held p n c ≡ with_both p n (header_at p.headers n) c
 header_kept p n c = grind (arith, nat_tests, set-get_or)
 
 pub content_kept : (p : Parts) (n : ℕ) (h : ObjectHeader) → with_header p n h ≡ with_both p n h (held_at p.contents n)
 content_kept p n h = grind (arith, nat_tests, set-get_or)
 
--- capabilities of each frame, by the two lists
+-- if all frames are current, so are the capabilities of each content
 pub current_held : (p : Parts) → AreCurrent (frames_of p) → (n : ℕ) → n < length p.headers →
     All (IsCurrent p.headers) (caps_in (held_at p.contents n))
 current_held p current n known =
@@ -95,7 +95,7 @@ module _ (p : Parts) (n : ℕ) (h : ObjectHeader) (c : Content Cap) (inside : n 
       ∙ ap (λ (ks : List ObjectHeader). slice_set (map (object_of ks) (frames_of p)) n (object_of p.headers frame))
       (sym (headers_in p.headers p.contents))
 
-  -- capabilities stay live or stale
+  -- if the new capabilities are live or stale, so are all
   pub current_set : All (IsCurrent p.headers) (caps_in c) → AreCurrent (frames_of p) → AreCurrent (frames_of (with_both p n h c))
   current_set new current =
       let hs = slice_set p.headers n h in
@@ -107,7 +107,7 @@ module _ (p : Parts) (n : ℕ) (h : ObjectHeader) (c : Content Cap) (inside : n 
       λ k d within. let is = current_same p.headers n h same (slice_index_or (caps_in (held_at (slice_set p.contents n c) m)) k d).what in
       rw is (held k d within))
 
--- a content alone has changed
+-- only a content has changed
 module _ (p : Parts) (n : ℕ) (c : Content Cap) (known : n < length p.headers) (inside : n < length p.contents) where
   pub held_objects : objects_in (with_held p n c) ≡ with_content (objects_in p) n (map_content (conveyed p.headers) c)
   unfolding with_content
@@ -116,7 +116,7 @@ module _ (p : Parts) (n : ℕ) (c : Content Cap) (known : n < length p.headers) 
   pub held_current : All (IsCurrent p.headers) (caps_in c) → AreCurrent (frames_of p) → AreCurrent (frames_of (with_held p n c))
   held_current new current = grind (arith, nat_tests, header_kept, current_set)
 
--- a change of a slot, a word or a message goes through the map
+-- changing a slot, a word or a message commutes with mapping the capabilities
 pub slot_through_map : (f : Cap → Capability) (c : Content Cap) (i : ℕ) (held : Cap) →
     map_content f (with_slot_in c i held) ≡ with_slot_in (map_content f c) i (f held)
 slot_through_map f c i held = grind (arith, nat_tests, map-set)
@@ -125,7 +125,7 @@ pub word_through_map : (f : Cap → Capability) (c : Content Cap) (i word : ℕ)
     map_content f (with_word_in c i word) ≡ with_word_in (map_content f c) i word
 word_through_map f c i word = grind (arith, nat_tests)
 
--- the capabilities of a content after an edit are live or stale if the new one is
+-- after a slot is set, all capabilities of the content are live or stale if the new one is
 pub slot_current : (hs : List ObjectHeader) (c : Content Cap) (i : ℕ) (held : Cap) → IsCurrent hs held → All (IsCurrent hs) (caps_in c) →
     All (IsCurrent hs) (caps_in (with_slot_in c i held))
 slot_current hs (content.Node slots) i held is all = All-set (IsCurrent hs) slots i held is all
@@ -136,11 +136,11 @@ pub word_current : (hs : List ObjectHeader) (c : Content Cap) (i word : ℕ) →
     All (IsCurrent hs) (caps_in (with_word_in c i word))
 word_current hs c i word all = grind (arith, nat_tests)
 
--- a capability that gets its object's count conveys itself
+-- a capability stored with its object's count conveys itself
 pub live : (hs : List ObjectHeader) (c : Capability) → conveyed hs (record { what = c; count = current_count hs c }) ≡ c
 live hs c = grind (arith, nat_tests)
 
--- The helpers' edits. The new parts are q.
+-- The edits of `objects` and `roots`; q has the parts after the edit.
 module _ (p q : Parts) (n : ℕ) (known : n < length p.headers) (inside : n < length p.contents) where
   pub owner_objects : (bank : ℕ) → q ≡ with_header p n (owned_by bank (header_at p.headers n)) →
       objects_in q ≡ slice_set (objects_in p) n (record { owner = bank; content = content_at (objects_in p) n })
@@ -163,7 +163,7 @@ module _ (p q : Parts) (n : ℕ) (inside : n < length p.contents) (f : Fresh) (o
   pub claim_stays_current : AreCurrent (frames_of p) → AreCurrent (frames_of q)
   claim_stays_current current = grind (arith, nat_tests, current_set, slots_current)
 
--- a change that goes through the map of capabilities
+-- a change of a root commutes with mapping its capabilities
 abbrev pub GoesThrough : (Root Cap → Root Cap) → (Root Capability → Root Capability) → (Cap → Capability) → Type 0
 GoesThrough change after f = (r : Root Cap) → map_content f (content.Root (change r))
     ≡ content.Root (after (root_in (map_content f (content.Root r))))
@@ -183,7 +183,7 @@ pub root_keeps : (g : Geometry) (age n : ℕ) (h : ObjectHeader) (change : Root 
     IsKeepable g age n (record { header = h; content = c }) → IsKeepable g age n (record { header = h; content = with_root_in change c })
 root_keeps g age n h change stays c k = grind (arith, nat_tests, refilled)
 
--- a root with another word, state or address space
+-- a root with another word, state or address space may be kept
 pub word_kept : (i word : ℕ) (ws : List ℕ) → word < 2 ^ 64 → AreKeptWords 4 ws → AreKeptWords 4 (slice_set ws i word)
 word_kept i word ws fits k = record { count_is = length-set ws i word ∙ k.count_is; each = All-set (λ w. w < 2 ^ 64) ws i word fits k.each }
 
@@ -200,13 +200,13 @@ pub space_kept : (g : Geometry) (age : ℕ) (hs : List ObjectHeader) (w : Capabi
     MayBeKept g age (content.Root r) → MayBeKept g age (content.Root (record r { space = held }))
 space_kept g age hs w held is kept space r k = grind (arith, nat_tests)
 
--- the objects after an edit, and when the frames can be kept
+-- an edit: the objects afterwards, and for which ages the frames may still be kept
 pub record IsEdit (p q : Parts) (after : List Object) (may : ℕ → Type 0) : Type 0 where
   pub objects : objects_in q ≡ after
   pub current : AreCurrent (frames_of p) → AreCurrent (frames_of q)
   pub keepable : (age : ℕ) → may age → AreKeepable p.geometry age (frames_of p) → AreKeepable p.geometry age (frames_of q)
 
--- The object at a number holds something else. The new parts are q.
+-- The content at number n has changed; q has the parts after the edit.
 module _ (p q : Parts) (n : ℕ) (known : n < length p.headers) (inside : n < length p.contents) where
   abbrev held : Content Cap
   held = held_at p.contents n
@@ -261,7 +261,7 @@ module _ (p q : Parts) (n : ℕ) (known : n < length p.headers) (inside : n < le
       (root_current p.headers change current held) (λ age allowed. root_keeps p.geometry age n (header_at p.headers n) change
       (stays age allowed) held)
 
--- capabilities in the slots from i on, after the first
+-- setting the slots from i on, where 0 < i, is an edit
 pub slots_edit : (p q : Parts) (n : ℕ) → n < length p.headers → n < length p.contents → (i : ℕ) → 0 < i → (cs : List Capability) →
     q ≡ with_held p n (with_slots_in (held_at p.contents n) i (map (live_cap p.headers) cs)) →
     IsEdit p q (with_slots_from (objects_in p) n i cs) (λ age. All (λ c. IsKeptCap p.geometry age (live_cap p.headers c)) cs)
@@ -283,7 +283,7 @@ slots_edit p q n known inside i behind (c ∷ cs) is =
           (step.keepable age (may 0 Void (omega arith), λ annex zeroth. absurd (omega arith)) keepable);
     }
 
--- an edit of what an object holds
+-- changing a content is an edit
 pub edited : {S : Type 0} (parts : S → Parts) (Fetched Announced : S → ℕ → Type 0) (Continues : S → S → Type 0) (old new : S) (n : ℕ)
     (c : Content Cap) (after : List Object) (may : ℕ → Type 0) → Becomes parts Fetched Announced Continues old new
     (with_held (parts old) n c) → IsEdit (parts old) (parts new) after may → Edits parts Fetched Announced Continues old new after may

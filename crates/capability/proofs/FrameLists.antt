@@ -1,4 +1,4 @@
--- A list of frames from a list of headers and one of contents: the frame at each number.
+-- Frames made of a list of headers and a list of contents, number by number.
 use Rattle.capability.proofs.Names.{nat_tests, ℕ, zero, suc, true, false, List, [], length, slice_index, slice_index_or, slice_set, refl, sym, ap, subst, arith}
 use Rattle.capability.proofs.Names.{IsTrue, get_or-map, ext_get_or, get_or_past, get_or-set_same, get_or-set_other, set_past, length-map, Cap, Capability, Void}
 use Rattle.capability.proofs.Names.{Frame, ObjectHeader, Content, Object, Root, blank_frame, conveyed, frame_at, frames_in, header_at, headers, held_at}
@@ -9,12 +9,12 @@ use Rattle.model.specs.declared.object.Content.TheVariants as content
 use Rattle.std.proofs.lemmas.List.{get_or-map as read_through}
 use Rattle.capability.proofs.Mapped.{mapped}
 
--- a property of the new item at its place, and of an old item at another, holds after a set
+-- after item n is set to x, item m has a property if x has it and the old item m has it
 pub at_set : {X : Type 0} (P : ℕ → X → Type 0) (xs : List X) (n m : ℕ) (x d : X) → P n x → P m (slice_index_or xs m d) →
     P m (slice_index_or (slice_set xs n x) m d)
 at_set P xs n m x d new old = grind (arith, nat_tests, get_or-set_other, get_or-set_same, set_past)
 
--- the headers of frames made from a list of headers are that list
+-- the frames made from a list of headers have these headers
 pub headers_in : (hs : List ObjectHeader) (cs : List (Content Cap)) → headers (frames_in hs cs) ≡ hs
 unfolding frames_in
 headers_in [] cs = refl
@@ -24,7 +24,7 @@ headers_in (h ∷ hs) (c ∷ cs) = ap (λ (t : List ObjectHeader). h ∷ t) (hea
 pub length_in : (hs : List ObjectHeader) (cs : List (Content Cap)) → length (frames_in hs cs) ≡ length hs
 length_in hs cs = sym (length-map (frames_in hs cs) (λ (f : Frame). f.header)) ∙ ap length (headers_in hs cs)
 
--- the frame at a number, from the two lists
+-- the frame at a number: its header and its content
 abbrev pub pair_at : List ObjectHeader → List (Content Cap) → ℕ → Frame
 pair_at hs cs n = record { header = header_at hs n; content = held_at cs n }
 
@@ -50,7 +50,7 @@ set_in (g ∷ hs) (d ∷ cs) zero h c inside = refl
 set_in (g ∷ hs) (d ∷ cs) (suc n) h c inside = ap (λ (t : List Frame). record { header = g; content = d } ∷ t)
     (set_in hs cs n h c (omega arith))
 
--- the object at a number, from the two lists
+-- the object at a number: its owner, and its content with stale capabilities void
 abbrev pub shown_at : List ObjectHeader → List (Content Cap) → ℕ → Object
 shown_at hs cs n = record { owner = (header_at hs n).owner; content = map_content (conveyed hs) (held_at cs n) }
 
@@ -73,17 +73,17 @@ objects_by hs cs os count each =
     ext_get_or free (objects_of (frames_in hs cs)) os (length_objects hs cs ∙ sym count)
     (λ i inside. let known : i < length hs = subst (λ k. i < k) (length_objects hs cs) inside in object_in hs cs i known ∙ each i known)
 
--- past the last header the objects are free
+-- numbers past the last header are free
 pub object_past : (hs : List ObjectHeader) (cs : List (Content Cap)) (n : ℕ) → length hs ≤ n →
     object_at (objects_of (frames_in hs cs)) n ≡ free
 object_past hs cs n past = get_or_past (objects_of (frames_in hs cs)) n free (rw length_objects past)
 
--- the owner of the object at a number is that of its header
+-- an object's owner is the one in its header
 pub owner_in : (hs : List ObjectHeader) (cs : List (Content Cap)) (n : ℕ) →
     owner_at (objects_of (frames_in hs cs)) n ≡ (header_at hs n).owner
 owner_in hs cs n = grind (arith, nat_tests, object_in, object_past, get_or_past)
 
--- the owner in the table of headers is the object's
+-- the owner that is read from the table is the object's
 pub owner_read : (p : Parts) (hs : List ObjectHeader) (h : ObjectHeader) (n : ℕ) → hs ≡ p.headers → h ≡ header_at hs n →
     h.owner ≡ owner_at (objects_in p) n
 owner_read p hs h n table is = grind (arith, nat_tests, owner_in)
@@ -92,7 +92,7 @@ owner_read p hs h n table is = grind (arith, nat_tests, owner_in)
 pub known_used : (p : Parts) (n : ℕ) → is_free (content_at (objects_in p) n) ≡ false → n < length p.headers
 known_used p n used = grind (arith, nat_tests, object_past)
 
--- a content of a kind isn't free
+-- a root isn't free
 pub root_used : {C : Type 0} (c : Content C) → is_root c ≡ true → is_free c ≡ false
 root_used c is = grind (arith, nat_tests)
 
@@ -112,7 +112,7 @@ bank_used c is = grind (arith, nat_tests)
 pub process_known : (p : Parts) (n : ℕ) → IsTrue (is_process (objects_in p) n) → n < length p.headers
 process_known p n is = known_used p n (root_used (content_at (objects_in p) n) is)
 
--- the object at a number with this content
+-- facts about the object at a number, if its content is c
 module _ (p : Parts) (n : ℕ) (known : n < length p.headers) (c : Content Cap) (is : held_at p.contents n ≡ c) where
   pub content_there : content_at (objects_in p) n ≡ map_content (conveyed p.headers) c
   content_there = grind (arith, nat_tests, object_in)
@@ -140,7 +140,7 @@ module _ (p : Parts) (n : ℕ) (known : n < length p.headers) (c : Content Cap) 
   pub no_annex_there : ((x : List Cap) → c ≡ content.Annex x → ⊥) → is_annex (content_at (objects_in p) n) ≡ false
   no_annex_there annex = grind (arith, nat_tests, content_there, mapped)
 
--- the object that its header and its content make
+-- the object at a number is made of its header and its content
 pub object_there : (p : Parts) (n : ℕ) → n < length p.headers → (hs ks : List ObjectHeader) (h : ObjectHeader) (now : Content Cap)
     (shown : Content Capability) →
     hs ≡ p.headers → ks ≡ p.headers → h ≡ header_at hs n → now ≡ held_at p.contents n → shown ≡ map_content (conveyed ks) now →

@@ -1,4 +1,4 @@
--- Frames that can be kept stay so through each change.
+-- Frames that may be kept at an age may be kept after each change, at the same or the next age.
 use Rattle.capability.proofs.Names.{nat_tests, rules, ℕ, List, length, slice_index_or, slice_set, refl, sym, ap, subst, arith, IsTrue, get_or_past, length-set}
 use Rattle.capability.proofs.Names.{All-replicate, All-set, All-weaker, Cap, Capability, Frame, ObjectHeader, Geometry, Content, blank_frame, blank_header}
 use Rattle.capability.proofs.Names.{called, claimed, frame_at, header_at, held_at, owned_by, void_held, AreKeepable, AreKeptSlots, AreKeptWords, Follows}
@@ -27,7 +27,7 @@ frame_later g age later n f le k = grind (arith, nat_tests, count_later, slots_l
 pub keepable_later : (g : Geometry) (age later : ℕ) (fs : List Frame) → age ≤ later → AreKeepable g age fs → AreKeepable g later fs
 keepable_later g age later fs le k = grind (arith, nat_tests, frame_later)
 
--- header and content at a number may be kept exactly if the frames may
+-- all frames may be kept exactly if, for each number, its header and content may
 pub keepable_count : (g : Geometry) (age : ℕ) (p : Parts) → AreKeepable g age (frames_of p) → length p.headers ≡ object_count g
 keepable_count g age p k = sym (length_in p.headers p.contents) ∙ k.count
 
@@ -39,7 +39,7 @@ pub keepable_from : (g : Geometry) (age : ℕ) (p : Parts) → length p.headers 
     ((n : ℕ) → n < length p.headers → IsKeepable g age n (pair_at p.headers p.contents n)) → AreKeepable g age (frames_of p)
 keepable_from g age p count each = grind (arith, nat_tests, length_in, frame_in)
 
--- frames that can be kept have their roles
+-- if frames may be kept, each header has the role of its content
 pub keepable_roles : (g : Geometry) (age : ℕ) (fs : List Frame) → AreKeepable g age fs → HaveTheirRoles fs
 keepable_roles g age fs k n = grind (arith, nat_tests, get_or_past)
 
@@ -58,7 +58,7 @@ module _ (g : Geometry) (age later : ℕ) (le : age ≤ later) (p q : Parts) (n 
             (frame_later g age later m (frame_at (frames_of p) m) le (k.each m known));
       })
 
--- replacing a content by one of its kind
+-- a content may be replaced by another of its role, if that may be kept
 pub refilled : (g : Geometry) (age n : ℕ) (h : ObjectHeader) (c d : Content Cap) → role_of d ≡ role_of c → IsOfKind g n d →
     MayBeKept g age d → IsKeepable g age n (record { header = h; content = c }) → IsKeepable g age n (record { header = h; content = d })
 refilled g age n h c d same kind may k = grind (arith, nat_tests)
@@ -115,7 +115,7 @@ module _ (g : Geometry) (age : ℕ) (p q : Parts) (n : ℕ) (known : n < length 
         kept = grind (arith, nat_tests);
       }) k
 
-  -- raising a call count by one, at the next age
+  -- after a call count was raised by one, the frames may be kept at the next age
   pub call_stays_keepable : age + 1 < 2 ^ 64 → q ≡ with_header p n (called (header_at p.headers n)) →
       AreKeepable g age (frames_of p) → AreKeepable g (age + 1) (frames_of q)
   call_stays_keepable few is k =
@@ -127,7 +127,7 @@ module _ (g : Geometry) (age : ℕ) (p q : Parts) (n : ℕ) (known : n < length 
         kept = grind (arith, nat_tests);
       }) k
 
--- A new object can be kept.
+-- A new object may be kept.
 blank_slots : (g : Geometry) (age : ℕ) → AreKeptSlots g age (all_slots void_held)
 unfolding all_slots
 blank_slots g age = record { count = refl; each = All-replicate (IsKeptCap g age) 32 void_held refl }

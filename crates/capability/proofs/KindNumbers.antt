@@ -1,4 +1,4 @@
--- The kind of a content says what numbers it may have.
+-- A content's kind determines which numbers it may have.
 use Rattle.capability.proofs.Names.{arith, ℕ, true, nat_tests, Capability, Geometry, Content, is_bank, is_node, is_page, is_root, IsOfKind, object_count}
 use Rattle.std.proofs.Common.{◌≡◌, ◌<◌, ◌≤◌}
 

@@ -1,4 +1,4 @@
--- The contents behind references.
+-- The contents that references refer to.
 use Rattle.capability.proofs.Names.{arith, ℕ, List, Bor, nat_tests, Cap, ContentRef, Root, content_behind}
 use Rattle.std.proofs.Common.{◌≡◌}
 use Rattle.model.specs.declared.object.Content.TheVariants as content

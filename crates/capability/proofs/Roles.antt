@@ -1,4 +1,4 @@
--- What the roles in headers say about objects.
+-- What the roles in headers imply about objects.
 use Rattle.capability.proofs.Names.{arith, ℕ, Bool, true, false, List, length, ⊎_elim, sym, ap, subst, nat_tests, cases_lt, get_or_past, get_or-map, Cap}
 use Rattle.capability.proofs.Names.{Capability, Frame, ObjectHeader, Content, Object, Role, blank_frame, blank_header, conveyed, frame_at, header_at, headers}
 use Rattle.capability.proofs.Names.{held_at, object_of, objects_of, is_free, is_root, map_content, role_of, content_at, is_process, HaveTheirRoles, Parts}
@@ -22,7 +22,7 @@ content_there fs n = ap (λ (o : Object). o.content) (get_or-map (object_of (hea
 header_there : (p : Parts) (n : ℕ) → header_at p.headers n ≡ (frame_at (frames_of p) n).header
 header_there p n = cc (headers_in p.headers p.contents, get_or-map (λ (f : Frame). f.header) (frames_of p) n blank_frame)
 
--- a number is that of a process exactly if its role is that of a root
+-- a number is a process exactly if its header's role is root
 pub process_by_role : (p : Parts) (n : ℕ) → HaveTheirRoles (frames_of p) → is_process (objects_in p) n
     ≡ is_root_role (header_at p.headers n).role
 process_by_role p n roles = grind (arith, nat_tests, content_there, mapped, root_of, header_there)
@@ -35,7 +35,7 @@ role_there p n hs h same is = ap (λ (k : ObjectHeader). is_root_role k.role)
 pub no_root_role : (r : Role) → (r ≡ role.Root → ⊥) → is_root_role r ≡ false
 no_root_role r other = grind (arith, nat_tests)
 
--- whether an object is free or a bank, and its kind, follow from its role
+-- the role in a header is the role of the object's content
 pub role_read : (p : Parts) (hs : List ObjectHeader) (h : ObjectHeader) (n : ℕ) → HaveTheirRoles (frames_of p) → hs ≡ p.headers →
     h ≡ header_at hs n → h.role ≡ role_of (content_at (objects_in p) n)
 role_read p hs h n roles table is =

@@ -1,4 +1,4 @@
--- What changes of present frames leave alone, through one change after another.
+-- What remains unchanged through several changes of present frames.
 use Rattle.capability.proofs.Names.{arith, ℕ, nat_tests, KeepsRest, OnlyFetches, Parts, ap, subst}
 use Rattle.capability.specs.Parts.{OnlyReads}
 use Rattle.capability.specs.Names.{Refusal, Result, OnOk, IsErrOf}
@@ -8,14 +8,14 @@ use Rattle.model.specs.declared.answer.Refusal.TheVariants as refusal
 
 module _ {S : Type 0} (parts : S → Parts) (Fetched Announced : S → ℕ → Type 0) (Continues : S → S → Type 0)
     (twice : (s t u : S) → Continues s t → Continues t u → Continues s u) where
-  -- two changes, one after the other, keep what each of them keeps
+  -- two changes in a row leave unchanged what each of them leaves unchanged
   pub keeps_twice : (s t u : S) → KeepsRest parts Fetched Announced Continues s t → KeepsRest parts Fetched Announced Continues t u →
       KeepsRest parts Fetched Announced Continues s u
   keeps_twice s t u a b = grind (arith, nat_tests)
 
 module _ {S : Type 0} (parts : S → Parts) (Continues : S → S → Type 0) (twice : (s t u : S) → Continues s t → Continues t u → Continues s u)
   where
-    -- two calls that only read, one after the other
+    -- two calls in a row that only fetch are together such a call
     pub only_reads_twice : (s t u : S) → OnlyFetches parts Continues s t → OnlyFetches parts Continues t u → OnlyFetches parts Continues s u
     only_reads_twice s t u a b = record {
       same = λ stayed. b.same (omega (arith, stayed, a.later, b.later)) ∙ a.same (omega (arith, stayed, a.later, b.later));
@@ -24,7 +24,7 @@ module _ {S : Type 0} (parts : S → Parts) (Continues : S → S → Type 0) (tw
       continues = twice s t u a.continues b.continues;
     }
 
--- a call that only reads, after a step to the same parts
+-- a step that doesn't change the parts counts as a call that only fetches
 module _ {S : Type 0} {parts : S → Parts} {Continues : S → S → Type 0} {s t : S} (is : parts t ≡ parts s) (continues : Continues s t) where
   pub only_fetched : OnlyFetches parts Continues s t
   only_fetched = record {

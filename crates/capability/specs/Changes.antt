@@ -1,4 +1,4 @@
--- The changes and the outcomes of orders.
+-- The changes that orders plan, and their outcomes.
 use Rattle.capability.specs.Names.{ℕ, Option, None, Some, List, [], option_to_list, Void, Message, Object, ResultCode}
 use Rattle.capability.specs.Names.{inherited, new_annex, new_root, with_new, with_root_word, with_space, OrderOutcome}
 use Rattle.capability.specs.Names.{code_number, consume, rescind, root_at, with_root, with_slot, with_state, with_word}

@@ -1,5 +1,5 @@
--- What must hold of frames that can be kept, so that they stand for a sound world: capabilities name objects of their
--- role, processes are whole, and banks are a tree within its limits.
+-- The rules for frames of a sound world: capabilities name objects of their role, processes have one root and one
+-- annex each, and banks form a tree within their limits.
 use Rattle.capability.specs.Names.{ℕ, Bool, false, List, Option, None, Some, IsTrue, All, Contains, Cap, Capability}
 use Rattle.capability.specs.Names.{Bank, Discrim, Node, Number, Page, Process, Resume, Space, Start, Void, Frame}
 use Rattle.capability.specs.Names.{Content, Role, chain, usage, current_count, frame_at, headers, objects_of, caps_in}
@@ -38,30 +38,30 @@ NamesItsRole fs (Resume p) = IsTrue (is_waiting_root (frame_at fs p).content)
 NamesItsRole fs (Bank b) = role_at fs b ≡ role.Bank
 NamesItsRole fs Discrim = Unit {0}
 
--- a held capability: its count is at most its object's, and if it is live, its object has the capability's role
+-- a capability's count is at most its object's; if they are equal, the object has the role for this capability
 pub record IsNamed (fs : List Frame) (c : Cap) : Type 0 where
   pub current : c.count ≤ current_count (headers fs) c.what
   pub live : c.count ≡ current_count (headers fs) c.what → NamesItsRole fs c.what
 
--- this holds of each capability in slots, registers and address spaces
+-- each capability in slots, registers and address spaces satisfies `IsNamed`
 abbrev pub AreNamed : List Frame → Type 0
 AreNamed fs = (n : ℕ) → All (IsNamed fs) (caps_in (frame_at fs n).content)
 
--- p is a root, and its annex is a
+-- number p is a root, whose annex is number `a`
 abbrev pub IsRootOf : List Frame → ℕ → ℕ → Type 0
 IsRootOf fs p a = annex_in (frame_at fs p).content ≡ Some a
 
--- a is an annex with the same owner as p
+-- number `a` is an annex with the same owner as p
 abbrev pub IsAnnexFor : List Frame → ℕ → ℕ → Type 0
 IsAnnexFor fs p a = (role_at fs a ≡ role.Annex) × (owner_of fs a ≡ owner_of fs p)
 
--- each process is whole (KeyKOS: domains): a root has an annex with its owner, and an annex has one root
+-- each process is whole (KeyKOS: domains): a root has an annex with its owner, and each annex has exactly one root
 pub record AreWholeProcesses (fs : List Frame) : Type 0 where
   pub annexes : (p a : ℕ) → IsRootOf fs p a → IsAnnexFor fs p a
   pub one_root : (p q a : ℕ) → IsRootOf fs p a → IsRootOf fs q a → p ≡ q
   pub some_root : (a : ℕ) → role_at fs a ≡ role.Annex → (p : ℕ) × IsRootOf fs p a
 
--- each object is owned by a bank, and the banks are a tree below number 0, with at most 16 in a chain
+-- each object is owned by a bank; the banks form a tree below number 0, with at most 16 in a chain
 pub record AreOwned (fs : List Frame) : Type 0 where
   pub prime : (role_at fs 0 ≡ role.Bank) × (owner_of fs 0 ≡ 0)
   pub owners : (n : ℕ) → role_at fs n ≢ role.Free → role_at fs (owner_of fs n) ≡ role.Bank
@@ -71,7 +71,7 @@ pub record AreOwned (fs : List Frame) : Type 0 where
 abbrev pub AreLimited : List Frame → Type 0
 AreLimited fs = (b : ℕ) → role_at fs b ≡ role.Bank → usage (objects_of fs) b ≤ limit_in (frame_at fs b).content
 
--- all objects have owners, and all banks keep their limits
+-- the rules about banks: owners and limits
 pub record AreBanked (fs : List Frame) : Type 0 where
   pub owned : AreOwned fs
   pub limited : AreLimited fs

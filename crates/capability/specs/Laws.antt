@@ -1,16 +1,16 @@
--- Raising counts does what the definitions of rescinding and consuming say.
+-- Raising counts rescinds and consumes, as `model` defines it.
 use Rattle.capability.specs.Names.{ℕ, List, length, Geometry, called, header_at, AreCurrent, IsSoundFrames, consume}
 use Rattle.capability.specs.Names.{rescind, IsSound}
 use Rattle.std.specs.Prelude.{◌≡◌, ◌+◌, ◌<◌}
 use Rattle.capability.specs.Parts.{AreGivenUp, Parts, frames_of, with_header, objects_in}
 
--- to raise both counts of the members of a set and free them is to rescind them
+-- raising both counts of the members of a set, and freeing them, rescinds them
 abbrev pub GivenUpIsRescinded : Type 0
 GivenUpIsRescinded =
     (set : List ℕ) (old new : Parts) → AreCurrent (frames_of old) → AreGivenUp set old new →
     objects_in new ≡ rescind set (objects_in old)
 
--- to raise the call count of a process is to consume the capabilities that resume it
+-- raising the call count of a process consumes the capabilities that resume it
 abbrev pub CalledIsConsumed : Type 0
 CalledIsConsumed = (p : ℕ) (old new : Parts) → AreCurrent (frames_of old) → p < length old.headers →
     new ≡ with_header old p (called (header_at old.headers p)) →

@@ -10,8 +10,8 @@ use Rattle.model.specs.declared.object.Content.TheVariants as content
 use Rattle.capability.specs.declared.present.Fresh.{Fresh}
 use Rattle.capability.specs.declared.present.Fresh.TheVariants as fresh
 
--- what a store of present frames is made of: a header and a content for each number, which numbers were
--- written since the last checkpoint, and how often the device failed
+-- The parts of a store of present frames: a header and a content for each number, the numbers written since the last
+-- checkpoint or restart, and how often the device failed.
 pub record Parts : Type 0 where
   pub geometry : Geometry
   pub headers : List ObjectHeader
@@ -23,7 +23,7 @@ pub record Parts : Type 0 where
 abbrev pub frames_of : Parts → List Frame
 frames_of p = frames_in p.headers p.contents
 
--- the objects that these frames stand for
+-- the objects of these frames
 abbrev pub objects_in : Parts → List Object
 objects_in p = objects_of (frames_of p)
 
@@ -31,12 +31,12 @@ objects_in p = objects_of (frames_of p)
 abbrev pub AreSound : Parts → Type 0
 AreSound p = (age : ℕ) × IsSoundFrames p.geometry age (frames_of p)
 
--- bodies may be fetched: the store is usable, and its frames can be kept at each age
+-- bodies may be fetched: the store is usable, and its frames may be kept
 pub record MayFetch {S : Type 0} (Usable : S → Type 0) (parts : S → Parts) (s : S) : Type 0 where
   pub usable : Usable s
   pub keepable : AreKeepable (parts s).geometry (2 ^ 64 - 1) (frames_of (parts s))
 
--- the parts with another header, content, or both, at a number
+-- the parts with this header, this content, or both, at number n
 abbrev pub with_header : Parts → ℕ → ObjectHeader → Parts
 with_header p n h = record p { headers = slice_set p.headers n h }
 
@@ -73,8 +73,8 @@ FreshFits _ = Unit {0}
 abbrev pub HaveTheirRoles : List Frame → Type 0
 HaveTheirRoles fs = (n : ℕ) → (frame_at fs n).header.role ≡ role_of (frame_at fs n).content
 
--- A change of present frames: their parts after it. What was fetched and announced stays so. The parameters are the
--- ghost members of a store of present frames.
+-- A change of present frames. `after` has the parts afterwards. All that was fetched or announced stays so. The
+-- parameters are the ghost members of a store of present frames.
 pub record Becomes {S : Type 0} (parts : S → Parts) (Fetched Announced : S → ℕ → Type 0) (Continues : S → S → Type 0)
     (old new : S) (after : Parts) : Type 0 where
   pub parts_are : parts new ≡ after
@@ -82,8 +82,8 @@ pub record Becomes {S : Type 0} (parts : S → Parts) (Fetched Announced : S →
   pub announced : (n : ℕ) → Announced old n → Announced new n
   pub continues : Continues old new
 
--- A change of present frames that frees no object: allocation counts, touched numbers, geometry and failures stay,
--- and all that was fetched or announced stays so. The parameters are the ghost members of a store of present frames.
+-- A change of present frames that frees no object. Allocation counts, touched numbers, geometry and failures stay, and
+-- all that was fetched or announced stays so. The parameters are the ghost members of a store of present frames.
 pub record KeepsRest {S : Type 0} (parts : S → Parts) (Fetched Announced : S → ℕ → Type 0) (Continues : S → S → Type 0)
     (old new : S) : Type 0 where
   pub count : length (parts new).headers ≡ length (parts old).headers
@@ -96,8 +96,8 @@ pub record KeepsRest {S : Type 0} (parts : S → Parts) (Fetched Announced : S �
   pub announced : (n : ℕ) → Announced old n → Announced new n
   pub continues : Continues old new
 
--- An edit of objects' contents: the objects after it, and for which ages the frames can still be kept. The parameters
--- are ghost members of a store of present frames.
+-- An edit of contents. `after` has the objects afterwards; the frames may still be kept at each age with `may`. The
+-- parameters are the ghost members of a store of present frames.
 pub record Edits {S : Type 0} (parts : S → Parts) (Fetched Announced : S → ℕ → Type 0) (Continues : S → S → Type 0)
     (old new : S) (after : List Object) (may : ℕ → Type 0) : Type 0 where
   pub objects : objects_in (parts new) ≡ after
@@ -111,30 +111,30 @@ pub record Edits {S : Type 0} (parts : S → Parts) (Fetched Announced : S → �
 abbrev pub AreSameUnlessFailed : Parts → Parts → Type 0
 AreSameUnlessFailed old new = new.failures ≡ old.failures → new ≡ old
 
--- Bodies were fetched, and nothing was announced. After a failure of the device, only the touched numbers are known to
--- be the same. The parameters are ghost members of frames.
+-- Bodies may have been fetched, and nothing else changed. After a failure of the device only the touched numbers are
+-- known to be the same. The parameters are the ghost members of `Frames`.
 pub record OnlyFetches {S : Type 0} (parts : S → Parts) (Continues : S → S → Type 0) (old new : S) : Type 0 where
   pub same : AreSameUnlessFailed (parts old) (parts new)
   pub touched : (parts new).touched ≡ (parts old).touched
   pub later : (parts old).failures ≤ (parts new).failures
   pub continues : Continues old new
 
--- Bodies were fetched, and nothing else changed. The call fails exactly if the device fails. The parameters are
--- ghost members of frames.
+-- Bodies may have been fetched, and nothing else changed. The call fails exactly if the device fails. The parameters
+-- are the ghost members of `Frames`.
 pub record FetchesOrFails {S T : Type 0} (parts : S → Parts) (Continues : S → S → Type 0) (old new : S)
     (result : Result T Failed) : Type 0 where
   pub same : OnOk result (parts new ≡ parts old)
   pub snapshots : OnlyFetches parts Continues old new
   pub cause : IsErr result ↔ ((parts old).failures < (parts new).failures)
 
--- a refusal to read objects: memory ran out, or the device failed
+-- why objects can't be read: memory ran out, or the device failed
 abbrev pub IsUnread : Refusal → Type 0
 IsUnread refusal.NoMemory = Unit {0}
 IsUnread refusal.Fault = Unit {0}
 IsUnread _ = ⊥
 
--- Bodies were fetched for a call that may run out of memory or fail, and nothing else changed. The parameters are
--- ghost members of frames.
+-- Bodies may have been fetched, and nothing else changed; the call may run out of memory or fail. The parameters are
+-- the ghost members of `Frames`.
 pub record OnlyReads {S T : Type 0} (parts : S → Parts) (Continues : S → S → Type 0) (old new : S)
     (result : Result T Refusal) : Type 0 where
   pub same : OnOk result (parts new ≡ parts old)
@@ -142,18 +142,18 @@ pub record OnlyReads {S T : Type 0} (parts : S → Parts) (Continues : S → S �
   pub refusals : IfErr result IsUnread
   pub cause : IsErrOf result refusal.Fault ↔ ((parts old).failures < (parts new).failures)
 
--- a refusal to prepare objects: the log is full, or the device failed
+-- why objects can't be prepared: the log is full, or the device failed
 abbrev pub IsUnprepared : Refusal → Type 0
 IsUnprepared refusal.LogFull = Unit {0}
 IsUnprepared refusal.Fault = Unit {0}
 IsUnprepared _ = ⊥
 
--- the parts with more numbers touched
+-- the parts, with the written numbers touched too
 abbrev pub touched_too : List ℕ → Parts → Parts
 touched_too written p = record p { touched = touching p.touched written }
 
--- Bodies were fetched, and the numbers to be written were announced; after a refusal none is. After a failure of the
--- device, the parts are unknown. The parameters are ghost members of a store of present frames.
+-- Bodies were fetched and the written numbers announced. After a refusal nothing was announced; after a failure of the
+-- device the parts are unknown. The parameters are the ghost members of a store of present frames.
 pub record Prepares {S T : Type 0} (parts : S → Parts) (Continues : S → S → Type 0) (old new : S) (written : List ℕ)
     (result : Result T Refusal) : Type 0 where
   pub before : touched_count (parts old).touched ≤ (parts old).geometry.log

@@ -9,7 +9,7 @@ pub record PlainState : Type 0 where
   pub headers : List ObjectHeader
   pub contents : List (Content Cap)
 
--- the parts of a plain state: nothing was written, and no device can fail
+-- the parts of objects in memory: no number is touched, and no device can fail
 abbrev pub parts_of : PlainState → Parts
 parts_of s = record {
   geometry = s.geometry;
@@ -19,10 +19,10 @@ parts_of s = record {
   failures = 0;
 }
 
--- each number that exists counts as fetched
+-- each existing number counts as fetched
 abbrev pub IsThere : PlainState → ℕ → Type 0
 IsThere s n = (n < length s.headers) × (n < length s.contents)
 
--- the stored form of a capability in a state where nothing was rescinded: its count is 0
+-- a capability as it is stored if nothing was ever rescinded: with count 0
 abbrev pub fresh_cap : Capability → Cap
 fresh_cap c = record { what = c; count = 0 }

@@ -1,4 +1,4 @@
-// Present frames, read and changed as the objects that they stand for.
+// Present frames, read and changed as objects.
 ghost use Rattle.std.specs.Prelude.{[], ◌∷◌, ◌≡◌, ℕ, ◌+◌, ◌<◌, ◌≤◌, ◌^◌, None, false, length, slice_set, IfSome};
 ghost use Rattle.std.specs.Prelude.{IsTrue};
 ghost use Rattle.std.specs.List.{All};
@@ -15,7 +15,7 @@ ghost use Rattle.capability.specs.Parts.{frames_of, fresh_content, objects_in};
 use crate::present::{Frames, Fresh, PresentFrames, RootChange};
 use model::{Cap, Capability, ContentRef, Message, Role};
 
-/// The word of a fetched page, or 0 if the object is no page.
+/// The word of a fetched page, or 0 if the object isn't a page.
 #[tactic(auto, using(crate::proofs::FrameLists::word_there))]
 pub fn word<F: Frames>(store: &F, number: u64, index: usize) -> u64
     requires fetched { F.IsFetched store.now number }
@@ -28,7 +28,7 @@ pub fn word<F: Frames>(store: &F, number: u64, index: usize) -> u64
     }
 }
 
-/// The annex of a process whose root is fetched, or 0 if the object is no root.
+/// The annex of a process whose root is fetched, or 0 if the object isn't a root.
 #[tactic(auto, using(crate::proofs::FrameLists::content_there))]
 pub fn annex<F: Frames>(store: &F, process: u64) -> u64
     requires fetched { F.IsFetched store.now process }
@@ -40,7 +40,7 @@ pub fn annex<F: Frames>(store: &F, process: u64) -> u64
     }
 }
 
-// The slots of a node, or the registers of an annex.
+// The slots of a node, or the registers of an annex, or `None`.
 #[inline(always)]
 fn slots_behind(content: ContentRef<'_>) -> Option<&[Cap]>
     ensures some { IfSome result (λ slots. slots.now ≡ slots_in (content_behind content.entry)) }
@@ -54,8 +54,8 @@ fn slots_behind(content: ContentRef<'_>) -> Option<&[Cap]>
     }
 }
 
-/// The capability in a slot of a fetched node, or a register of a fetched annex: void if it is stale,
-/// or if the object is neither.
+/// The capability in a slot of a fetched node, or a register of a fetched annex. Void if it is stale, or if
+/// the object is neither.
 #[tactic(auto, using(crate::proofs::FrameLists::no_slot_there))]
 pub fn slot<F: Frames>(store: &F, number: u64, slot: usize) -> Capability
     requires fetched { F.IsFetched store.now number }
@@ -95,7 +95,7 @@ pub fn four_slots<F: Frames>(
     ]
 }
 
-/// Sets a word of a page that is fetched and announced. Any other object stays.
+/// Sets a word of a page that is fetched and announced. No other object changes.
 pub fn set_word<F: PresentFrames>(store: &mut F, number: u64, index: usize, word: u64)
     requires fetched { F.IsFetched store.old number }
     requires announced { F.IsAnnounced store.old number }
@@ -107,8 +107,8 @@ pub fn set_word<F: PresentFrames>(store: &mut F, number: u64, index: usize, word
     store.set_word(number, index, word);
 }
 
-/// Puts a live capability into a slot of a node or a register of an annex that is fetched and
-/// announced. Any other object stays.
+/// Puts a capability into a slot of a node or a register of an annex, with its object's present count, so it
+/// is live. The object must be fetched and announced. No other object changes.
 pub fn set_slot<F: PresentFrames>(store: &mut F, number: u64, slot: usize, capability: Capability)
     requires fetched { F.IsFetched store.old number }
     requires announced { F.IsAnnounced store.old number }
@@ -123,8 +123,9 @@ pub fn set_slot<F: PresentFrames>(store: &mut F, number: u64, slot: usize, capab
     store.set_slot(number, slot, held);
 }
 
-/// Puts the capabilities of a message, live, into the last four slots of a node or registers of an
-/// annex that is fetched and announced. Any other object stays.
+/// Puts the capabilities of a message into the last four slots of a node or registers of an annex, each with
+/// its object's present count, so they are live. The node or annex must be fetched and announced. No other
+/// object changes.
 #[inline(always)]
 pub fn set_last_slots<F: PresentFrames>(store: &mut F, number: u64, message: &Message)
     requires fetched { F.IsFetched store.old number }
@@ -145,7 +146,7 @@ pub fn set_last_slots<F: PresentFrames>(store: &mut F, number: u64, message: &Me
     store.set_last_slots(number, held);
 }
 
-/// Sets the words and the key of a process, whose root is fetched and announced, and makes it running.
+/// Sets the words and the key of a process, and makes it running. Its root must be fetched and announced.
 pub fn set_message<F: PresentFrames>(store: &mut F, process: u64, words: [u64; 4], key: u16)
     requires fetched { F.IsFetched store.old process }
     requires announced { F.IsAnnounced store.old process }
@@ -158,8 +159,8 @@ pub fn set_message<F: PresentFrames>(store: &mut F, process: u64, words: [u64; 4
     store.change_root(process, RootChange::Message { words, key });
 }
 
-/// Makes a free number, fetched and announced, a new object of a bank (EROS: a space bank's
-/// allocation). Its body is blank, and its number's counts stay.
+/// Makes a free number a new object of a bank (EROS: a space bank's allocation). The number must be fetched
+/// and announced. The body is blank, and the counts stay.
 #[tactic(auto, using(crate::proofs::Edits::claim_objects, crate::proofs::Edits::claim_stays_current))]
 pub fn claim<F: PresentFrames>(store: &mut F, number: u64, fresh: Fresh, owner: u64)
     requires fetched { F.IsFetched store.old number }
@@ -179,7 +180,7 @@ pub fn claim<F: PresentFrames>(store: &mut F, number: u64, fresh: Fresh, owner: 
     store.claim(number, fresh, owner);
 }
 
-/// Gives an object that is announced another bank as its owner.
+/// Makes another bank the owner of an object, which must be announced.
 #[tactic(auto, using(crate::proofs::Edits::owner_objects, crate::proofs::Edits::owner_stays_current))]
 pub fn set_owner<F: PresentFrames>(store: &mut F, number: u64, bank: u64)
     requires announced { F.IsAnnounced store.old number }
@@ -243,7 +244,7 @@ pub fn rescind<F: PresentFrames>(store: &mut F, numbers: &[u64])
     }
 }
 
-// The words of a root have 64 bits each. This does nothing; its contract is the fact.
+// A lemma as a function, which does nothing: the words of a root have 64 bits each.
 fn are_root_words(words: &[u64])
     requires { length words.now ≡ 4 }
     ensures { AreKeptWords 4 words.now }

@@ -40,7 +40,7 @@ pub enum BankChange {
 }
 
 /// The one change that an order makes.
-// Nothing prints it, and the proof of a derived `Debug` takes a minute.
+// No `Debug` here: nothing prints a change, and the proof of a derived one takes a minute.
 #[derive(Clone, Copy)]
 pub enum Change {
     Nothing,
@@ -101,7 +101,7 @@ pub struct Caller {
 }
 
 impl Change {
-    /// The number of the object that it changes, if it changes one object.
+    /// The number of the object that the change writes, if it writes exactly one.
     pub fn target(&self) -> Option<u64>
         ensures { result ≡ target_of self.now }
     {

@@ -1,4 +1,4 @@
-// The frames of objects in memory, to be read.
+// The frames of objects in memory, to be read only.
 ghost use Rattle.std.specs.Prelude.{◌≡◌, length, IfOk};
 ghost use Rattle.model.specs.Sound.{object_count};
 ghost use Rattle.capability.specs.Plain.{IsThere, parts_of};
@@ -9,7 +9,7 @@ use device::Failed;
 use model::{Cap, Content, ContentRef, Geometry, ObjectHeader};
 use std::marker::Model;
 
-/// All objects in memory, by number, to be read.
+/// All objects in memory, by number, to be read only.
 #[derive(Drop)]
 pub struct Plain {
     geometry: Geometry,
@@ -85,7 +85,7 @@ impl Frames for Plain {
     }
 
     fn fetch(&mut self, _numbers: &[u64]) -> Result<(), Failed> {
-        // A use of a field makes the invariant known here.
+        // For the proof: using a field brings in the invariant of the struct.
         let _geometry = self.geometry;
         Ok(())
     }

@@ -1,4 +1,4 @@
-// The frames of objects as they are now: a trait to read them, and one to change them.
+// The present frames of objects: a trait to read them, and one to change them.
 ghost use Rattle.std.specs.Prelude.{◌≡◌, ◌≢◌, ℕ, ◌<◌, ◌≤◌, ◌∷◌, [], length, OnOk, IsErr, ◌↔◌};
 ghost use Rattle.std.specs.List.{All, Contains};
 ghost use Rattle.model.specs.declared.object.Content.TheVariants as content;
@@ -19,16 +19,16 @@ pub const MAX_FETCHED: usize = 8;
 /// What a free number becomes.
 #[derive(Clone, Copy)]
 pub enum Fresh {
-    /// A page of words of 0.
+    /// A page of zeros.
     Page,
-    /// A node of void slots.
+    /// A node with void slots.
     Node,
-    /// An available process with nothing delivered and no address space.
+    /// An available process without a message or an address space.
     Root {
         /// The number of its annex.
         annex: u64,
     },
-    /// An annex of void registers.
+    /// An annex with void registers.
     Annex,
     Bank {
         limit: u64,
@@ -40,11 +40,11 @@ pub enum Fresh {
 pub enum RootChange {
     /// The state.
     State(State),
-    /// One of the words received last, if there is one at the index.
+    /// A word of the last message; nothing if the index is out of range.
     Word { index: usize, word: u64 },
     /// The address space.
     Space(Cap),
-    /// The words and the key of a message: the process runs from then on.
+    /// The words and the key of a message. The process runs afterwards.
     Message { words: [u64; 4], key: u16 },
 }
 
@@ -71,14 +71,14 @@ impl RootChange {
     }
 }
 
-/// The objects as they are now, to be read.
+/// The present objects, to be read.
 ///
-/// The table with the headers of all objects is always in memory. `fetch` brings bodies into memory.
-/// No call takes memory: a store takes all of it at opening.
+/// The table with the headers of all objects is always in memory. `fetch` brings bodies into memory. No call
+/// allocates: a store takes all its memory when it is opened.
 pub trait Frames: Drop {
     ghost parts: { Self → Parts };
 
-    /// The store was opened, and the device has not failed since: objects can be read and changed.
+    /// The store was opened, and the device hasn't failed since, so objects can be read and changed.
     ghost IsUsable: { Self → Type 0 };
 
     ghost IsFetched: { Self → ℕ → Type 0 };
@@ -86,7 +86,7 @@ pub trait Frames: Drop {
     /// The store went on with no commit and no new checkpoint.
     ghost ContinuesTo: { Self → Self → Type 0 };
 
-    /// The counts of nodes, pages and log slots. By `within`, no more than `log` numbers are touched.
+    /// The numbers of nodes, pages and log slots. At most `log` numbers are touched (`within`).
     fn geometry(&self) -> Geometry
         ensures geometry { result ≡ (parts self.now).geometry }
         ensures within { IsUsable self.now
@@ -97,7 +97,7 @@ pub trait Frames: Drop {
         ensures { result.now ≡ (parts self.now).headers };
 
     /// Brings the bodies of up to 8 objects into memory. No object changes. Fails exactly if the device
-    /// fails. After a failure nothing is said of the objects, so no call can follow: close the store.
+    /// fails. After a failure the objects are unknown and no call can follow: close the store.
     fn fetch(&mut self, numbers: &[u64]) -> Result<(), Failed>
         requires few { length numbers.now ≤ MAX_FETCHED }
         requires known { All (λ n. n < length (parts self.old).headers) numbers.now }
@@ -124,17 +124,17 @@ pub trait Frames: Drop {
     ghost continues_twice: { (s t u : Self) → ContinuesTo s t → ContinuesTo t u → ContinuesTo s u };
 }
 
-/// The objects as they are now, and the numbers written since the last checkpoint.
+/// The present objects, to be read and changed, and the numbers written since the last checkpoint.
 ///
-/// A body is changed only if its object is announced and, except by `reset`, fetched.
+/// A body can be changed only if its object is announced and, except by `reset`, fetched.
 pub trait PresentFrames: Frames {
     ghost IsAnnounced: { Self → ℕ → Type 0 };
 
     /// Brings the bodies of up to 8 objects into memory, and announces the objects to be written.
     ///
-    /// `LogFull` changes no object and no touched number; it comes only if more numbers would be touched
-    /// than half of the log has slots. `Fault` comes exactly if the device failed, and nothing is said
-    /// of the objects then. There is no other refusal.
+    /// `LogFull` changes no object and no touched number; it comes only if more numbers would be touched than
+    /// half of the log has slots. `Fault` comes exactly if the device failed; then the objects are unknown.
+    /// There is no other refusal.
     fn prepare(&mut self, fetched: &[u64], written: &[u64]) -> Result<(), Refusal>
         requires few { length fetched.now ≤ MAX_FETCHED }
         requires known { All (λ n. n < length (Self.parts self.old).headers) fetched.now }
@@ -147,7 +147,7 @@ pub trait PresentFrames: Frames {
             ((n : ℕ) → Contains written.now n → IsAnnounced self.new n) }
         ensures prepares { Prepares Self.parts Self.ContinuesTo self.old self.new written.now result };
 
-    /// Sets a word of a page. Any other body stays.
+    /// Sets a word of a page. No other body changes.
     fn set_word(&mut self, number: u64, index: usize, word: u64)
         requires fetched { Self.IsFetched self.old number }
         requires announced { IsAnnounced self.old number }
@@ -156,7 +156,7 @@ pub trait PresentFrames: Frames {
             (with_held (Self.parts self.old) number
             (with_word_in (held_at (Self.parts self.old).contents number) index word)) };
 
-    /// Sets a slot of a node or a register of an annex. Any other body stays.
+    /// Sets a slot of a node or a register of an annex. No other body changes.
     fn set_slot(&mut self, number: u64, slot: usize, held: Cap)
         requires fetched { Self.IsFetched self.old number }
         requires announced { IsAnnounced self.old number }
@@ -165,7 +165,7 @@ pub trait PresentFrames: Frames {
             (with_held (Self.parts self.old) number
             (with_slot_in (held_at (Self.parts self.old).contents number) slot held)) };
 
-    /// Sets the last four slots of a node or registers of an annex. Any other body stays.
+    /// Sets the last four slots of a node or registers of an annex. No other body changes.
     fn set_last_slots(&mut self, number: u64, held: [Cap; 4])
         requires fetched { Self.IsFetched self.old number }
         requires announced { IsAnnounced self.old number }
@@ -173,7 +173,7 @@ pub trait PresentFrames: Frames {
             (with_held (Self.parts self.old) number
             (with_slots_in (held_at (Self.parts self.old).contents number) 28 held)) };
 
-    /// Changes the root of a process. Any other body stays.
+    /// Changes the root of a process. No other body changes.
     fn change_root(&mut self, process: u64, change: RootChange)
         requires fetched { Self.IsFetched self.old process }
         requires announced { IsAnnounced self.old process }
@@ -201,14 +201,14 @@ pub trait PresentFrames: Frames {
             (with_both (Self.parts self.old) number
             (given_up (header_at (Self.parts self.old).headers number)) content.Free) };
 
-    /// Gives an object another owner.
+    /// Makes another bank the owner of an object.
     fn set_owner(&mut self, number: u64, bank: u64)
         requires { IsAnnounced self.old number }
         ensures { Becomes Self.parts Self.IsFetched IsAnnounced Self.ContinuesTo self.old self.new
             (with_header (Self.parts self.old) number
             (owned_by bank (header_at (Self.parts self.old).headers number))) };
 
-    /// Raises a process's call count by one, so every resume capability to it is stale.
+    /// Raises a process's call count by one, which makes every resume capability to it stale.
     fn consume(&mut self, root: u64)
         requires announced { IsAnnounced self.old root }
         requires calls { (header_at (Self.parts self.old).headers root).calls < u64.MAX }

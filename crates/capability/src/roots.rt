@@ -1,4 +1,4 @@
-// The roots of processes, read and changed as the definitions see them.
+// The roots of processes, read and changed.
 ghost use Rattle.std.specs.Prelude.{◌≡◌, ◌<◌, ℕ, IsTrue, slice_index};
 ghost use Rattle.model.specs.declared.object.Content.TheVariants as content;
 ghost use Rattle.model.specs.Frame.{held_at};
@@ -12,7 +12,7 @@ ghost use Rattle.capability.specs.Parts.{Edits, HaveTheirRoles, frames_of, objec
 use crate::present::{Frames, PresentFrames, RootChange};
 use model::{Cap, Capability, ContentRef, Role, Root, State};
 
-/// Whether a number is that of a process, by its role in the table: it needn't be fetched.
+/// Whether a number is a process. Only its role in the table is read, so it needn't be fetched.
 #[tactic(auto, using(crate::proofs::Roles::process_by_role, crate::proofs::Roles::role_there))]
 pub fn is_process<F: Frames>(store: &F, number: u64) -> bool
     requires { HaveTheirRoles (frames_of (F.parts store.now)) }
@@ -21,7 +21,7 @@ pub fn is_process<F: Frames>(store: &F, number: u64) -> bool
     matches!(store.table().header(number).role, Role::Root)
 }
 
-// The root of a process, which is fetched.
+// The root of a process, which must be fetched.
 #[inline(always)]
 fn root<F: Frames>(store: &F, process: u64) -> &Root<Cap>
     requires fetched { F.IsFetched store.now process }
@@ -34,7 +34,7 @@ fn root<F: Frames>(store: &F, process: u64) -> &Root<Cap>
     }
 }
 
-/// A word that a process was last delivered. Its root is fetched.
+/// A word of the last message to a process. Its root must be fetched.
 #[tactic(auto, using(crate::proofs::FrameLists::content_there))]
 pub fn word<F: Frames>(store: &F, process: u64, index: usize) -> u64
     requires fetched { F.IsFetched store.now process }
@@ -46,7 +46,7 @@ pub fn word<F: Frames>(store: &F, process: u64, index: usize) -> u64
     root(store, process).words[index]
 }
 
-/// The key that a process was last delivered. Its root is fetched.
+/// The key of the last message to a process. Its root must be fetched.
 #[tactic(auto, using(crate::proofs::FrameLists::content_there))]
 pub fn key<F: Frames>(store: &F, process: u64) -> u16
     requires fetched { F.IsFetched store.now process }
@@ -56,7 +56,7 @@ pub fn key<F: Frames>(store: &F, process: u64) -> u16
     root(store, process).key
 }
 
-/// The state of a process. Its root is fetched.
+/// The state of a process. Its root must be fetched.
 #[tactic(auto, using(crate::proofs::FrameLists::content_there))]
 pub fn state<F: Frames>(store: &F, process: u64) -> State
     requires fetched { F.IsFetched store.now process }
@@ -66,7 +66,7 @@ pub fn state<F: Frames>(store: &F, process: u64) -> State
     root(store, process).state
 }
 
-/// Whether a process runs. Its root is fetched.
+/// Whether a process runs. Its root must be fetched.
 pub fn is_running<F: Frames>(store: &F, process: u64) -> bool
     requires fetched { F.IsFetched store.now process }
     requires process { IsTrue (is_process (objects_in (F.parts store.now)) process) }
@@ -78,7 +78,7 @@ pub fn is_running<F: Frames>(store: &F, process: u64) -> bool
     }
 }
 
-/// The address space of a process: void where it is stale. Its root is fetched.
+/// The address space of a process, or void if it is stale. Its root must be fetched.
 #[tactic(auto, using(crate::proofs::FrameLists::content_there))]
 pub fn space<F: Frames>(store: &F, process: u64) -> Capability
     requires fetched { F.IsFetched store.now process }
@@ -88,7 +88,7 @@ pub fn space<F: Frames>(store: &F, process: u64) -> Capability
     store.table().conveyed(root(store, process).space)
 }
 
-/// Puts a word into the root of a process, which is fetched and announced.
+/// Sets a word in the root of a process, which must be fetched and announced.
 pub fn set_word<F: PresentFrames>(store: &mut F, process: u64, index: usize, word: u64)
     requires fetched { F.IsFetched store.old process }
     requires announced { F.IsAnnounced store.old process }
@@ -102,7 +102,7 @@ pub fn set_word<F: PresentFrames>(store: &mut F, process: u64, index: usize, wor
     store.change_root(process, RootChange::Word { index, word });
 }
 
-/// Puts a process, whose root is fetched and announced, into a state.
+/// Sets the state of a process. Its root must be fetched and announced.
 pub fn set_state<F: PresentFrames>(store: &mut F, process: u64, state: State)
     requires fetched { F.IsFetched store.old process }
     requires announced { F.IsAnnounced store.old process }
@@ -114,7 +114,8 @@ pub fn set_state<F: PresentFrames>(store: &mut F, process: u64, state: State)
     store.change_root(process, RootChange::State(state));
 }
 
-/// Gives a process, whose root is fetched and announced, an address space, live.
+/// Sets the address space of a process to a capability, with its object's present count, so it is live. Its
+/// root must be fetched and announced.
 pub fn set_space<F: PresentFrames>(store: &mut F, process: u64, capability: Capability)
     requires fetched { F.IsFetched store.old process }
     requires announced { F.IsAnnounced store.old process }

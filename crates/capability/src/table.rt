@@ -6,7 +6,7 @@ ghost use Rattle.capability.specs.Objects.{live_cap};
 use model::{Cap, Capability, ObjectHeader, Role};
 use std::marker::Model;
 
-/// The headers of all objects, by number. No call takes memory or fails.
+/// The headers of all objects, by number. No call allocates or fails.
 #[derive(Drop)]
 pub struct ObjectTable {
     headers: Vec<ObjectHeader>,
@@ -22,21 +22,21 @@ impl Model for ObjectTable {
 }
 
 impl ObjectTable {
-    /// The table of these headers.
+    /// A table with these headers.
     pub fn new(headers: Vec<ObjectHeader>) -> ObjectTable
         ensures { result ≡ headers.items }
     {
         ObjectTable { headers }
     }
 
-    /// The headers, by number.
+    /// Returns the headers, by number.
     pub fn into_headers(self) -> Vec<ObjectHeader>
         ensures { result.items ≡ self }
     {
         self.headers
     }
 
-    /// The headers, by number; the table keeps them.
+    /// Borrows the headers, by number.
     pub fn headers(&self) -> &[ObjectHeader]
         ensures { result.now ≡ self.now }
     {
@@ -65,7 +65,8 @@ impl ObjectTable {
         }
     }
 
-    /// The count that a capability gets now: it is live until its object's count rises.
+    /// The present count of a capability's object. A capability stored with this count is live until the
+    /// count rises.
     pub fn current_count(&self, capability: Capability) -> u64
         ensures { result ≡ current_count self.now capability }
     {
@@ -80,7 +81,7 @@ impl ObjectTable {
         }
     }
 
-    /// The stored form of a live capability: its count is the current one.
+    /// A capability as it is stored: with its object's present count, so it is live.
     #[inline(always)]
     pub fn live_cap(&self, capability: Capability) -> Cap
         ensures { result ≡ live_cap self.now capability }
@@ -91,14 +92,14 @@ impl ObjectTable {
         }
     }
 
-    /// Whether a held capability still conveys what it did: its object's count hasn't risen since.
+    /// Whether a stored capability is live: its object's count hasn't risen since.
     pub fn is_live(&self, held: Cap) -> bool
         ensures { result ≡ not (nat_lt held.count (current_count self.now held.what)) }
     {
         held.count >= self.current_count(held.what)
     }
 
-    /// What a held capability conveys: void if it is stale.
+    /// What a stored capability conveys: void if it is stale.
     pub fn conveyed(&self, held: Cap) -> Capability
         ensures { result ≡ conveyed self.now held }
     {
@@ -120,7 +121,7 @@ impl ObjectTable {
         header.owner = owner;
     }
 
-    /// Gives an object another owner.
+    /// Makes another bank the owner of an object.
     pub fn set_owner(&mut self, number: u64, bank: u64)
         requires { number < length self.old }
         ensures { self.new ≡ slice_set self.old number (owned_by bank (header_at self.old number)) }
@@ -142,7 +143,7 @@ impl ObjectTable {
         header.owner = 0;
     }
 
-    /// Raises a process's call count by one, so every resume capability to it is stale.
+    /// Raises a process's call count by one, which makes every resume capability to it stale.
     pub fn consume(&mut self, root: u64)
         requires known { root < length self.old }
         requires calls { (header_at self.old root).calls < u64.MAX }

@@ -1,4 +1,4 @@
-// Objects as values that can be shown.
+// Objects as values that can be printed.
 ghost use Rattle.std.specs.Prelude.{◌≡◌, map, IfOk, IsTrue};
 ghost use Rattle.model.specs.Frame.{content_behind, conveyed};
 ghost use Rattle.model.specs.Object.{is_annex, map_content, slots_in};
@@ -10,7 +10,7 @@ use crate::table::ObjectTable;
 use model::{Cap, Capability, Content, ContentRef, Object, Root, SLOTS, Slots, Words};
 use std::alloc::{AllocError, Global};
 
-// What each of 32 held capabilities conveys.
+// What each of 32 stored capabilities conveys.
 fn conveyed_slots(
     alloc: Global,
     table: &ObjectTable,
@@ -25,7 +25,7 @@ fn conveyed_slots(
     Ok(slots)
 }
 
-// What an object holds, its capabilities as what they convey.
+// An object's content, in which each capability is replaced by what it conveys.
 fn conveyed_content(
     alloc: Global,
     table: &ObjectTable,
@@ -51,8 +51,7 @@ fn conveyed_content(
     }
 }
 
-/// The present state of a fetched object, its stale capabilities void. Fails only where memory
-/// runs out.
+/// A fetched object, in which stale capabilities are void. Fails only if memory runs out.
 pub fn object<F: Frames>(alloc: Global, store: &F, number: u64) -> Result<Object, AllocError>
     requires { F.IsFetched store.now number }
     ensures { IfOk result (λ object.
@@ -64,8 +63,7 @@ pub fn object<F: Frames>(alloc: Global, store: &F, number: u64) -> Result<Object
     })
 }
 
-/// The registers in an annex that is fetched, stale capabilities void. Fails only where memory runs
-/// out.
+/// The registers in a fetched annex, in which stale capabilities are void. Fails only if memory runs out.
 #[tactic(auto, using(crate::proofs::FrameLists::content_there))]
 pub fn registers<F: Frames>(
     alloc: Global,

@@ -1,4 +1,4 @@
--- When a page is journaled, and what is saved then.
+-- When a page may be journaled, and what is saved then.
 use Rattle.std.proofs.Common.{◌≡◌, ◌⊎◌, inl, inr, ℕ, ◌<◌, Bool, true, List, length, refl, sym, ap, ◌∙◌, Option, Some, None, Result, Ok, Err, OnOk}
 use Rattle.std.specs.Prelude.{option_map}
 use Rattle.std.proofs.lemmas.Bool.{cases_lt}
@@ -31,7 +31,7 @@ pub content_is_page : (c : Content Cap) → role_of c ≡ role.Page → is_page 
 content_is_page (content.Page words) is = refl
 content_is_page other is = absurd cc
 
--- a number with a page's role has an object, whose content is a page's
+-- if the header of a number has the role of a page, the number has an object
 pub known_page : (hs : List ObjectHeader) (n : ℕ) → (header_at hs n).role ≡ role.Page → n < length hs
 known_page hs n page = elim (cases_lt n (length hs)) [
   | inl lt ↦ lt
@@ -39,13 +39,13 @@ known_page hs n page = elim (cases_lt n (length hs)) [
       let never : role.Free ≡ role.Page = ap (λ (h : ObjectHeader). h.role) (sym (get_or_past hs n blank_header past)) ∙ page in absurd cc
 ]
 
--- the result of a journal depends on whether a checkpoint is frozen, but not on the frozen state itself
+-- the result of a journal depends on whether a checkpoint is frozen, not on which one
 pub next_same : (age n : ℕ) {F H : Type 0} (f : F → H) (ws : List ℕ) (o : Option F) (saved : SavedFrames) (is_page is_saved : Bool) →
     journal.next_journaled age n ws (option_map f o) saved is_page is_saved ≡ journal.next_journaled age n ws o saved is_page is_saved
 next_same age n f ws None saved is_page is_saved = refl
 next_same age n f ws (Some x) saved is_page is_saved = refl
 
--- the journal is done if no checkpoint is frozen and the object is a page
+-- if a journal is answered with `Ok`, no checkpoint is frozen and the object is a page
 pub journal_there : (old new : Disk) (left : Option ℕ) (saved : SavedFrames) (is_known is_page is_saved : Bool) (r : Result ℕ Refusal) →
     IsJournalAnswer old new left saved is_known is_page is_saved r →
     OnOk r ((left ≡ None) × (is_page ≡ true))

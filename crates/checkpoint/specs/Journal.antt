@@ -1,4 +1,4 @@
--- When a page of an object store is journaled, and what is saved then.
+-- When a page of an object store may be journaled, and what is saved then.
 use Rattle.checkpoint.specs.Names.{ℕ, Bool, true, false, Option, Some, None, List, Frame, Role, frame_at, header_at}
 use Rattle.checkpoint.specs.Names.{held_at, words_in, Parts}
 use Rattle.std.specs.Prelude.{◌==◌, if◌then◌else◌, ◌&&◌}
@@ -9,7 +9,7 @@ abbrev pub is_page_role : Role → Bool
 is_page_role role.Page = true
 is_page_role _ = false
 
--- whether object n is a page now; the words that it has then
+-- whether object n is a page now; its present words
 abbrev pub is_page_now : Parts → ℕ → Bool
 is_page_now p n = is_page_role (header_at p.headers n).role
 

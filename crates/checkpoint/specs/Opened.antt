@@ -1,9 +1,9 @@
--- The results of opening a device, and why one isn't opened.
+-- The results of opening a device, and why opening fails.
 use Rattle.checkpoint.specs.Names.{ℕ, ⊤, Image, Disk, Agrees, Narrows, Peeks, IsBadBy, OpenFault}
 use Rattle.std.specs.Prelude.{◌≡◌, ◌<◌}
 use Rattle.layout.specs.declared.open_fault.OpenFault.TheVariants as refusal
 
--- why an image is refused; unless the device failed or memory ran out, the reason holds
+-- why an image is refused: if it isn't a failure or lack of memory, the reason is the least that holds
 abbrev pub IsBadFor : Image → ℕ → OpenFault → Type 0
 IsBadFor image size refusal.Failed = ⊤
 IsBadFor image size refusal.NoMemory = ⊤

@@ -1,10 +1,11 @@
--- What a committed checkpoint saves, as frames.
+-- The frames that a committed checkpoint saves.
 use Rattle.checkpoint.specs.Names.{ℕ, Option, Some, None, List, slice_set, Frame, Geometry, frame_at, Image, Disk}
 use Rattle.checkpoint.specs.Names.{LeavesOnly, SavedState, Encodes}
 use Rattle.std.specs.Prelude.{◌≡◌, ◌⊎◌, ◌+◌, ◌-◌, ◌^◌}
 use Rattle.model.specs.declared.object.Content.TheVariants as content
 
--- the frames of all objects, and the numbers of the checkpoint; entries counts the objects that lie in the log
+-- the saved frames of all objects, and the checkpoint's numbers; `entries` counts the objects whose saved frames are
+-- in the log
 pub record SavedFrames : Type 0 where
   pub geometry : Geometry
   pub frames : List Frame
@@ -12,7 +13,7 @@ pub record SavedFrames : Type 0 where
   pub entries : ℕ
   pub age : ℕ
 
--- the frames and numbers of an image's saved state, without where they lie
+-- the frames and numbers of an image's saved state, without the places of the frames
 abbrev pub kept_of : SavedState → SavedFrames
 kept_of s = record {
   geometry = s.plan.geometry;
@@ -22,28 +23,28 @@ kept_of s = record {
   age = s.header.age;
 }
 
--- an image of `size` sectors holds saved frames
+-- an image of `size` sectors encodes these saved frames
 abbrev pub Holds : ℕ → Image → SavedFrames → Type 0
 Holds size c saved = (s : SavedState) × Encodes c size s × (kept_of s ≡ saved)
 
--- a crash at any moment since old leaves what is saved
+-- a crash at any moment since `old` leaves the saved frames
 abbrev pub LeavesSaved : Disk → Disk → SavedFrames → Type 0
 LeavesSaved old new saved = LeavesOnly old new (λ c. Holds old.sectors c saved)
 
--- a crash at any moment since old leaves what is saved, or what is saved next
+-- a crash at any moment since `old` leaves the saved frames, or the next ones
 abbrev pub LeavesEither : Disk → Disk → SavedFrames → SavedFrames → Type 0
 LeavesEither old new saved next = LeavesOnly old new (λ c. Holds old.sectors c saved ⊎ Holds old.sectors c next)
 
--- the same, if something is saved next; else a crash leaves what is saved
+-- a crash at any moment since `old` leaves the saved frames or, if there are next ones, these
 abbrev pub LeavesOneOf : Disk → Disk → SavedFrames → Option SavedFrames → Type 0
 LeavesOneOf old new saved None = LeavesSaved old new saved
 LeavesOneOf old new saved (Some next) = LeavesEither old new saved next
 
--- what is saved once all of it is home
+-- the saved frames, all home
 abbrev pub home_saved : SavedFrames → SavedFrames
 home_saved s = record { geometry = s.geometry; frames = s.frames; generation = s.generation; entries = 0; age = s.age }
 
--- what is saved once object n alone has a new frame: the generation rises by 2, so it uses the same half of the log
+-- the saved frames, with a new frame for object n; the generation rises by 2, so it uses the same half of the log
 abbrev pub replaced_saved : ℕ → ℕ → Frame → SavedFrames → SavedFrames
 replaced_saved age n f s =
     record {
@@ -54,14 +55,14 @@ replaced_saved age n f s =
       age = age;
     }
 
--- the frame of a page with other words
+-- the frame of a page with these words
 abbrev pub with_words : List ℕ → Frame → Frame
 with_words words f = record { header = f.header; content = content.Page words }
 
--- what is saved once page n alone has new words
+-- the saved frames, with new words for page n
 abbrev pub journaled_saved : ℕ → ℕ → List ℕ → SavedFrames → SavedFrames
 journaled_saved age n words s = replaced_saved age n (with_words words (frame_at s.frames n)) s
 
--- the greatest age: each frame that is written can be kept at it
+-- the greatest age of a frame that can be written
 abbrev pub most : ℕ
 most = 2 ^ 64 - 1

@@ -1,4 +1,4 @@
--- An object store: its frozen state, what holds once it is opened, and what its calls answer.
+-- What an object store over a device is, and what its calls answer.
 use Rattle.checkpoint.specs.Names.{ℕ, Option, Some, None, option_map, List, Result, Ok, Err, Frame, AreKeepable}
 use Rattle.checkpoint.specs.Names.{untouched, Disk, Only, Refusal, Parts, frames_of}
 use Rattle.std.specs.Prelude.{◌≡◌, ◌≢◌, ◌==◌, if◌then◌else◌, ◌+◌, ◌-◌, ◌<◌, ◌≤◌, ◌^◌}
@@ -13,7 +13,7 @@ pub record FrozenFrames : Type 0 where
   pub size : ℕ
   pub left : ℕ
 
--- how a frozen checkpoint is seen: it saves the frames of all objects
+-- how to read a frozen checkpoint: it saves its frames of all objects
 abbrev pub whole : FrozenView FrozenFrames
 whole = record {
   frames = λ (f : FrozenFrames) (fs : List Frame). f.frames;
@@ -21,22 +21,22 @@ whole = record {
   left = λ (f : FrozenFrames). f.left;
 }
 
--- a checkpoint that begins with these frames: none is written yet
+-- a checkpoint that has just begun with these frames: no object is written yet
 abbrev pub all_frozen : List Frame → ℕ → FrozenFrames
 all_frozen fs size = record { frames = fs; size = size; left = size }
 
--- the parts when a checkpoint begins: no number is touched
+-- the parts after a checkpoint began: no number is touched
 abbrev pub all_untouched : Parts → Parts
 all_untouched p = record p { touched = untouched p.geometry }
 
--- a store over a device; it can be used until the device fails
+-- a store: the device beneath, the frozen and the saved state, and whether it can be used
 pub record View (D : Type 0) : Type 1 where
   pub beneath : D
   pub snapshots : Snapshots FrozenFrames
   pub usable : Type 0
 
--- The store went on with no commit and no checkpoint. If the device didn't fail, the frozen and the saved state are the
--- same, and the store can be used if it could.
+-- The store went on without a commit or a new checkpoint. Unless the device failed, the frozen and the saved state are
+-- the same, and the store can still be used.
 pub record Continues {D : Type 0} (disk : D → Disk) (old new : View D) : Type 0 where
   pub snapshots : (disk new.beneath).failures ≡ (disk old.beneath).failures → new.snapshots ≡ old.snapshots
   pub usable : (disk new.beneath).failures ≡ (disk old.beneath).failures → old.usable → new.usable
@@ -44,8 +44,8 @@ pub record Continues {D : Type 0} (disk : D → Disk) (old new : View D) : Type 
   pub later : (disk old.beneath).failures ≤ (disk new.beneath).failures
   pub any_moment : old.usable → LeavesSaved (disk old.beneath) (disk new.beneath) old.snapshots.saved
 
--- a device was opened, and nothing was written: the present objects are the saved ones, and a crash leaves what a read
--- gives
+-- A device was opened as a store, and nothing was written. The present objects are the saved ones, and a crash leaves
+-- what a read gives.
 pub record OpensStore {D : Type 0} (disk : D → Disk) (device : D) (parts : Parts) (store : View D) : Type 0 where
   pub usable : store.usable
   pub holds : Holds (disk device).sectors (disk device).seen store.snapshots.saved
@@ -65,7 +65,7 @@ IsStabilizeAnswer old new left count (Err refusal.NoCheckpoint) = (new.failures 
 IsStabilizeAnswer old new left count (Err refusal.Fault) = (old.failures < new.failures) × (left ≢ None)
 IsStabilizeAnswer old new left count (Err _) = ⊥
 
--- `n` more of the frozen objects are in the log
+-- the snapshots after `n` more of the frozen objects were written to the log
 abbrev pub stabilized : ℕ → FrozenFrames → Snapshots FrozenFrames → Snapshots FrozenFrames
 stabilized n f s =
     let rest : FrozenFrames = record { frames = f.frames; size = f.size; left = f.left - n } in

@@ -1,5 +1,5 @@
 //! Checkpoints: what one saves, its numbers, what each stage does and answers, why an image is refused, and
-//! the trait of a store that makes them.
+//! the trait of stores that make checkpoints.
 #![tactic(auto)]
 
 mod committed;

@@ -21,30 +21,30 @@ use device::{Device, Failed};
 use model::Refusal;
 use std::alloc::Global;
 
-/// A store over a device: the present objects, the frozen ones of a checkpoint that isn't committed,
-/// and those that the committed checkpoint saves.
+/// A store over a device: the present objects, the frozen ones of a checkpoint that isn't committed yet, and
+/// the saved ones of the committed checkpoint.
 ///
-/// After a call in which the device failed nothing is said of the objects, and no call can follow: give
-/// the device back and open it again. A crash then leaves what was saved, or, if the call was `commit`,
-/// `journal`, or the `migrate` that brings the last object home, that or what the call saves.
+/// After a call in which the device failed, the objects are unknown and no call can follow: give the device
+/// back and open it again. A crash then leaves what was saved. If the call was `commit`, `journal`, or the
+/// `migrate` of the last object, it leaves this or what the call saves.
 pub trait ObjectStore<D: Device>: PresentFrames + Sized {
     /// How a store is set up.
     type Setting: Copy;
 
-    /// Memory that a closed store leaves for the next.
+    /// Memory of a closed store, which the next one can use.
     type Memory: Drop;
 
-    /// The device beneath, the frozen and the saved state, and whether the store can be used.
+    /// The device, the frozen and the saved state, and whether the store can be used.
     ghost view: { Self → View D };
 
-    /// Whether a store keeps to a setting, such as the capacity of a cache.
+    /// Whether a store has this setting, such as the capacity of a cache.
     ghost is_set: { Self.Setting → Self → Type 0 };
 
-    /// Opens a device, and writes nothing to it. The present objects are the saved ones. The store takes
-    /// from `memory` what it can use.
+    /// Opens a device, and writes nothing to it. The present objects are the saved ones. The store may take
+    /// over `memory`, instead of allocating its own.
     ///
-    /// A refusal gives the device back: `Failed` exactly if the device failed, `NoMemory` only
-    /// where memory ran out, and else the least of the reasons 1 to 7 to refuse an image.
+    /// A refusal gives the device back, with `Failed` exactly if the device failed, `NoMemory` only if memory
+    /// ran out, and else the least of reasons 1 to 7 to refuse an image.
     fn open(
         alloc: Global,
         device: D,
@@ -55,15 +55,15 @@ pub trait ObjectStore<D: Device>: PresentFrames + Sized {
         ensures set { IfOk result (λ s. is_set setting s) }
         ensures refused { IfErr result (λ r. Refuses D.disk device r.device r.fault) };
 
-    /// The device beneath, on which no call is made.
+    /// The device. No call may be made on it.
     fn device(&self) -> &D
         ensures { result.now ≡ (view self.now).beneath };
 
-    /// Gives the device back, and makes no call of it.
+    /// Returns the device, and makes no call on it.
     fn into_device(self) -> D
         ensures { result ≡ (view self).beneath };
 
-    /// Gives the device back, and makes no call of it. Leaves memory in `memory`.
+    /// Returns the device, and makes no call on it. Leaves the store's memory in `memory`.
     fn close(self, memory: &mut Option<Self::Memory>) -> D
         ensures { result ≡ (view self).beneath };
 
@@ -78,7 +78,7 @@ pub trait ObjectStore<D: Device>: PresentFrames + Sized {
     fn left(&self) -> Option<u64>
         ensures { result ≡ left_in whole (view self.now).snapshots };
 
-    /// Removes an object from memory, if the store's policy lets it. Fails exactly if the device fails.
+    /// Removes an object from memory, if the store's policy allows it. Fails exactly if the device fails.
     fn evict(&mut self, number: u64) -> Result<(), Failed>
         requires known { number < length (Self.parts self.old).headers }
         requires may { MayFetch Self.IsUsable Self.parts self.old }
@@ -86,11 +86,11 @@ pub trait ObjectStore<D: Device>: PresentFrames + Sized {
         ensures continues { Self.ContinuesTo self.old self.new }
         ensures cause { Counts (D.disk (view self.old).beneath) (D.disk (view self.new).beneath) result };
 
-    /// Begins a checkpoint: all objects are frozen as they are. Returns how many were written since
-    /// the last one began. It takes no memory, and makes no call of the device.
+    /// Begins a checkpoint: freezes all objects in their present state. Returns how many were written since
+    /// the last checkpoint began. It doesn't allocate, and makes no call on the device.
     ///
-    /// It is refused by `CheckpointRunning` exactly if a checkpoint is frozen already, else by
-    /// `MigrationPending` exactly if a saved object isn't home. A refusal changes nothing.
+    /// Returns `CheckpointRunning` exactly if a checkpoint is frozen already, else `MigrationPending` exactly
+    /// if a saved object isn't home. A refusal changes nothing.
     fn freeze(&mut self) -> Result<u64, Refusal>
         requires may { MayFetch Self.IsUsable Self.parts self.old }
         ensures answer { IsFreezeAnswer (left_in whole (view self.old).snapshots)
@@ -106,8 +106,8 @@ pub trait ObjectStore<D: Device>: PresentFrames + Sized {
 
     /// Writes the next `count` frozen objects to the log, and returns how many are left.
     ///
-    /// It is refused by `NoCheckpoint` exactly if no checkpoint is frozen, and changes nothing then.
-    /// It returns `Fault` exactly if the device failed.
+    /// Returns `NoCheckpoint` exactly if no checkpoint is frozen; then nothing changes. Returns `Fault`
+    /// exactly if the device failed.
     fn stabilize(&mut self, count: u64) -> Result<u64, Refusal>
         requires usable { (view self.old).usable }
         ensures answer { IsStabilizeAnswer (D.disk (view self.old).beneath) (D.disk (view self.new).beneath)
@@ -121,12 +121,12 @@ pub trait ObjectStore<D: Device>: PresentFrames + Sized {
         ensures any_moment { LeavesSaved (D.disk (view self.old).beneath) (D.disk (view self.new).beneath)
             (view self.old).snapshots.saved };
 
-    /// Commits the frozen checkpoint at an age: its frames are saved. Returns its generation.
+    /// Commits the frozen checkpoint at an age: its frames are the saved ones from then on. Returns its
+    /// generation.
     ///
-    /// It is refused by `NoCheckpoint` exactly if no checkpoint is frozen, else by `NotStable(left)`
-    /// exactly if `stabilize` has yet to reach `left` of its objects. A refusal changes nothing. It
-    /// returns `Fault` exactly if the device failed; then a crash leaves what was saved or what is
-    /// frozen.
+    /// Returns `NoCheckpoint` exactly if no checkpoint is frozen, else `NotStable(left)` exactly if
+    /// `stabilize` has yet to reach `left` of its objects. A refusal changes nothing. Returns `Fault` exactly
+    /// if the device failed; then a crash leaves what was saved, or what was frozen.
     fn commit(&mut self, age: u64) -> Result<u64, Refusal>
         requires usable { (view self.old).usable }
         requires ready { (f : FrozenFrames) → (view self.old).snapshots.frozen ≡ Some f
@@ -143,10 +143,11 @@ pub trait ObjectStore<D: Device>: PresentFrames + Sized {
             → LeavesEither (D.disk (view self.old).beneath) (D.disk (view self.new).beneath)
             (view self.old).snapshots.saved (next_saved whole age f (view self.old).snapshots.saved) };
 
-    /// Copies `count` of the saved objects home, and returns how many are left. Fails exactly if
-    /// the device does; then a crash leaves what was saved or, if this call was to bring the last
-    /// object home, the same with all of it home. If all saved objects are home already, as the
-    /// header says, it makes no call of the device.
+    /// Copies `count` of the saved objects home, and returns how many are left. If all are home already (the
+    /// header has 0 entries), it makes no call on the device.
+    ///
+    /// Fails exactly if the device does. Then a crash leaves what was saved. If this call was to bring the
+    /// last object home, the header may have 0 entries.
     fn migrate(&mut self, count: u64) -> Result<u64, Failed>
         requires usable { (view self.old).usable }
         ensures same { AreSameUnlessFailed (Self.parts self.old) (Self.parts self.new) }
@@ -159,16 +160,17 @@ pub trait ObjectStore<D: Device>: PresentFrames + Sized {
             (view self.old).snapshots.saved (moved_saved count (view self.old).snapshots) }
         ensures cause { Counts (D.disk (view self.old).beneath) (D.disk (view self.new).beneath) result };
 
-    /// Saves the present words of a page, at an age and without a checkpoint: all else that is saved of
-    /// the page, and all other saved objects, stay. Returns the new generation. It takes no memory.
+    /// Saves the present words of a page, at an age and without a checkpoint. All else that is saved stays:
+    /// the page's owner and counts, and all other objects. Returns the new generation. It doesn't allocate.
     ///
-    /// It is refused by `CheckpointRunning` exactly if a checkpoint is frozen, else by
-    /// `MigrationPending` exactly if a saved object isn't home, else by `BadNumber` exactly if no
-    /// object has the number, else by `NotJournaled(NotPage)` exactly if it isn't a page, else by
-    /// `NotJournaled(Renewed)` exactly if no page is saved at the number, or the saved one was freed
-    /// since. A refusal writes nothing, and only `Renewed` comes after a device call. It returns
-    /// `Fault` exactly if the device failed; then a crash leaves what was saved or, if nothing else
-    /// refuses the call, that with the page.
+    /// The first of these refusals that applies is returned: `CheckpointRunning` if a checkpoint is frozen,
+    /// `MigrationPending` if a saved object isn't home, `BadNumber` if no object has the number,
+    /// `NotJournaled(NotPage)` if it isn't a page, `NotJournaled(Renewed)` if no page is saved at the number,
+    /// or the saved one was freed since. A refusal writes nothing, and only `Renewed` comes after a device
+    /// call.
+    ///
+    /// Returns `Fault` exactly if the device failed. Then a crash leaves what was saved or, if no other
+    /// refusal applies, the same with the page's new words.
     fn journal(&mut self, number: u64, age: u64) -> Result<u64, Refusal>
         requires may { MayFetch Self.IsUsable Self.parts self.old }
         requires later { (view self.old).snapshots.saved.age < age }
@@ -190,21 +192,21 @@ pub trait ObjectStore<D: Device>: PresentFrames + Sized {
             (view self.old).snapshots.saved (is_page_now (Self.parts self.old) number)
             (is_still_saved (Self.parts self.old) (view self.old).snapshots.saved number)) };
 
-    /// Changes and fetches of present objects change nothing else.
+    /// Fetching or changing present objects neither commits nor begins a checkpoint.
     ghost continues: { (s t : Self) → Self.ContinuesTo s t → Continues D.disk (view s) (view t) };
 
-    /// Where nothing was written since and no checkpoint is on its way, the device was only read.
+    /// If nothing was written since, and no checkpoint is frozen, the device was only read.
     ghost continues_peeks: { (s t : Self) → Self.ContinuesTo s t → touched_count (Self.parts t).touched ≡ 0
         → (view s).snapshots.frozen ≡ None → Peeks (D.disk (view s).beneath) (D.disk (view t).beneath) };
 
-    /// A store that brings in present objects keeps to its setting.
+    /// Fetching or changing present objects keeps the setting.
     ghost stays_set: { (setting : Self.Setting) (s t : Self) → Self.ContinuesTo s t → is_set setting s
         → is_set setting t };
 
-    /// The present objects can be used exactly if the store over its device can.
+    /// The present objects can be used exactly if the store can.
     ghost usable_is: { (s : Self) → Self.IsUsable s ↔ (view s).usable };
 
-    /// A store that can be used: a crash leaves what is saved.
+    /// While a store can be used, a crash leaves what is saved.
     ghost sound_holds: { (s : Self) (c : Image) → (view s).usable → (D.disk (view s).beneath).may_leave c
         → Holds (D.disk (view s).beneath).sectors c (view s).snapshots.saved };
 

@@ -20,9 +20,9 @@ counts_at image k = does_count (image (1 + 2 * k)) (image (2 + 2 * k)) k
 abbrev pub number_at : Image → ℕ → ℕ
 number_at image k = sequence_in (image (1 + 2 * k))
 
--- ---- the committed one
+-- ---- the committed header
 
--- the header in slot k counts, and the other doesn't, or has a lesser number
+-- the header in slot k counts; the other doesn't, or its number isn't greater
 pub record Wins (image : Image) (k : ℕ) : Type 0 where
   pub low : k < 2
   pub counts : counts_at image k ≡ true
@@ -47,7 +47,7 @@ found : {image : Image} {b : List ℕ} (slot : Option ℕ) → committed_slot im
     (k : ℕ) × Wins image k × (image (1 + 2 * k) ≡ b)
 found {image} {b} slot e is = grind (arith, nat_tests)
 
--- ---- the slot of the next header is touched
+-- ---- only the next header's slot changes
 
 module _ {n : ℕ} {old new : Image} {b : List ℕ} (is : committed_bytes old ≡ Some b) (next : sequence_in b + 1 ≡ n)
     (touched : Elsewhere (1 + 2 * (n % 2)) 2 old new) where
@@ -57,7 +57,7 @@ module _ {n : ℕ} {old new : Image} {b : List ℕ} (is : committed_bytes old �
   abbrev k : ℕ
   k = there.0
 
-  -- the committed header lies in the other slot
+  -- the committed header isn't in the next header's slot
   other : k + n % 2 ≡ 1
   other = grind (arith, nat_tests)
 
@@ -70,28 +70,28 @@ module _ {n : ℕ} {old new : Image} {b : List ℕ} (is : committed_bytes old �
   gate : new (2 + 2 * k) ≡ old (2 + 2 * k)
   gate = beside (2 + 2 * k) (omega arith) (omega arith)
 
-  -- the next header is the committed one if it counts
+  -- if the next header counts, it is committed
   pub new_at : {h : List ℕ} → new (1 + 2 * (n % 2)) ≡ h → sequence_in h ≡ n → is_open (new (2 + 2 * (n % 2))) ≡ true →
       committed_bytes new ≡ Some h
   new_at {h} written number open' = grind (arith, nat_tests)
 
--- ---- what a torn write of a gate or a header leaves committed
+-- ---- what is committed after a torn write of a gate or a header
 
 as_le : (xs : List ℕ) → number_from xs ≡ from_le_bytes w64 xs
 unfolding number_from
 as_le xs = omega arith
 
--- a number is read back from its bytes, whatever follows
+-- a number is read back from bytes that begin with it
 number_back : {n : ℕ} (rest : List ℕ) → n < 2 ^ 64 → number_from (number n ++ rest) ≡ n
 unfolding number
 number_back {n} rest fits = as_le (number n ++ rest) ∙ from_le_bytes-to_le_bytes_8 n fits
 
--- the sequence number in the bytes of a header
+-- the sequence number is read back from a header's bytes
 pub sequence_of : (h : CheckpointHeader) → h.sequence < 2 ^ 64 → sequence_in (header_bytes h) ≡ h.sequence
 unfolding header_bytes
 sequence_of h fits = search (arith, six, number_back)
 
--- the sectors of the slot that a header belongs in
+-- a header belongs in the slot of its sequence number mod 2
 pub header_is : (h : CheckpointHeader) (slot : HeaderSlot) {at : ℕ} → slot_number slot ≡ h.sequence % 2 → at ≡ header_at slot →
     at ≡ header_sector h
 header_is h slot number place = place ∙ ap (λ (n : ℕ). 1 + 2 * n) number
@@ -100,7 +100,7 @@ pub gate_is : (h : CheckpointHeader) (slot : HeaderSlot) {at : ℕ} → slot_num
     at ≡ gate_sector h
 gate_is h slot number place = place ∙ ap (λ (n : ℕ). 2 + 2 * n) number
 
--- the gate sector of a slot lies within the slot
+-- the sector of a slot's gate belongs to the slot
 gate_within : (r : ℕ) {old new : Image} → Elsewhere (2 + 2 * r) 1 old new → Elsewhere (1 + 2 * r) 2 old new
 gate_within r e = record { before = λ i lt. e.before i (omega (arith, lt)); after = λ i le. e.after i (omega (arith, le)) }
 
@@ -108,7 +108,7 @@ closing_by : (b : Bool) {h : CheckpointHeader} {old new : Image} → is_open (ol
     Elsewhere (gate_sector h) 1 old new → (is_open (old (gate_sector h)) ≡ false → Agrees new old) → KeepsHeader h old new
 closing_by b {h} {old} {new} is next e same = grind (arith, nat_tests)
 
--- closing the gate of a slot that isn't the committed one's
+-- closing the gate of the next header's slot keeps the committed header
 pub closing_keeps : {h : CheckpointHeader} {old new : Image} → Precedes old h → Elsewhere (gate_sector h) 1 old new
     → (is_open (old (gate_sector h)) ≡ false → Agrees new old) → KeepsHeader h old new
 closing_keeps {h} {old} {new} next e same = closing_by (is_open (old (gate_sector h))) refl next e same
@@ -116,7 +116,7 @@ closing_keeps {h} {old} {new} next e same = closing_by (is_open (old (gate_secto
 shut_by : (b : Bool) (bytes : List ℕ) → is_open bytes ≡ b → is_open (if b then gate_bytes Closed else bytes) ≡ false
 shut_by b bytes is = grind (arith, nat_tests)
 
--- a gate that was closed is closed
+-- a gate is closed after `closed_gate`
 pub shut : (bytes : List ℕ) → is_open (closed_gate bytes) ≡ false
 shut bytes = shut_by (is_open bytes) bytes refl
 
@@ -124,7 +124,7 @@ pub shut_gate : (old new : Image) (h : CheckpointHeader) → new (gate_sector h)
     is_open (new (gate_sector h)) ≡ false
 shut_gate old new h closed = ap is_open closed ∙ shut (old (gate_sector h))
 
--- a header is written under a closed gate
+-- writing the next header while its gate is closed keeps the committed header
 pub header_keeps : {h : CheckpointHeader} {old new : Image} → Precedes old h → is_open (old (gate_sector h)) ≡ false →
     Elsewhere (header_sector h) 1 old new → KeepsHeader h old new
 header_keeps {h} {old} {new} next closed e = grind (arith, nat_tests)
@@ -137,25 +137,25 @@ opening_by : (b : Bool) {h : CheckpointHeader} {old new : Image} → is_open (ne
     Precedes old h → old (header_sector h) ≡ header_bytes h → Elsewhere (gate_sector h) 1 old new → IsOldOrNew h old new
 opening_by b {h} {old} {new} is fits next written e = grind (arith, nat_tests)
 
--- while the gate of a written header is being opened, it may be torn: open or closed
+-- while the next header's gate is being opened, the old or the new header is committed
 pub opening : {h : CheckpointHeader} {old new : Image} → h.sequence < 2 ^ 64 → Precedes old h → old (header_sector h) ≡ header_bytes h →
     Elsewhere (gate_sector h) 1 old new → IsOldOrNew h old new
 opening {h} {old} {new} fits next written e = opening_by (is_open (new (gate_sector h))) refl fits next written e
 
--- whether the old or the new header is committed, only the slot of h was touched
+-- whether the old or the new header is committed, only the slot of h changed
 pub either_elsewhere : {h : CheckpointHeader} {old new : Image} → IsOldOrNew h old new → Elsewhere (header_sector h) 2 old new
 either_elsewhere {h} {old} {new} h0 = grind (arith, nat_tests)
 
--- the gate is written open
+-- after the next header's gate was written open, this header is committed
 pub opened_new : {h : CheckpointHeader} {old new : Image} → h.sequence < 2 ^ 64 → Precedes old h → old (header_sector h) ≡ header_bytes h
     → Elsewhere (gate_sector h) 1 old new → new (gate_sector h) ≡ gate_bytes Open → HasNew h old new
 opened_new {h} {old} {new} fits next written e gate = open_new fits next written e (ap is_open gate)
 
--- the next sequence number fits
+-- a valid header's next sequence number fits 64 bits
 pub next_fits : {room : ℕ} {h : CheckpointHeader} → IsHeader room h → h.sequence + 1 < 2 ^ 64
 next_fits {h} is = let more = one_more (h.entries == 0) in omega (arith, is.sequence, is.age, more)
 
--- the committed header precedes the one with the next sequence number
+-- the committed header precedes one with the next sequence number
 pub precedes : (image : Image) (h next : CheckpointHeader) → committed_bytes image ≡ Some (header_bytes h) → h.sequence < 2 ^ 64 →
     h.sequence + 1 ≡ next.sequence → Precedes image next
 precedes image h next is fits after = (header_bytes h, is, ap (λ (n : ℕ). n + 1) (sequence_of h fits) ∙ after)

@@ -1,4 +1,4 @@
--- Directories: empty ones, how they are read back, and why they are refused.
+-- Directories: empty ones, reading them back, and why they are refused.
 use Rattle.ckpt_log.proofs.Names.{nat_tests, ℕ, List, [], length, take, drop, replicate, refl, arith, drop-replicate, take-replicate, Image, Entry}
 use Rattle.ckpt_log.proofs.Names.{directory_bytes, IsDirectory, Plan, directory_in, sectors_from, Frame, IsFrameOf, frame_bytes, Geometry, one_directory}
 use Rattle.ckpt_log.proofs.Names.{directory_fits, one_frame, OpenFault, Failed, NoMemory, Bad, IsRefused, IsBadDirectory, SlotsAreReadBack}
@@ -36,13 +36,13 @@ pub zeros_behind : (image : Image) (at n : ℕ) {k long most : ℕ} {run zeros :
 zeros_behind image at n {k} {long} {most} {run} {zeros} same room blank written rest =
     grind (arith, nat_tests, take-replicate, drop-replicate)
 
--- its sectors begin with its bytes
+-- the sectors written for a directory begin with the directory's bytes
 pub entries_written : (image : Image) (at n : ℕ) {k long : ℕ} {run bytes : List ℕ} → k ≡ long → sectors_from image at k ≡ run →
     take (16 * n) run ≡ bytes → take (16 * n) (sectors_from image at long) ≡ bytes
 entries_written image at n {k} {long} {run} {bytes} same written front =
     rw (sym same) (ap (take (16 * n)) written ∙ front)
 
--- ---- what was written is read
+-- ---- frames and directories are read back as written
 
 slot_not_refused : {g : Geometry} {age object : ℕ} {f : Frame} (e : OpenFault) → IsFrameOf g age object (frame_bytes g object f) f →
     IsRefused g age object (frame_bytes g object f) e → e ≡ Failed
@@ -60,7 +60,7 @@ directory_not_refused {es} (Bad reason) is bad = absurd (bad.1 es is refl)
 pub directories_read_back : DirectoriesAreReadBack
 directories_read_back = grind (arith, nat_tests, one_directory, directory_fits, directory_not_refused)
 
--- ---- the committed header with its directory, and why there is none
+-- ---- finding the committed header and its directory, or why there is none
 
 pub bad_directory : {image seen : Image} {p : Plan} {h : CheckpointHeader} {n : ℕ} (e : OpenFault) → seen ≡ image → n ≡ h.entries →
     HasHeader image p h → IsBadDirectory p.geometry (directory_in seen p h.generation n) e → HasNoCommitted image p e

@@ -42,7 +42,7 @@ pub ruleset place_laws = (
   slots_spare_directories,
 )
 
--- ---- what lies apart from the headers
+-- ---- what doesn't overlap the headers
 
 pub sequences_reported : SequencesAreReported
 sequences_reported h fits = sequence_of h fits

@@ -1,11 +1,11 @@
--- What a crash leaves during a commit.
+-- What a crash may leave during a commit.
 use Rattle.ckpt_log.proofs.Names.{arith, nat_tests, ℕ, false, subst, CheckpointHeader, is_open, header_bytes, Image, Disk, Agrees, Elsewhere, Narrows, Elapses}
 use Rattle.ckpt_log.proofs.Names.{LeavesOnly, agrees_is, OnlyNow, leaves_weaker, leaves_on, header_sector, gate_sector, IsInOrder, IsInOrderAfter, CommitsOne}
 use Rattle.ckpt_log.proofs.Names.{Precedes, KeepsHeader, HasNew, IsOldOrNew, IsOld}
 use Rattle.std.proofs.Common.{◌≡◌, ◌<◌, ◌^◌, ◌⊎◌}
 use Rattle.ckpt_log.proofs.Commits.{closing_keeps, header_keeps, opening, precedes_on, keeps_on}
 
--- what a crash leaves while a gate is being closed that may be open
+-- c is left by a crash while a gate, which may be open, is being closed
 abbrev pub IsClosing : ℕ → Image → Image → Type 0
 IsClosing at old c = Elsewhere at 1 old c × (is_open (old at) ≡ false → Agrees c old)
 
@@ -16,7 +16,7 @@ closing_run {h} {at} {image} {old} {new} place next run =
     (λ c is. let here : IsClosing (gate_sector h) image c = subst (λ (i : ℕ). IsClosing i image c) place is in
     closing_keeps next here.0 here.1) run
 
--- writing a header under a closed gate, after a run that keeps the committed header
+-- a run that writes the next header under a closed gate leaves the committed header
 pub header_run : {h : CheckpointHeader} {at : ℕ} {image mid_image : Image} {old mid new : Disk} → at ≡ header_sector h → Precedes image h
     → KeepsHeader h image mid_image → is_open (mid_image (gate_sector h)) ≡ false
     → LeavesOnly old mid (λ c. KeepsHeader h image c) → LeavesOnly mid new (λ c. Elsewhere at 1 mid_image c) →
@@ -26,13 +26,13 @@ header_run {h} {at} {image} {mid_image} {old} {mid} {new} place next kept closed
     (leaves_weaker {old = mid} {new = new} {P = λ c. Elsewhere at 1 mid_image c} (λ c. KeepsHeader h image c) (λ c is. keeps_on kept
     (header_keeps (precedes_on next kept) closed (subst (λ (i : ℕ). Elsewhere i 1 mid_image c) place is))) second)
 
--- the gate is opened
+-- a run that opens the next header's gate leaves the old or the new header committed
 pub opening_run : {h : CheckpointHeader} {at : ℕ} {image : Image} {old new : Disk} → at ≡ gate_sector h → h.sequence < 2 ^ 64 →
     Precedes image h → image (header_sector h) ≡ header_bytes h → LeavesOnly old new (λ c. Elsewhere at 1 image c) →
     LeavesOnly old new (λ c. IsOldOrNew h image c)
 opening_run {h} {at} {image} {old} {new} place fits next written run = grind (arith, nat_tests, leaves_weaker, opening)
 
--- writing a header under a closed gate, then opening its gate
+-- a run that keeps the committed header leaves the old or the new one committed
 pub preparing_run : {h : CheckpointHeader} {image : Image} {old new : Disk} → LeavesOnly old new (λ c. KeepsHeader h image c) →
     LeavesOnly old new (λ c. IsOldOrNew h image c)
 preparing_run {h} {image} {old} {new} run = grind (arith, nat_tests)
@@ -42,7 +42,7 @@ pub publishing_run : {h : CheckpointHeader} {image mid_image : Image} {old mid n
     LeavesOnly old new (λ c. IsOldOrNew h image c)
 publishing_run {h} {image} {mid_image} {old} {mid} {new} kept first second = grind (arith, nat_tests)
 
--- ---- from a disk whose writes aren't durable
+-- ---- a commit after unsynced writes
 
 abbrev pub IsOldOrCommitted : CheckpointHeader → Disk → Image → Type 0
 IsOldOrCommitted h disk c = IsOld h disk c ⊎ HasNew h disk.seen c
@@ -51,12 +51,12 @@ was_seen : {h : CheckpointHeader} {disk : Disk} {c : Image} → disk.may_leave d
     IsOldOrCommitted h disk c
 was_seen {h} {disk} {c} left h1 = grind (arith, nat_tests)
 
--- a sync that may fail
+-- a sync, even if it fails, leaves the committed header
 pub sync_run : {h : CheckpointHeader} {old new : Disk} → CommitsOne old → OnlyNow old → Elapses old new → Narrows old new →
     LeavesOnly old new (λ c. IsOldOrCommitted h old c)
 sync_run {h} {old} {new} one only_now time narrows = grind (arith, nat_tests)
 
--- the commit after a sync
+-- a commit after a sync leaves the old or the new header committed
 pub commit_run : {h : CheckpointHeader} {old mid new : Disk} → old.may_leave old.seen → Agrees mid.seen old.seen
     → LeavesOnly old mid (λ c. IsOldOrCommitted h old c) → LeavesOnly mid new (λ c. IsOldOrNew h mid.seen c) →
     LeavesOnly old new (λ c. IsOldOrCommitted h old c)
@@ -76,7 +76,7 @@ pub commit_order : (h : CheckpointHeader) {old mid new : Disk} → old.may_leave
     LeavesOnly old new (λ c. IsInOrderAfter h old c)
 commit_order h {old} {mid} {new} left same first second = grind (arith, nat_tests)
 
--- the header is on the device while its gate is being opened
+-- while the gate is being opened, the header is on the device, so the writes are in order
 pub publishing_order : (h : CheckpointHeader) (image : Image) {old mid new : Disk} → LeavesOnly old mid (λ c. IsInOrder h image c) →
     LeavesOnly mid new (λ c. c (header_sector h) ≡ header_bytes h)
     → LeavesOnly old new (λ c. IsInOrder h image c)

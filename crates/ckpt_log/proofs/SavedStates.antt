@@ -1,4 +1,4 @@
--- Images that agree in the sectors that a saved state is read from.
+-- Images that agree in the sectors of a saved state.
 use Rattle.ckpt_log.proofs.Names.{nat_tests, ℕ, List, Option, IsFrameOf, refl, sym, subst, arith, Image, shape_of, committed_slot, option_at, frame_sector}
 use Rattle.ckpt_log.proofs.Names.{same_sectors, same_shaped, SameFrom, SameHeader, SameDirectory, SameFrames, SameSaved, frame_at, Elsewhere}
 use Rattle.ckpt_log.proofs.Names.{CheckpointHeader, Plan, SavedState, Encodes, half_sector, frame_slot_in, slot_sector, sector_or, header_sector}
@@ -37,7 +37,7 @@ same_saved old new size s first same was = record {
       (sym (same_frames old new s.plan s.header s.directory object (same.frames object lt))) (was.each object lt);
 }
 
--- ---- what a device denotes after a commit, and after a crash in its course
+-- ---- what a device denotes after a commit, and after a crash during it
 
 behind_by : (slot : Option ℕ) (p : Plan) (generation : ℕ) {home : ℕ} → 5 ≤ half_sector p generation → 5 ≤ home → 5 ≤ sector_or slot
     (slot_sector p generation) home
@@ -46,7 +46,7 @@ behind_by slot p generation {home} half le = grind (arith, nat_tests)
 pub frames_behind : FramesAreBehind
 frames_behind p generation es object fits behind = behind_by (frame_slot_in p es object) p generation (half_behind p generation fits) behind
 
--- a change of a header's slot leaves all else of a state
+-- a change of a header slot keeps all else of a saved state
 ready_stays : {old new : Image} {size : ℕ} {s : SavedState} (h : CheckpointHeader) → HomesAreBehind s.plan →
     Elsewhere (header_sector h) 2 old new → IsReady old size s → IsReady new size s
 ready_stays {old} {new} {size} {s} h homes e is = grind (arith, nat_tests, spare_sectors, spare_directories, spare_frames, frames_behind)

@@ -19,7 +19,7 @@ use Rattle.ckpt_log.proofs.SealedGates.{first_opens, second_opens, third_opens}
 use Rattle.ckpt_log.proofs.SealedCommits.{beside, no_gate, others_by_gate, same_gates}
 use Rattle.layout.proofs.SealedSlots.{are_slots, one_slots, opens_in, same_bytes, same_header, slots_in}
 
--- ---- the slots of an image whose gate is written
+-- ---- the header slots while one gate is being written
 
 tears : (j : ℕ) (d c : Image) → Elsewhere (gate_sector j) 1 d c → TearsGateOf j (slots_in d) (slots_in c)
 tears j d c torn =
@@ -43,7 +43,7 @@ closes : (j : ℕ) (d c : Image) → Elsewhere (gate_sector j) 1 d c → c (gate
     ClosesGateOf j (slots_in d) (slots_in c)
 closes j d c torn zero_there = record { torn = tears j d c torn; closed = closed_gate j c zero_there }
 
--- ---- the image while one gate after another is closed
+-- ---- the image while the gates are closed in order
 
 pub commits_by : (c : Image) (h : SealedHeader) → Opens (slots_in c) h.header.sequence (sealed_header_bytes h) → (d : Image) → Commits d h →
     Commits c h
@@ -143,7 +143,7 @@ none_committed image closed h is =
 
 -- ---- at each moment
 
--- closing a gate on a durable disk
+-- a run that closes a gate on a durable disk leaves only images that `keeps` allows
 pub gate_run : {at : ℕ} {keeps : Image → Type 0} {old mid new : Disk} → Only mid.seen mid → LeavesOnly old mid keeps
     → ((c : Image) → Elsewhere at 1 mid.seen c → keeps c) → LeavesOnly mid new (λ c. IsTorn at 1 mid c) → LeavesOnly old new keeps
 gate_run {at} {keeps} {old} {mid} {new} durable before here run =
@@ -151,30 +151,30 @@ gate_run {at} {keeps} {old} {mid} {new} durable before here run =
     (leaves_weaker {old = mid} {new = new} {P = λ c. IsTorn at 1 mid c} keeps
     (λ c torn. here c (subst (λ (image : Image). Elsewhere at 1 image c) (agrees_is torn.0 mid.seen (durable torn.0 torn.1)) torn.2)) run)
 
--- closing the first gate
+-- a run that closes the first gate leaves only images that `keeps` allows
 pub first_run : {at : ℕ} {keeps : Image → Type 0} {old new : Disk} → Only old.seen old → ((c : Image) → Elsewhere at 1 old.seen c → keeps c)
     → LeavesOnly old new (λ c. IsTorn at 1 old c) → LeavesOnly old new keeps
 first_run {at} {keeps} {old} {new} durable here run =
     leaves_weaker {old = old} {new = new} {P = λ c. IsTorn at 1 old c} keeps
     (λ c torn. here c (subst (λ (image : Image). Elsewhere at 1 image c) (agrees_is torn.0 old.seen (durable torn.0 torn.1)) torn.2)) run
 
--- after a run, a read returns an image with the property that each crash leaves
+-- if each crash during a run leaves an image with P, a read then returns one with P
 pub seen_has : {old new : Disk} {P : Image → Type 0} → LeavesOnly old new P → CountsNow new → new.may_leave new.seen → P new.seen
 seen_has {old} {new} {P} run counts_now left = ends run counts_now new.seen left
 
--- nothing was touched
+-- an unchanged image has the same committed header
 untouched : {image : Image} → KeepsOrHasNone image image
 untouched = record { elsewhere = λ i _. refl; committed = λ h is. is }
 
 pub keeps_same : {old new : Image} → Agrees new old → KeepsOrHasNone old new
 keeps_same {old} {new} same = subst (KeepsOrHasNone old) (sym (agrees_is new old same)) untouched
 
--- a sync, which may fail, and reads
+-- a failed sync, or reads, leave only images that a crash could leave before
 pub peek_run : {old new : Disk} → Peeks old new → LeavesOnly old new (λ c. WasKeptOrHasNone old c)
 peek_run {old} {new} run = leaves_weaker {old = old} {new = new} {P = old.may_leave} (λ c. WasKeptOrHasNone old c)
     (λ c left. (c, left, untouched)) run
 
--- a run after which the gates are closed
+-- if closing follows a sync, a crash during either leaves an image that it could leave before, with the same committed header or none
 pub closing_run : {old mid new : Disk} → old.may_leave old.seen → Agrees mid.seen old.seen
     → LeavesOnly old mid (λ c. WasKeptOrHasNone old c) → LeavesOnly mid new (λ c. KeepsOrHasNone mid.seen c) →
     LeavesOnly old new (λ c. WasKeptOrHasNone old c)

@@ -1,4 +1,4 @@
--- What a publish leaves committed.
+-- Which header is committed during and after a publish.
 use Rattle.std.proofs.Common.{◌≡◌, ℕ, ◌+◌, ◌*◌, ◌%◌, ◌<◌, ◌^◌, ◌⊎◌, List, ap, subst, sym, ◌∙◌, inl, inr, arith, [], ◌∷◌}
 use Rattle.std.specs.Prelude.{codes}
 use Rattle.std.proofs.lemmas.Bool.{cases_lt}
@@ -23,7 +23,7 @@ use Rattle.layout.proofs.SealedSlots.{are_slots, one_commits, opens_in, same_gat
 
 -- ---- one sector is torn
 
--- all other sectors stay
+-- a write of one sector changes no other
 pub beside : (at i : ℕ) (d c : Image) → Elsewhere at 1 d c → (i ≡ at → ⊥) → c i ≡ d i
 beside at i d c torn other =
     elim (cases_lt i at) [
@@ -31,7 +31,7 @@ beside at i d c torn other =
       | inr ge ↦ torn.after i (omega (arith, ge, other))
     ]
 
--- headers and gates have sectors of their own
+-- the headers of different slots are in different sectors
 same_headers : (j k : ℕ) → header_sector k ≡ header_sector j → k ≡ j
 same_headers j k e = let is : 8 + 16 * k ≡ 8 + 16 * j = e in omega (arith, is)
 
@@ -44,21 +44,21 @@ no_gate j k e = let is : 8 + 16 * k ≡ 16 + 16 * j = e in omega (arith, is)
 no_header : (j k : ℕ) → gate_sector k ≡ header_sector j → ⊥
 no_header j k e = let is : 16 + 16 * k ≡ 8 + 16 * j = e in omega (arith, is)
 
--- so all other slots stay, if it is the sector of a header
+-- a write of a slot's header changes no other slot
 others_by_header : (j : ℕ) (d c : Image) → Elsewhere (header_sector j) 1 d c → OthersStay j (slots_in d) (slots_in c)
 others_by_header j d c torn k other =
     same_slot c d (slots_in c) (slots_in d) k (are_slots c) (are_slots d)
     (beside (header_sector j) (header_sector k) d c torn (λ e. other (same_headers j k e)))
     (beside (header_sector j) (gate_sector k) d c torn (no_header j k))
 
--- and if it is the sector of a gate
+-- a write of a slot's gate changes no other slot
 pub others_by_gate : (j : ℕ) (d c : Image) → Elsewhere (gate_sector j) 1 d c → OthersStay j (slots_in d) (slots_in c)
 others_by_gate j d c torn k other =
     same_slot c d (slots_in c) (slots_in d) k (are_slots c) (are_slots d)
     (beside (gate_sector j) (header_sector k) d c torn (no_gate j k))
     (beside (gate_sector j) (gate_sector k) d c torn (λ e. other (same_gates j k e)))
 
--- ---- header and gate of the next header
+-- ---- the next header and its gate are written
 
 module _ (before h : SealedHeader) (next : before.header.sequence + 1 ≡ h.header.sequence) where
   abbrev s : ℕ
@@ -84,7 +84,7 @@ module _ (before h : SealedHeader) (next : before.header.sequence + 1 ≡ h.head
         fits = was.fits;
       }
 
-  -- either header is committed while the new gate is being written
+  -- while the new gate is being written, the old or the new header is committed
   module _ (fits : AreWords (header_numbers h)) (m c : Image) (was : Commits m before) (written : m (header_at h) ≡ sealed_header_bytes h)
       (torn : Elsewhere (gate_at h) 1 m c) where
     there : c (header_sector ((s + 1) % 3)) ≡ sealed_header_bytes h
@@ -131,9 +131,9 @@ module _ (before h : SealedHeader) (next : before.header.sequence + 1 ≡ h.head
           gate = ((are_slots c).gate ((s + 1) % 3) (s + 1)).1 here;
         }))
 
--- ---- from a disk whose writes aren't durable
+-- ---- a commit after unsynced writes
 
--- if the same header is committed on two images, it stays committed from one to the other
+-- if a header is committed in both images, each header committed in the first is committed in the second
 stays_by : (seen c : Image) (before : SealedHeader) → Commits seen before → Commits c before → StaysCommitted seen c
 stays_by seen c before was now = λ g is. subst (λ (h : SealedHeader). Commits c h) (one_commits seen before g was is) now
 
@@ -159,7 +159,7 @@ header_order h {at} {old} {new} place run =
     leaves_weaker {old = old} {new = new} {P = λ c. IsTorn at 1 old c} (λ c. IsInOrder h old c)
     (λ c torn. inl (subst (λ (i : ℕ). IsTorn i 1 old c) place torn)) run
 
--- the header is durable, and so is all that was written before
+-- the new header is durable, and so is all that was written before
 pub record IsReady (h : SealedHeader) (old mid : Disk) : Type 0 where
   pub fits : AreWords (header_numbers h)
   pub one : CommitsOne old
@@ -183,7 +183,7 @@ make_ready h at row old mid place fits one next left torn written is durable = r
 }
 
 module _ {h : SealedHeader} {old mid : Disk} (ready : IsReady h old mid) where
-  -- the old header is still committed
+  -- the old header is still committed in `mid`
   still : Commits mid.seen ready.next.0
   still = header_torn ready.next.0 h ready.next.2 old.seen mid.seen ready.next.1 ready.elsewhere
 
@@ -233,7 +233,7 @@ module _ {h : SealedHeader} {old mid : Disk} (ready : IsReady h old mid) where
 pub durable_one : (disk : Disk) → Only disk.seen disk → CommitsOne disk
 durable_one disk only = λ c left h is. subst (λ (image : Image). Commits image h) (sym (agrees_is c disk.seen (only c left))) is
 
--- ---- headers of numbers that fit
+-- ---- headers whose numbers fit 64 bits
 
 abbrev Fits : ℕ → Type 0
 Fits n = n < 2 ^ 64

@@ -1,4 +1,4 @@
--- A directory that is read.
+-- Reading a directory.
 use Rattle.std.proofs.Common.{◌≡◌, ℕ, ◌+◌, ◌-◌, ◌*◌, ◌^◌, ◌<◌, ◌≤◌, List, ◌∷◌, ◌++◌, length, take, drop, zero, suc, ap, refl, sym, subst, ◌∙◌, inl, inr}
 use Rattle.std.proofs.Common.{arith, Result}
 use Rattle.std.specs.Prelude.{IfNone, IfOk, IfSome, None, Option, Some}
@@ -36,7 +36,7 @@ EntryFits e = (e.object < 2 ^ 64) × (e.slot < 2 ^ 64)
 piece_fits : (es : List Entry) (k : ℕ) → AllFitting es → AllFitting (piece es k)
 piece_fits es k fits = All-take EntryFits 30 (drop (30 * k) es) (All-drop EntryFits (30 * k) es fits)
 
--- ---- the entries of one sector, put among all
+-- ---- the entries of one sector are put among all entries
 
 module _ (old part : List Entry) (k e : ℕ) (after : 30 * k ≤ e) (few : e ≤ 30 * k + 30) (inside : e ≤ length old)
     (whole : e < 30 * k + 30 → e ≡ length old) where
@@ -73,7 +73,7 @@ module _ (old part : List Entry) (k e : ℕ) (after : 30 * k ≤ e) (few : e ≤
       read (piece ds k) size (piece_fits ds k fits) is
   none_in bytes (Some seal) read = tt
 
-  -- what was read of a sector
+  -- if sector k was read as a sector of entries, all entries now contain its entries at their place
   pub found_next : {E : Type 0} (result : Result (Option Sums) E) (bytes : List ℕ) (n : ℕ) →
       length part ≡ length (take (e - 30 * k) (drop (30 * k) old)) → IfOk result (λ (found : Option Sums). IsPieceIn bytes n part found) →
       IfOk result (λ (found : Option Sums). IfSome found (λ (seal : Sums).
@@ -95,7 +95,7 @@ module _ (old part : List Entry) (k e : ℕ) (after : 30 * k ≤ e) (few : e ≤
       bytes ≡ entries_bytes (piece ds k) → ⊥))
       (λ found read. none_in bytes found read)
 
--- ---- one sector more
+-- ---- one more sector
 
 piece_front : (es ds : List Entry) (k j : ℕ) → j < k → take (30 * k) ds ≡ take (30 * k) es → piece ds j ≡ piece es j
 piece_front es ds k j lt same =
@@ -137,7 +137,7 @@ reads_more {a} {b} {c} first second = grind (arith, nat_tests)
 pub reads_none : {disk : Disk} → OnlyNow disk → ReadsOnly disk disk
 reads_none {disk} only_now = grind (arith, nat_tests)
 
--- what is so before a turn is so after it
+-- if the entries of the first k sectors were read, and then those of the next, the entries of k + 1 sectors were read
 pub entries_turn : (first mid last : Disk) (at k : ℕ) (es ds : List Entry) (sums seal result : Sums) (found : Option Sums) →
     HaveEntries first.seen at es k × (sums ≡ directory_sums (seals_of es k)) × ReadsOnly first mid × (mid.failures ≡ first.failures) →
     take (30 * k) ds ≡ take (30 * k) es → ReadsOnly mid last → last.failures ≡ mid.failures → found ≡ Some seal →
@@ -159,7 +159,7 @@ pub all_fit : (es : List Entry) (i : ℕ) → length es ≤ i → ((k : ℕ) →
 all_fit es i past below k d lt =
     subst EntryFits (sym (get_or_default es k d (record { object = 0; slot = 0 }) lt)) (below k (omega (arith, lt, past)))
 
--- ---- sectors have one list of entries
+-- ---- a sector has at most one list of entries
 
 piece_long : (ds es : List Entry) (k : ℕ) → length ds ≡ length es → length (piece ds k) ≡ length (piece es k)
 piece_long ds es k len =

@@ -1,4 +1,4 @@
--- What is committed while the gates are closed in order.
+-- Which header is committed while the gates are closed in order.
 use Rattle.std.proofs.Common.{◌≡◌, ℕ, ◌+◌, ◌-◌, ◌%◌, ◌<◌, ◌≤◌, List, None, Some, ap, subst, sym, ◌∙◌, inl, inr, arith}
 use Rattle.std.proofs.lemmas.Bool.{cases_eq}
 use Rattle.std.proofs.lemmas.Option.{same_Some}
@@ -8,7 +8,7 @@ use Rattle.header_slots.proofs.Counting.{counts_after, counts_before, one_each}
 use Rattle.ckpt_log.specs.sealed.Closing.{IsOrder}
 use Rattle.ckpt_log.specs.declared.sealed.closing.Order.{Order}
 
--- ---- headers stay
+-- ---- writes of gates keep the headers
 
 abbrev HeadersStay : Slots → Slots → Type 0
 HeadersStay old new = (k : ℕ) → ((new k).header ≡ (old k).header) × ((new k).bytes ≡ (old k).bytes)
@@ -26,7 +26,7 @@ headers_stay slot old new torn k =
 both_stay : (a b c : Slots) → HeadersStay a b → HeadersStay b c → HeadersStay a c
 both_stay a b c one two k = ((two k).0 ∙ (one k).0, (two k).1 ∙ (one k).1)
 
--- a header that counts, in the slot of one that counted before, has the same number
+-- if no header changes, the header that counts in a slot keeps its number
 same_number : (old new : Slots) (m n : ℕ) → HeadersStay old new → Counts old m → Counts new n → n % 3 ≡ m % 3 → n ≡ m
 same_number old new m n stay was is e =
     same_Some n m (sym is.header ∙ (stay (n % 3)).0 ∙ ap (λ (k : ℕ). (old k).header) e ∙ was.header)
@@ -34,7 +34,7 @@ same_number old new m n stay was is e =
 meet : (a b k : ℕ) → a ≡ k → b ≡ k → a ≡ b
 meet a b k e f = e ∙ sym f
 
--- in a slot with a closed gate no header counts
+-- no header counts in a slot whose gate is closed
 closed_out : (x : Slots) (k n : ℕ) → (x k).gate ≡ None → Counts x n → n % 3 ≡ k → ⊥
 closed_out x k n closed it e =
     let lost : Some n ≡ None = sym it.gate ∙ ap (λ (i : ℕ). (x i).gate) e ∙ closed in
@@ -43,15 +43,15 @@ closed_out x k n closed it e =
 gate_stays : (slot k : ℕ) (old new : Slots) → TearsGateOf slot old new → (k ≡ slot → ⊥) → (new k).gate ≡ (old k).gate
 gate_stays slot k old new torn other = ap (λ (it : Slot). it.gate) (torn.others k other)
 
--- the gate of header t + 1 is that of a slot with another number
+-- if a header with another number than t + 1 counts in the slot of t + 1, that slot's gate doesn't have the number t + 1
 other_gate : (slots : Slots) (m t : ℕ) → Counts slots m → (t + 1) % 3 ≡ m % 3 → (t + 1 ≡ m → ⊥) →
     (slots ((t + 1) % 3)).gate ≡ Some (t + 1) → ⊥
 other_gate slots m t is e other gate = other (same_Some (t + 1) m (sym gate ∙ ap (λ (k : ℕ). (slots k).gate) e ∙ is.gate))
 
--- ---- in order
+-- ---- gates that are closed in order
 
 module _ (old : Slots) (o : Order) (is : IsOrder old o) where
-  -- if another header counts, the one in the first slot counts
+  -- if a header counts in another slot, one with a lesser number counts in the first slot
   first_counts : (n : ℕ) → Counts old n → (n % 3 ≡ o.first → ⊥) → (m : ℕ) × (m % 3 ≡ o.first) × Counts old m × (m < n)
   first_counts n it other =
       elim (cases_eq (n % 3) o.second) [
@@ -66,7 +66,7 @@ module _ (old : Slots) (o : Order) (is : IsOrder old o) where
             (low.0, low.1, low.2, omega (arith, less, lesser))
       ]
 
-  -- no header that counts has a lesser number than that in the first slot
+  -- no header that counts has a lesser number than the one in the first slot
   first_least : (m n : ℕ) → m % 3 ≡ o.first → Counts old m → Counts old n → m ≤ n
   first_least m n here it other =
       elim (cases_eq (n % 3) o.first) [
@@ -83,7 +83,7 @@ module _ (old : Slots) (o : Order) (is : IsOrder old o) where
     counted_elsewhere : (n : ℕ) → Counts new n → (n % 3 ≡ o.first → ⊥) → Counts old n
     counted_elsewhere n it other = counts_before o.first old new n torn.others other it
 
-    -- the header in the first slot counts
+    -- a header still counts in the first slot
     lowest : (m : ℕ) × (m % 3 ≡ o.first) × Counts old m
     lowest =
         let positive : 0 < t = now.pair.positive in
@@ -98,7 +98,7 @@ module _ (old : Slots) (o : Order) (is : IsOrder old o) where
     abbrev m : ℕ
     m = lowest.0
 
-    -- a header that counts now counted before
+    -- each header that counts now counted before
     counted_before : (n : ℕ) → Counts new n → Counts old n
     counted_before n it =
         elim (cases_eq (n % 3) o.first) [
@@ -207,7 +207,7 @@ module _ (old : Slots) (o : Order) (is : IsOrder old o) where
                       other_gate old low.0 t low.2 slot (λ e. omega (arith, e, less));
                 }
             | inr elsewhere ↦
-                -- then t - 1 lies in the last slot, and the header in the second has a lesser number than that
+                -- t - 1 is in the last slot, and the header in the second slot has a lesser number
                 let here : t % 3 ≡ o.second =
                 omega (arith, elsewhere, not_t, is.first_low, is.second_low, is.third_low, is.apart, is.first_apart, is.second_apart) in
                 let last : (t - 1) % 3 ≡ o.third =
@@ -240,7 +240,7 @@ module _ (old : Slots) (o : Order) (is : IsOrder old o) where
       let d : (t - 1) % 3 ≡ o.second → ⊥ = closed_out x o.second (t - 1) second now.pair.neighbour in
       omega (arith, positive, a, b, c, d, is.first_low, is.second_low, is.apart)
 
-  -- ---- so the header that opens opened before
+  -- ---- a header that is committed now was committed before
 
   pub first_opens : (new : Slots) (t : ℕ) (row : List ℕ) → TearsGateOf o.first old new → Opens new t row → Opens old t row
   first_opens new t row torn opens = record {

@@ -14,7 +14,7 @@ use Rattle.layout.specs.sealed.Directory.{AreEntries, HaveEntries, piece, seals_
 use Rattle.ckpt_log.specs.sealed.Directory.{TouchesAt}
 use Rattle.ckpt_log.proofs.SealedCommits.{beside}
 
--- ---- what is touched
+-- ---- which sectors change
 
 widen : (at k n : ℕ) (old new : Image) → k < n → Elsewhere (at + k) 1 old new → Elsewhere at n old new
 widen at k n old new lt e = record {
@@ -46,7 +46,7 @@ touches_on at k n old mid new lt so_far writes = record {
       (λ c torn. torn_on at k n old mid c lt so_far torn) writes.any_moment);
 }
 
--- ---- one sector more
+-- ---- one more sector
 
 pub entries_on : (at k : ℕ) (es : List Entry) (mid new : Image) → HaveEntries mid at es k → Elsewhere (at + k) 1 mid new
     → new (at + k) ≡ entries_bytes (piece es k) → HaveEntries new at es (k + 1)

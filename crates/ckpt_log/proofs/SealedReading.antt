@@ -27,7 +27,7 @@ use Rattle.ckpt_log.specs.sealed.Reading.{AreRead, HasNoneBy, IsChosen, IsGateIn
 use Rattle.layout.proofs.SealedDeciding.{one_number}
 use Rattle.layout.proofs.SealedSlots.{are_slots, same_option, slots_in}
 
--- three slots and their numbers
+-- the numbers of a list of three slots are those of its items
 pub three_numbers : (xs : List HeaderSlot) (d : HeaderSlot) → length xs ≡ 3 →
     map numbers_of xs ≡ numbers_of (get_or xs 0 d) ∷ numbers_of (get_or xs 1 d) ∷ numbers_of (get_or xs 2 d) ∷ []
 three_numbers [] d e = absurd (omega (arith, e))
@@ -52,7 +52,7 @@ gate_is bytes (Some m) has n = (
   λ other. ap (λ (k : ℕ). Some k) (one_gate_number bytes m n has other),
 )
 
--- two sets of three slots with the same numbers
+-- in both lists of slots, each of the three slots has the same numbers
 pub record SameNumbers (a b : Slots) : Type 0 where
   pub header : (k : ℕ) → k < 3 → (a k).header ≡ (b k).header
   pub gate : (k : ℕ) → k < 3 → (a k).gate ≡ (b k).gate
@@ -83,7 +83,7 @@ read_numbers image xs read = record {
       (λ s e. (are s).1 ((is s).0 e)) (λ s e. (is s).1 ((are s).0 e));
 }
 
--- ---- so the same is committed
+-- ---- slots with the same numbers have the same committed header
 
 pub turned : {a b : Slots} → SameNumbers a b → SameNumbers b a
 turned same = record { header = λ k lt. sym (same.header k lt); gate = λ k lt. sym (same.gate k lt) }
@@ -149,7 +149,7 @@ has_none image xs room bad.BadCapability read none = absurd none
 has_none image xs room bad.BadProcess read none = absurd none
 has_none image xs room bad.BadBank read none = absurd none
 
--- ---- the committed header is there
+-- ---- the committed header is among those read
 
 counted : (xs : List HeaderSlot) (s : ℕ) (d : HeaderSlot) → length xs ≡ 3 → IsCommitted (numbered xs) s →
     number_of (get_or xs (s % 3) d).header ≡ Some s
@@ -166,7 +166,7 @@ pub number_there : (xs : List HeaderSlot) (s : ℕ) (d : HeaderSlot) (h : Sealed
     → (get_or xs (s % 3) d).header ≡ Some h → h.header.sequence ≡ s
 number_there xs s d h size is there = same_Some h.header.sequence s (ap number_of (sym there) ∙ counted xs s d size is)
 
--- ---- why there is none
+-- ---- why no header is committed
 
 pub refused_by : (xs : List HeaderSlot) (room : ℕ) (why : NotCommitted) → IsRefused (numbered xs) why → HasNoneBy xs room (reason_of why)
 refused_by xs room NoPair is = is

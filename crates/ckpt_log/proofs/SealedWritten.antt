@@ -1,4 +1,4 @@
--- Units on a device, and the root.
+-- Units that were written to a device, and the root.
 use Rattle.std.proofs.Common.{◌≡◌, ℕ, ◌-◌, List, [], ◌∷◌, ◌++◌, length, take, drop, take-append-drop, ap, refl, sym, subst, ◌∙◌, arith}
 use Rattle.std.proofs.lemmas.List.{append-nil, length-take-le, take-take}
 use Rattle.device.specs.Disk.{Image}

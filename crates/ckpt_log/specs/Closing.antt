@@ -9,7 +9,7 @@ pub record AreClosed (image : Image) : Type 0 where
   pub first : is_open (image 2) ≡ false
   pub second : is_open (image 4) ≡ false
 
--- the same bytes in each sector, except the gates
+-- the same bytes in each sector except the two gates
 abbrev pub SparesRest : Image → Image → Type 0
 SparesRest old new = (i : ℕ) → (i ≡ 2 → ⊥) → (i ≡ 4 → ⊥) → new i ≡ old i
 
@@ -23,11 +23,11 @@ pub record KeepsOrHasNone (old new : Image) : Type 0 where
   pub elsewhere : SparesRest old new
   pub committed : (committed_bytes new ≡ committed_bytes old) ⊎ HasNoHeader new
 
--- c differs in this way from an image that a crash may leave
+-- c differs only in gates from an image that a crash now may leave; it has the same committed header, or none
 abbrev pub WasKeptOrHasNone : Disk → Image → Type 0
 WasKeptOrHasNone disk c = (d : Image) × disk.may_leave d × KeepsOrHasNone d c
 
--- this slot has the lesser sequence number: if both headers count, the one in the other slot is committed
+-- the header in this slot has the lesser sequence number, or an equal one
 abbrev pub IsLesser : Image → HeaderSlot → Type 0
 IsLesser image First = sequence_in (image 1) ≤ sequence_in (image 3)
 IsLesser image Second = sequence_in (image 3) ≤ sequence_in (image 1)

@@ -1,4 +1,4 @@
--- The slots and the directories of the log lie after the headers, before the end, and apart.
+-- Slots and directories of the log lie after the headers and before the end, and don't overlap.
 use Rattle.ckpt_log.specs.Names.{ℕ, Extent, Plan, IsPlan, IsWithin, IsApart, IsInside, half_extent, place_length}
 use Rattle.ckpt_log.specs.Names.{half_sector, slot_sector, directory_sector, directory_length}
 use Rattle.std.specs.Prelude.{◌≡◌, ◌%◌, ◌<◌, ◌≤◌}
@@ -19,7 +19,7 @@ directory_extent p generation n = record {
   length = directory_length p.version n;
 }
 
--- slots lie inside their half, frames inside their slot, and directories inside their half
+-- slots and directories lie inside their half, and frames inside their slot
 abbrev pub SlotsAreInside : Type 0
 SlotsAreInside = (p : Plan) (generation slot : ℕ) → slot < p.geometry.log →
     IsInside (slot_extent p generation slot) (half_extent p.version p.geometry (half_sector p generation))
@@ -37,12 +37,12 @@ abbrev pub HalvesAreWithin : Type 0
 HalvesAreWithin = (p : Plan) (generation : ℕ) → IsPlan p →
     IsWithin p.total (half_extent p.version p.geometry (half_sector p generation))
 
--- no sector is in both halves
+-- generations that differ mod 2 have halves that don't overlap
 abbrev pub HalvesAreApart : Type 0
 HalvesAreApart = (p : Plan) (a b : ℕ) → IsPlan p → (a % 2 ≡ b % 2 → ⊥) →
     IsApart (half_extent p.version p.geometry (half_sector p a)) (half_extent p.version p.geometry (half_sector p b))
 
--- no sector is in two slots of a half, nor in a slot and the directory
+-- the slots of a half overlap neither one another nor the directory
 abbrev pub SlotsAreApart : Type 0
 SlotsAreApart = (p : Plan) (generation a b : ℕ) → (a ≡ b → ⊥) →
     IsApart (slot_extent p generation a) (slot_extent p generation b)

@@ -1,4 +1,4 @@
--- The sectors that a saved state is read from.
+-- The sectors on which a saved state depends.
 use Rattle.ckpt_log.specs.Names.{ℕ, List, Entry, CheckpointHeader, Image, place_length, HasDirectory, frame_in}
 use Rattle.ckpt_log.specs.Names.{frame_sector, directory_sector, SavedState, Encodes, committed_slot, committed_bytes}
 use Rattle.ckpt_log.specs.Names.{Plan, directory_length}
@@ -8,7 +8,7 @@ use Rattle.std.specs.Prelude.{◌≡◌, ◌+◌, ◌<◌}
 abbrev pub SameFrom : ℕ → ℕ → Image → Image → Type 0
 SameFrom at n old new = (i : ℕ) → i < n → new (at + i) ≡ old (at + i)
 
--- the same bytes in the header slots and their gates, in the directory of h, and in the frame of each object
+-- two images have the same header slots and gates, the same directory of h, and the same frame of each object
 pub record SameWhereRead (p : Plan) (h : CheckpointHeader) (es : List Entry) (old new : Image) : Type 0 where
   pub headers : SameFrom 1 4 old new
   pub directory : SameFrom (directory_sector p h.generation) (directory_length p.version h.entries) old new

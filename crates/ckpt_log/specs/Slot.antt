@@ -1,4 +1,4 @@
--- What the slots of the log and its directories hold.
+-- Frames in log slots, and directories, are read back as written.
 use Rattle.ckpt_log.specs.Names.{ℕ, List, ⊤, Frame, Geometry, BadDirectory, Entry, directory_bytes, IsDirectory}
 use Rattle.ckpt_log.specs.Names.{IsFrameOf, frame_bytes, OpenFault, Failed, NoMemory, Bad, IsRefused}
 use Rattle.std.specs.Prelude.{◌≡◌}

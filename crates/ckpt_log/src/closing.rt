@@ -1,4 +1,4 @@
-// Closing the gates of both headers, before a new image overwrites the old.
+// Closes the gates of both headers, before a new image overwrites the old one.
 ghost use Rattle.std.specs.Prelude.{◌≡◌, ◌≤◌, IfOk, OnOk};
 ghost use Rattle.device.specs.Calls.{Counts, Only};
 ghost use Rattle.device.specs.Moments.{LeavesOnly};
@@ -50,8 +50,9 @@ fn close_in_turn<D: Device>(device: &mut D, slot: HeaderSlot) -> Result<(), Fail
 /// Closes the gates of both headers, so that no header is committed. Then this and all earlier writes
 /// are durable.
 ///
-/// A crash at any moment leaves the image that it could have left before the call, with the same committed header, or
-/// none. For that it closes the gate of the committed header last, and doesn't write a closed gate.
+/// A crash at any moment leaves an image that differs only in the gates from one that it could have left
+/// before; the same header is committed, or none. To ensure this, the gate of the committed header is closed
+/// last, and a closed gate isn't written.
 ///
 /// It allocates nothing. Returns `Failed` exactly if the device failed.
 pub fn close_gates<D: Device>(device: &mut D) -> Result<(), Failed>

@@ -66,7 +66,7 @@ fn choose(
 }
 
 impl<'a> Log<'a> {
-    // Returns the committed header. It has the errors of `find_committed`.
+    // Returns the committed header. Fails as `find_committed` does.
     fn find_header<D: Device>(&self, device: &mut D) -> Result<CheckpointHeader, OpenFault>
         requires inside { self.now.total ≤ (D.disk device.old).sectors }
         ensures found { IfOk result (λ h. HasHeader (D.disk device.old).seen self.now h) }
@@ -88,8 +88,8 @@ impl<'a> Log<'a> {
         Ok(choose(slot, &first, &second, room)?)
     }
 
-    /// Returns the committed header, and puts its directory into the first entries of `directory`. It allocates and
-    /// writes nothing.
+    /// Returns the committed header, and puts its directory into the first entries of `directory`. It doesn't
+    /// allocate or write.
     ///
     /// Returns `Failed` exactly if the device failed, else:
     ///

@@ -19,7 +19,7 @@ use model::Geometry;
 // How many bytes the greatest directory takes.
 const MAX_BYTES: usize = 70144;
 
-// Writes the bytes of a directory, 16 for each entry. The bytes after them stay.
+// Writes the bytes of a directory, 16 for each entry. Later bytes don't change.
 fn put_entries(entries: &[Entry], into: &mut [u8])
     requires room { 16 * length entries.now ≤ length into.old }
     ensures front { take (16 * length entries.now) into.new ≡ directory_bytes entries.now }
@@ -72,8 +72,8 @@ impl<'a> Log<'a> {
         write_sectors(device, at, sectors, run)
     }
 
-    /// Writes the directory of the half of a generation. After its last entry, the rest of the last sector is 0. All
-    /// other sectors keep their bytes, and a crash may leave nothing new in them.
+    /// Writes the directory of the half of a generation. After the last entry, the rest of the last sector is
+    /// 0. All other sectors keep their bytes, and what a crash may leave in them doesn't change.
     ///
     /// It allocates nothing. If there are no entries it doesn't call the device. Returns `Failed` exactly if the
     /// device failed; then the sectors of the directory may hold any bytes.

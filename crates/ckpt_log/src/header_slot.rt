@@ -1,10 +1,10 @@
-// The two places of a header.
+// The two header slots.
 ghost use Rattle.std.specs.Prelude.{◌≡◌, ◌%◌, ◌<◌, ◌^◌};
 ghost use Rattle.ckpt_log.specs.HeaderSlot.{slot_number, other_slot, header_at, gate_at};
 
 use layout::CheckpointHeader;
 
-/// A place of a header and, in the next sector, of its gate. Headers use the two places in turn.
+/// A header slot: a sector for the header and, after it, one for its gate. Headers use the two slots in turn.
 #[derive(Clone, Copy)]
 pub enum HeaderSlot {
     First,

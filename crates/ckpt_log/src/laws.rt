@@ -1,4 +1,4 @@
-// The laws of the log: they do nothing, and their contracts are the laws.
+// Laws of the log, as contracts of functions that do nothing.
 ghost use Rattle.ckpt_log.specs.CommitLaws.{FramesAreBehind, NewIsDenoted, OldIsDenoted};
 ghost use Rattle.ckpt_log.specs.HeaderLaws.{SequencesAreReported, NextFollows, HeadersSpareSectors, HeadersSpareFrames};
 ghost use Rattle.ckpt_log.specs.HeaderLaws.{HeadersSpareSlots, HeadersSpareDirectories};
@@ -7,9 +7,10 @@ ghost use Rattle.ckpt_log.specs.Places.{HalvesAreApart, SlotsAreApart, SlotsSpar
 ghost use Rattle.ckpt_log.specs.SavedSectors.{SameHeader, SameDirectory, SameFrames, SameSaved};
 ghost use Rattle.ckpt_log.specs.Slot.{SlotsAreReadBack, DirectoriesAreReadBack};
 
-/// The saved state depends only on the header slots and gates, the directory of the committed header, and the frames
-/// that this names. Images that agree in these have the same header, directory and frames. So no write of another
-/// sector changes the saved state, even with a crash. The function does nothing: its contract is the law.
+/// The saved state depends only on the header slots and gates, the directory of the committed header, and the
+/// frames of objects. Images that agree in these have the same header, directory and frames. So no write of
+/// another sector changes the saved state, even with a crash. The function does nothing: its contract is the
+/// law.
 pub fn saved_is_read_from_its_sectors()
     ensures header { SameHeader }
     ensures directory { SameDirectory }
@@ -17,9 +18,9 @@ pub fn saved_is_read_from_its_sectors()
     ensures saved { SameSaved }
 {}
 
-/// The slots and the directory of a generation lie in its half of the log and apart from one another. A frame lies in
-/// its slot. The halves lie after the headers, before the end, and apart. So writes for the next generation touch no
-/// sector of the last one. The function does nothing: its contract is the law.
+/// The slots and the directory of a generation lie in its half of the log, and don't overlap. A frame lies in
+/// its slot. The halves lie after the headers and before the end, and don't overlap. So writes for the next
+/// generation change no sector of the last one. The function does nothing: its contract is the law.
 #[tactic(auto, using(crate::proofs::Places::place_laws))]
 pub fn keep_halves_apart()
     ensures slots { SlotsAreInside }
@@ -38,9 +39,9 @@ pub fn what_is_written_is_read()
     ensures directories { DirectoriesAreReadBack }
 {}
 
-/// The bytes of a header have its sequence number, so `publish` may follow the committed header with the next number.
-/// A write of a header's slot changes neither the superblock nor the frames and directories after the headers. The
-/// function does nothing: its contract is the law.
+/// The sequence number is read back from a header's bytes, so `publish` may follow the committed header with
+/// the next number. A write of a header slot changes neither the superblock nor the frames and directories
+/// after the headers. The function does nothing: its contract is the law.
 #[tactic(auto, using(crate::proofs::Places::header_laws))]
 pub fn headers_spare_the_rest()
     ensures sequences { SequencesAreReported }

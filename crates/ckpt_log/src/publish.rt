@@ -28,7 +28,7 @@ pub(crate) fn close_gate<D: Device>(device: &mut D, at: u64) -> Result<(), Faile
     ensures closed_before { is_open ((D.disk device.old).seen at) ≡ false
         → Agrees (D.disk device.new).seen (D.disk device.old).seen }
 
-    // A crash at any moment leaves every other sector as it was, and also this one if the gate was closed.
+    // A crash at any moment leaves every other sector unchanged, and this one too if its gate was closed.
     ensures any_moment { LeavesOnly (D.disk device.old) (D.disk device.new)
         (λ c. Elsewhere at 1 (D.disk device.old).seen c
         × (is_open ((D.disk device.old).seen at) ≡ false → Agrees c (D.disk device.old).seen)) }
@@ -68,8 +68,8 @@ fn prepare<D: Device>(device: &mut D, header: CheckpointHeader) -> Result<(), Fa
     put_sector(device, slot.header(), &bytes)
 }
 
-// Opens the gate of a header that is written and durable. A crash at any moment leaves the old header committed, or
-// the new one.
+// Opens the gate of a header that is written and durable. A crash at any moment leaves the old or the new
+// header committed.
 #[tactic(auto, using(crate::proofs::Commits::gate_is, crate::proofs::Commits::opened_new))]
 fn open_gate<D: Device>(device: &mut D, header: CheckpointHeader) -> Result<(), Failed>
     requires inside { 5 ≤ (D.disk device.old).sectors }
@@ -127,13 +127,12 @@ impl<'a> Log<'a> {
         ensures elsewhere { Elsewhere (header_sector header) 2
             (D.disk device.old).seen (D.disk device.new).seen }
 
-        // A crash at any moment leaves the old header committed, or this one. If it leaves this one, it also leaves
-        // all that was written before the call.
+        // A crash at any moment leaves the old header committed, or this one. If this one, it also leaves all
+        // that was written before the call.
         ensures any_moment { LeavesOnly (D.disk device.old) (D.disk device.new)
             (λ c. IsOld header (D.disk device.old) c ⊎ HasNew header (D.disk device.old).seen c) }
 
-        // At each moment the slot has the old header, or a gate that was closed before the header was touched, or the
-        // new header.
+        // At each moment the slot has the old header, or a gate that was closed first, or the new header.
         ensures in_order { LeavesOnly (D.disk device.old) (D.disk device.new)
             (λ c. IsInOrderAfter header (D.disk device.old) c) }
         ensures cause { Counts (D.disk device.old) (D.disk device.new) result }

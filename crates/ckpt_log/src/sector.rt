@@ -33,7 +33,7 @@ pub(crate) fn put_sector<D: Device>(device: &mut D, at: u64, bytes: &[u8]) -> Re
     ensures size { (D.disk device.new).sectors ≡ (D.disk device.old).sectors }
     ensures elsewhere { Elsewhere at 1 (D.disk device.old).seen (D.disk device.new).seen }
 
-    // A crash at any moment leaves every other sector as it was.
+    // A crash at any moment leaves every other sector unchanged.
     ensures any_moment { LeavesOnly (D.disk device.old) (D.disk device.new)
         (λ c. Elsewhere at 1 (D.disk device.old).seen c) }
     ensures cause { Counts (D.disk device.old) (D.disk device.new) result }

@@ -48,8 +48,8 @@ impl<'a> Log<'a> {
         read_frame(device, at, shape, self.geometry(), number, age, scratch)
     }
 
-    /// Writes the frame of an object into a slot of the half of a generation. All bytes beside the frame in its block
-    /// become 0. All other sectors keep their bytes, and a crash may leave nothing new in them.
+    /// Writes the frame of an object into a slot of the half of a generation. All other bytes of its block
+    /// become 0. All other sectors keep their bytes, and what a crash may leave in them doesn't change.
     ///
     /// Returns `Failed` exactly if the device failed; then the sectors of the shape may hold any bytes.
     pub fn write_slot<D: Device>(
@@ -79,8 +79,8 @@ impl<'a> Log<'a> {
         write_frame(device, at, shape, self.geometry(), number, header, content)
     }
 
-    /// Writes the frame of a page with these words into a slot of the half of a generation. All other sectors keep
-    /// their bytes, and a crash may leave nothing new in them.
+    /// Writes the frame of a page with these words into a slot of the half of a generation. All other sectors
+    /// keep their bytes, and what a crash may leave in them doesn't change.
     ///
     /// Returns `Failed` exactly if the device failed; then the 9 sectors may hold any bytes.
     pub fn write_page<D: Device>(

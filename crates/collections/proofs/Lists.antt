@@ -1,4 +1,4 @@
--- The item at a place of a list, after changes of the list.
+-- Lists: the item at an index after a change, and counts of items.
 use Rattle.std.proofs.lemmas.Bool.Decides.{nat_tests}
 use Rattle.std.proofs.Common.{ℕ, zero, suc, Bool, true, false, List, [], length, map, set, get_or, Some, refl, ap, arith}
 use Rattle.std.proofs.Common.{length-set}
@@ -34,7 +34,7 @@ module _ {X : Type 0} where
   get_some (x ∷ xs) zero within = (x, refl)
   get_some (x ∷ xs) (suc k) within = get_some xs k (omega (arith, within))
 
-  -- two lists that differ at one place at most
+  -- a list that has v at index n, and agrees with xs at every other index, is xs with n set to v
   pub changed_once : (xs ys : List X) (n : ℕ) (d v : X) → length ys ≡ length xs → n < length xs → get_or ys n d ≡ v →
       ((m : ℕ) → m ≢ n → get_or ys m d ≡ get_or xs m d) → ys ≡ set xs n v
   changed_once [] ys n d v size within here others = absurd (omega (arith, within))
@@ -54,7 +54,7 @@ module _ {X : Type 0} where
       ∙ ap (λ (zs : List X). x ∷ zs) (changed_once xs ys n d v (omega (arith, size)) (omega (arith, within)) here
       (λ m other. others (suc m) (λ same. other (omega (arith, same)))))
 
-  -- an item that isn't counted is replaced by one that is
+  -- replacing an item that isn't counted by one that is raises the count by one
   pub one_counted : (p : X → Bool) (xs : List X) (n : ℕ) (d y : X) → n < length xs → p (get_or xs n d) ≡ false → p y ≡ true →
       count_by p (set xs n y) ≡ count_by p xs + 1
   one_counted p xs n d y within was is = grind (arith, nat_tests, sum_by-set)
@@ -69,6 +69,6 @@ module _ {X : Type 0} where
     length-set xs n y,
   )
 
--- reading from a mapped list, if the map takes the default to the default
+-- an item of a mapped list is the mapped item, if the map takes the default to the default
 pub get_map : {X Y : Type 0} (f : X → Y) (xs : List X) (k : ℕ) (d : X) (e : Y) → f d ≡ e → get_or (map f xs) k e ≡ f (get_or xs k d)
 get_map f xs k d e is = grind (arith, nat_tests, get_or-map, get_or_past, length-map)

@@ -1,4 +1,4 @@
--- The marks of numbers, and the bits that they are kept in.
+-- The marks of numbers, and the bits that store them.
 use Rattle.std.proofs.lemmas.Bool.Decides.{nat_tests}
 use Rattle.std.proofs.Common.{◌≡◌, ◌≢◌, ℕ, ◌+◌, ◌-◌, ◌*◌, ◌/◌, ◌%◌, ◌^◌, ◌<◌, ◌≤◌, min, Bool, true, false, not, Option, Some, None, IfSome, List, []}
 use Rattle.std.proofs.Common.{◌++◌, length, get_or, set, take, replicate, slice_index, slice_set, nat_eq, bit_and, bit_or, w64, sym, ap, ◌∙◌, inl, inr}
@@ -22,22 +22,22 @@ digit_one b = grind (arith, nat_tests)
 digit_of_bit : (d : ℕ) → d < 2 → digit (nat_eq d 1) ≡ d
 digit_of_bit d small = grind (arith, nat_tests)
 
--- the digit of a word's test for not being 0
+-- for each n, the digit of whether n isn't 0 is the lesser of 1 and n
 digit_some : (n : ℕ) → digit (not (nat_eq n 0)) ≡ min 1 n
 digit_some n = grind (arith, nat_tests, eqb-suc-zero)
 
 -- ---- the bits of one word
 
--- the bits of a word after its low bits were shifted out
+-- bit k of a word shifted right by `from` is bit from + k of the word
 bit_past : (word from k : ℕ) → bit_at (word / 2 ^ from) k ≡ bit_at word (from + k)
 bit_past word from k = ap (λ x. x % 2) (shr-shr word from k)
 
 module _ (word from : ℕ) where
-  -- past a word's last set bit all bits are 0
+  -- if a word shifted right by `from` is 0, all its bits from `from` on are 0
   pub none_from : word / 2 ^ from ≡ 0 → (other : ℕ) → from ≤ other → bit_at word other ≡ 0
   none_from rest other after = grind (arith, nat_tests, bit_past word from (other - from), bit_at-zero (other - from))
 
-  -- the lowest set bit of a word after its low bits were shifted out
+  -- the lowest set bit from `from` on: shift the word right, and count its trailing zeros
   pub lowest_from : word < 2 ^ 64 → (word / 2 ^ from ≡ 0 → ⊥) → IsLowestFrom word from (from + trailing_zeros w64 (word / 2 ^ from))
   lowest_from fits rest =
       let left = word / 2 ^ from in
@@ -68,12 +68,12 @@ module _ (word bit : ℕ) (set : Bool) (within : bit < 64) where
 -- ---- the bits of a list of words
 
 module _ (words : List ℕ) where
-  -- a number's bit in the word that it is in
+  -- the bit of number 64 w + i is bit i of word w
   bit_in_word : (w i : ℕ) → i < 64 → bit_of words (w * 64 + i) ≡ bit_at (slice_index words w) i
   unfolding bit_of
   bit_in_word w i within = grind (arith, nat_tests)
 
-  -- reading a number's bit
+  -- the bit of number n is read by a shift and a mask
   pub read_bit : (n : ℕ) → bit_of words n ≡ digit (nat_eq (bit_and (slice_index words (n / 64) / 2 ^ (n % 64)) 1) 1)
   unfolding bit_of
   read_bit n = grind (arith, nat_tests, shr_and_one, digit_of_bit, bit_at-lt)
@@ -91,7 +91,7 @@ module _ (words : List ℕ) where
   pub none_past_all : (from w : ℕ) → length words ≤ w → ((m : ℕ) → from ≤ m → m < w * 64 → bit_of words m ≡ 0) → HasNoneSet words from
   none_past_all from w past_all before m past = grind (arith, nat_tests, bit_of_zero, get_or_past)
 
-  -- the first set bit of a word is the first of all, if no word before it has one
+  -- if no bit from `from` up to word w is set, the first set bit in word w is the first one from `from` on
   pub first_by_word : (from w low bit : ℕ) → low ≡ from - w * 64 → from / 64 ≤ w → ((m : ℕ) → from ≤ m → m < w * 64 → bit_of words m ≡ 0) →
       IsLowestFrom (slice_index words w) low bit → IsFirstSet words from (w * 64 + bit)
   first_by_word from w low bit is_low after before lowest = record {
@@ -107,13 +107,13 @@ module _ (words : List ℕ) where
         ];
   }
 
-  -- if a word has no set bit, the search goes on with the next word
+  -- if no number before a word, nor in it, has a set bit, none before the next word has one
   pub none_by_word : (from w low : ℕ) → low ≡ from - w * 64 → from / 64 ≤ w → ((m : ℕ) → from ≤ m → m < w * 64 → bit_of words m ≡ 0) →
       ((other : ℕ) → low ≤ other → other < 64 → bit_at (slice_index words w) other ≡ 0) → (m : ℕ) → from ≤ m → m < (w + 1) * 64 →
       bit_of words m ≡ 0
   none_by_word from w low is_low after before none m past within = grind (arith, nat_tests, bit_in_word w (m - w * 64) (omega arith))
 
-  -- a word is replaced by one with the same bits except one
+  -- replacing a word by one that differs only in the bit of n sets the bit of n, and no other
   pub bit_put : (n word bit : ℕ) → n / 64 < length words → bit_at word (n % 64) ≡ bit →
       ((other : ℕ) → other < 64 → other ≢ n % 64 → bit_at word other ≡ bit_at (slice_index words (n / 64)) other) →
       IsBitPut words n bit (slice_set words (n / 64) word)
@@ -129,15 +129,15 @@ flipped_one word i fits within one = omega (arith, bit_at_not w64 word i fits wi
 
 module _ (words : List ℕ) (from w low : ℕ) (fits : slice_index words w < 2 ^ 64) (is_low : low ≡ from - w * 64) (after : from / 64 ≤ w)
     (before : (m : ℕ) → from ≤ m → m < w * 64 → bit_of words m ≡ 1) where
-  -- a number's bit in this word
+  -- the bit of a number m in word w is bit m - 64 w of that word
   here_is : (m : ℕ) → w * 64 ≤ m → m < (w + 1) * 64 → bit_of words m ≡ bit_at (slice_index words w) (m - w * 64)
   here_is m past within = grind (arith, nat_tests, bit_in_word words w (m - w * 64) (omega arith))
 
-  -- the first clear bit of a word is the first of all, if no word before it has one
+  -- if no bit from `from` up to word w is clear, the first clear bit in word w is the first one from `from` on
   pub clear_by_word : (bit : ℕ) → IsLowestFrom (bit_not w64 (slice_index words w)) low bit → IsFirstClear words from (w * 64 + bit)
   clear_by_word bit lowest = grind (arith, nat_tests, bit_in_word, flipped_one, here_is, flipped_zero)
 
-  -- if a word has no clear bit, the search goes on with the next word
+  -- if a word has no clear bit from `low` on, all numbers from `from` to the word's end have the bit 1
   pub full_by_word : ((other : ℕ) → low ≤ other → other < 64 → bit_at (bit_not w64 (slice_index words w)) other ≡ 0)
       → (m : ℕ) → from ≤ m → m < (w + 1) * 64 → bit_of words m ≡ 1
   full_by_word none m past within = grind (arith, nat_tests, here_is, flipped_zero)
@@ -145,11 +145,11 @@ module _ (words : List ℕ) (from w low : ℕ) (fits : slice_index words w < 2 ^
 -- ---- words with a summary
 
 module _ (words summary : List ℕ) (summed : SumsUp words summary) where
-  -- a word whose bit in the summary is set is within the words
+  -- if bit w of the summary is set, word w exists
   later_within : (w : ℕ) → bit_of summary w ≡ 1 → w < length words
   later_within w is_set = grind (arith, nat_tests, get_or_past)
 
-  -- the number of this word's lowest bit fits a machine number
+  -- the number of the lowest set bit of a word is below 2^64
   pub later_fits : (later : ℕ) → 64 * length words ≤ 2 ^ 64 → bit_of summary later ≡ 1 → slice_index words later < 2 ^ 64 →
       later * 64 + trailing_zeros w64 (slice_index words later) < 2 ^ 64
   later_fits later few is_set fits =
@@ -158,11 +158,11 @@ module _ (words summary : List ℕ) (summed : SumsUp words summary) where
       omega (arith, later_within later is_set, lowest.0)
 
   module _ (from : ℕ) (none : (other : ℕ) → from % 64 ≤ other → other < 64 → bit_at (slice_index words (from / 64)) other ≡ 0) where
-    -- the word of a number has no set bit from the number on
+    -- no number from `from` to the end of its word has the bit 1
     none_here : (m : ℕ) → from ≤ m → m < (from / 64 + 1) * 64 → bit_of words m ≡ 0
     none_here = none_by_word words from (from / 64) (from % 64) (omega arith) (omega arith) (λ m past before. absurd (omega arith)) none
 
-    -- the first set bit of the first later word that is not 0 is the first of all
+    -- the lowest set bit of the first later word that isn't 0 is the first set bit from `from` on
     pub first_later : (later : ℕ) → IsFirstSet summary (from / 64 + 1) later → slice_index words later < 2 ^ 64 →
         IsFirstSet words from (later * 64 + trailing_zeros w64 (slice_index words later))
     first_later later first fits =
@@ -176,7 +176,7 @@ module _ (words summary : List ℕ) (summed : SumsUp words summary) where
         first_by_word words from later 0 _ (omega (arith, first.past)) (omega (arith, first.past)) before
         (record { past = omega arith; inside = lowest.0; set = lowest.1; least = λ other _ lower. lowest.2 other lower })
 
-    -- no bit is set if all later words are 0
+    -- if all later words are 0, no bit is set from `from` on
     pub none_later : HasNoneSet summary (from / 64 + 1) → HasNoneSet words from
     none_later none_summed m past = grind (arith, nat_tests, none_here, bit_of_zero)
 
@@ -199,7 +199,7 @@ module _ (count : ℕ) (words : List ℕ) where
   unfolding marks_of
   same_marks marks long each = fill_by_all (λ k. nat_eq (bit_of words k) 1) marks count false long each
 
-  -- a number's mark is its bit as it was read
+  -- if the bit of n was read as b, the mark of n is b
   mark_is : (n : ℕ) (b : Bool) → n < count → bit_of words n ≡ digit b → b ≡ is_marked (marks_of count words) n
   mark_is n b within is_bit = sym (mark_within n within ∙ ap (λ d. nat_eq d 1) is_bit ∙ digit_one b)
 
@@ -229,7 +229,7 @@ module _ (count : ℕ) (words : List ℕ) where
       least = λ m past before. marked m (omega (arith, within, before)) (first.least m past before);
     }
 
--- the marks after one bit of the words was set or cleared
+-- setting or clearing the bit of n sets or clears the mark of n
 marks_put : (count n : ℕ) (b : Bool) (words new : List ℕ) → IsBitPut words n (digit b) new →
     marks_of count new ≡ slice_set (marks_of count words) n b
 marks_put count n b words new put =
@@ -242,19 +242,19 @@ marks_put count n b words new put =
           sym (ap (λ d. nat_eq d 1) (put.others m differs))
     ]))
 
--- ---- the methods: what is seen of the words, and what is known of them
+-- ---- facts for the methods of a set: its marks, from its words and their summary
 
 module _ (count : ℕ) (words summary : List ℕ) (sums : IsSummed count words summary) (marks : List Bool)
     (is_marks : marks_of count words ≡ marks) where
   count_is : length marks ≡ count
   count_is = sym (ap length is_marks) ∙ length_marks count words
 
-  -- the number of marks fits a machine number
+  -- the number of marks is below 2^64
   pub few_marks : length marks < 2 ^ 64
   few_marks = omega (arith, count_is, sums.fits)
 
   module _ (seen : List ℕ) (is_seen : seen ≡ words) where
-    -- a number is in a word
+    -- each number has a word
     pub has_word : (n : ℕ) → n < length marks → n / 64 < length seen
     has_word n within = omega (arith, count_is, ap length is_seen, sums.words_each)
 
@@ -308,7 +308,7 @@ module _ (count : ℕ) (words summary : List ℕ) (sums : IsSummed count words s
 zeros : (k i : ℕ) → slice_index (replicate k 0) i ≡ 0
 zeros k i = grind (arith, nat_tests, get_or-replicate, get_or_past, length-replicate)
 
--- a list that was extended from an empty one
+-- an empty list, extended by zeros to length k, is k zeros
 pub fresh : (k n : ℕ) (none zeros : List ℕ) → none ≡ [] → n ≡ 0 → zeros ≡ take k none ++ replicate (k - n) 0 → zeros ≡ replicate k 0
 fresh k n none zeros is_none is_zero made = grind (arith, nat_tests, take_all)
 
@@ -322,7 +322,7 @@ module _ (count k : ℕ) (words : List ℕ) (are_zero : words ≡ replicate k 0)
   no_marks = sym (same_marks count words (replicate count false) (length-replicate count false)
       (λ n within. get_or-replicate count n false false within ∙ sym (ap (λ d. nat_eq d 1) (none_set n (omega arith)))))
 
-  -- a summary of zeros is right for words of zeros
+  -- a summary of zeros is right for words that are all zeros
   pub zeros_summed : (l : ℕ) (summary : List ℕ) → count < 2 ^ 64 → summary ≡ replicate l 0 → k ≡ div_ceil count 64 → l ≡ div_ceil k 64 →
       IsSummed count words summary
   zeros_summed l summary fits summary_zero is_k is_l = grind (arith, nat_tests, length-replicate, none_set, bit_of_zero, zeros)

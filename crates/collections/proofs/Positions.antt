@@ -109,7 +109,7 @@ module _ {X : Type 0} where
           still : (m : ℕ) → m ≢ k → position after m ≡ position at m
           still m other = get_or-set_other at k m (length items) (length after) other ∙ ap (get_or at m) same_length
 
-          -- the position of another place is that of an item, or past all places
+          -- no other place has the new item's position
           elsewhere : (m : ℕ) → m ≢ k → position after m ≢ length items
           elsewhere m other same = omega (arith, is.known m (omega (arith, still m other, same, room)), still m other, same)
 
@@ -143,6 +143,6 @@ module _ (n : ℕ) (at : List ℕ) (at_is : at ≡ replicate n n) where
       go zero = refl
       go (suc k) = ap (λ (os : List (Option X)). None ∷ os) (go k)
 
--- a vector that was filled from an empty one
+-- an empty vector, extended to n items of value d, holds d n times
 pub filled : (n d k : ℕ) (xs at : List ℕ) → at ≡ take n xs ++ replicate (n - k) d → xs ≡ [] → k ≡ 0 → at ≡ replicate n d
 filled n d k xs at is none zero_is = grind (arith, nat_tests, take_all)

@@ -1,4 +1,4 @@
--- How a set of numbers is kept: bits in words of 64, and a summary of the words. No public clause cites this.
+-- How a set of numbers is stored: bits in words of 64, and a summary of the words. No public clause cites this.
 use Rattle.std.specs.Prelude.{◌≡◌, ◌≢◌, ℕ, ◌*◌, ◌/◌, ◌%◌, ◌^◌, ◌<◌, ◌≤◌, min, Bool, true, false, List, length, map}
 use Rattle.std.specs.Prelude.{nat_eq, slice_index}
 use Rattle.std.specs.Int.{bit_at, div_ceil}

@@ -73,8 +73,8 @@ fn first_set(words: &[u64], from: usize) -> Option<usize>
     None
 }
 
-/// Returns the least number that isn't below `from` and whose bit is set, or `None`. Uses a summary, in which the
-/// bits of the words that aren't 0 are set.
+/// Returns the least number that isn't below `from` and whose bit is set, or `None`. Bit w of `summary` is
+/// set if word w isn't 0, so words of 0 are skipped.
 #[tactic(auto, using(crate::proofs::Marks::none_past_words, crate::proofs::Marks::later_fits))]
 pub(crate) fn first_summed(words: &[u64], summary: &[u64], from: usize) -> Option<usize>
     requires few { 64 * length words.now ≤ 2 ^ 64 }

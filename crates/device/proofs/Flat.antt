@@ -1,4 +1,4 @@
--- Sectors kept in one list of bytes.
+-- Sectors stored in one list of bytes.
 use Rattle.std.proofs.Common.{◌≡◌, ◌<◌, ◌≤◌, ℕ, ◌+◌, ◌*◌, ◌-◌, ◌%◌, List, [], ◌++◌, length, take, drop, replicate, sym, ◌∙◌, ap, subst, arith, length-drop}
 use Rattle.std.proofs.Common.{take-append-drop}
 use Rattle.std.proofs.lemmas.List.{drop-append-le, take-append-le, take_all, drop_all, length-take-le, drop-take, drop-drop, take-take, drop-replicate}
@@ -8,13 +8,13 @@ use Rattle.std.proofs.Math.Seq.{drop-append-add}
 use borrow.Rule.Slice.PartMut.{put_mid}
 use Rattle.device.specs.Calls.{image_of, sectors_of, AreSectors, Elsewhere}
 
--- a sector that lies in the front of a list
+-- a sector that lies within the list xs is the same in xs ++ ys
 front : (xs ys : List ℕ) (i : ℕ) → 512 * i + 512 ≤ length xs → image_of (xs ++ ys) i ≡ image_of xs i
 front xs ys i inside =
     ap (λ (rest : List ℕ). take 512 rest) (drop-append-le (512 * i) xs ys (omega (arith, inside)))
     ∙ take-append-le 512 (drop (512 * i) xs) ys (omega (arith, inside, length-drop (512 * i) xs))
 
--- a sector after the front of a list
+-- if xs fills `at` sectors, sector at + i of xs ++ ys is sector i of ys
 behind : (xs ys : List ℕ) (at i : ℕ) → length xs ≡ 512 * at → image_of (xs ++ ys) (at + i) ≡ image_of ys i
 behind xs ys at i size =
     let place : 512 * (at + i) ≡ length xs + 512 * i = omega (arith, size) in
@@ -38,7 +38,7 @@ module _ (bytes from : List ℕ) (at n : ℕ) (size : length from ≡ 512 * n) (
       let length_front : length (take (512 * at) bytes) ≡ 512 * at = length-take-le (512 * at) bytes (omega (arith, inside)) in
       sym (behind (take (512 * at) bytes) _ at i length_front ∙ front from _ i (omega (arith, size, lt)))
 
--- the same with the lengths and places in the form that the code has
+-- the same, with lengths and positions as the code computes them
 module _ (bytes from now : List ℕ) (at a k : ℕ) (same : now ≡ from) (a_is : a ≡ 512 * at) (k_is : k ≡ length from)
     (whole : length from % 512 ≡ 0)
     (inside : 512 * (at + sectors_of from) ≤ length bytes) where
@@ -61,14 +61,14 @@ module _ (bytes from now : List ℕ) (at a k : ℕ) (same : now ≡ from) (a_is 
     after = put_after bytes from at (sectors_of from) size inside;
   })
 
--- a vector after a write through a slice of all of it
+-- if a vector is overwritten through a slice of all of it, it holds the new bytes
 pub rewritten : (n : ℕ) (new old : List ℕ) → n ≡ length old → length new ≡ length old → take n (new ++ drop (length new) old) ≡ new
 rewritten n new old n_is same =
     ap (λ (l : List ℕ). take n (new ++ l)) (drop_all (length new) old (omega (arith, same)))
     ∙ take-append-le n new [] (omega (arith, same, n_is))
     ∙ take_all n new (omega (arith, same, n_is))
 
--- the bytes that are read from a part of the list, in the form that the code has
+-- bytes that were read from part of the list are its sectors from `at` on, with lengths as the code computes them
 pub got_inside : (bytes got : List ℕ) (at a k : ℕ) → got ≡ take k (drop a bytes) → a ≡ 512 * at → k ≡ length got → length got % 512 ≡ 0 →
     512 * (at + sectors_of got) ≤ length bytes
     → (i : ℕ) → i < sectors_of got → image_of got i ≡ image_of bytes (at + i)
@@ -83,7 +83,7 @@ got_inside bytes got at a k is a_is k_is whole inside i lt =
     ∙ ap (λ (l : List ℕ). take 512 l) (drop-drop (512 * i) a bytes)
     ∙ ap (λ (n : ℕ). take 512 (drop n bytes)) (omega (arith, place))
 
--- a sector of zeros alone
+-- each sector of a list of zeros is 512 zeros
 pub zeros_are : (bytes : List ℕ) (n sectors i : ℕ) → bytes ≡ replicate n 0 → n ≡ 512 * sectors → i < sectors →
     image_of bytes i ≡ replicate 512 0
 zeros_are bytes n sectors i is n_is lt =

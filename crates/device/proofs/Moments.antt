@@ -1,4 +1,4 @@
--- Runs of device calls, one after another.
+-- What a crash may have left in a run of device calls.
 use Rattle.std.proofs.Common.{◌⊎◌, ◌≡◌, ◌<◌, ◌≤◌, ℕ, inl, inr, ⊎_elim, refl, arith, true, false, Result, Ok, Err, sym, subst}
 use Rattle.std.proofs.lemmas.Bool.{cases_lt}
 use Rattle.device.specs.Disk.{Image, Disk}
@@ -14,7 +14,7 @@ CountsNow disk = (t : ℕ) (c : Image) → t ≤ disk.moment → disk.may_leave 
 abbrev pub OnlyNow : Disk → Type 0
 OnlyNow disk = (c : Image) → disk.left_since disk.moment c → disk.may_leave c
 
--- a run without calls
+-- without a call, a crash leaves only images with P if it now leaves only such
 pub started : (disk : Disk) (P : Image → Type 0) → OnlyNow disk → ((c : Image) → disk.may_leave c → P c) → LeavesOnly disk disk P
 started disk P only_now here = record {
   later = omega arith;
@@ -23,7 +23,7 @@ started disk P only_now here = record {
   keeps = λ t c le left. left;
 }
 
--- a run with one more call, after which a crash leaves only images with P
+-- if a crash after one more call leaves only images with P, the longer run leaves only images with P
 pub goes_on : {old mid new : Disk} {P : Image → Type 0} → LeavesOnly old mid P → Elapses mid new → ((c : Image) → new.may_leave c → P c) →
     LeavesOnly old new P
 goes_on {old} {mid} {new} {P} so_far time here = record {
@@ -34,7 +34,7 @@ goes_on {old} {mid} {new} {P} so_far time here = record {
   keeps = λ t c le left. time.keeps t c (omega (arith, le, so_far.later)) (so_far.keeps t c le left);
 }
 
--- the same run, with a weaker statement
+-- a run that leaves only images with P leaves only images with Q, if P implies Q
 pub leaves_weaker : {old new : Disk} {P : Image → Type 0} (Q : Image → Type 0) → ((c : Image) → P c → Q c) → LeavesOnly old new P →
     LeavesOnly old new Q
 leaves_weaker Q weaker run = record {
@@ -44,7 +44,7 @@ leaves_weaker Q weaker run = record {
   keeps = run.keeps;
 }
 
--- two runs, one after the other
+-- if each of two runs in a row leaves only images with P, so do both together
 pub leaves_on : {old mid new : Disk} {P : Image → Type 0} → LeavesOnly old mid P → LeavesOnly mid new P → LeavesOnly old new P
 leaves_on {old} {mid} {new} {P} first second = record {
   later = omega (arith, first.later, second.later);
@@ -57,30 +57,30 @@ leaves_on {old} {mid} {new} {P} first second = record {
 pub ends : {old new : Disk} {P : Image → Type 0} → LeavesOnly old new P → CountsNow new → (c : Image) → new.may_leave c → P c
 ends {old} {new} run counts_now c left = run.each c (counts_now old.moment c run.later left)
 
--- a call more after which a crash leaves nothing new, as a read or a sync
+-- a call after which a crash leaves nothing new, such as a read or a sync, may be added to a run
 pub narrowed : {old mid new : Disk} {P : Image → Type 0} → LeavesOnly old mid P → CountsNow mid → Elapses mid new → Narrows mid new →
     LeavesOnly old new P
 narrowed {old} {mid} {new} {P} so_far counts_now time narrows = goes_on {old = old} {mid = mid} {new = new} {P = P} so_far time
     (λ c left. ends so_far counts_now c (narrows c left))
 
--- a run with a power cut at the end: it leaves an image that a crash could have left before
+-- a power cut may be added to a run: it leaves an image that a crash could have left before
 pub goes_on_cut : {old mid new : Disk} {P : Image → Type 0} → LeavesOnly old mid P → CountsNow mid → Elapses mid new →
     mid.may_leave new.seen → Only new.seen new → LeavesOnly old new P
 goes_on_cut {old} {mid} {new} {P} so_far counts_now time left only =
     goes_on {old = old} {mid = mid} {new = new} {P = P} so_far time
     (λ c now. subst P (sym (agrees_is c new.seen (only c now))) (ends so_far counts_now new.seen left))
 
--- a run of reads and syncs without calls
+-- without a call, nothing was written
 pub peeks_started : (disk : Disk) → OnlyNow disk → Peeks disk disk
 peeks_started disk only_now = started disk disk.may_leave only_now (λ c left. left)
 
--- a call that succeeds leaves the count of failures
+-- a call that succeeds doesn't change the count of failures
 pub counted_ok : {T E : Type 0} {old new : Disk} {value : T} → Counts {T = T} {E = E} old new (Ok value) → new.failures ≡ old.failures
 counted_ok {old = old} {new = new} counts =
     ⊎_elim (λ rose. let never : false ≡ true = counts.cause.1 rose in cc) (λ le. omega (arith, le, counts.never_falls))
     (cases_lt old.failures new.failures)
 
--- the failures of a run in which only the last call may have failed
+-- if the earlier calls of a run don't raise the count of failures, it rises exactly if the last call fails
 pub counts_on : {T E : Type 0} {old mid new : Disk} {result : Result T E} → mid.failures ≡ old.failures → Counts mid new result →
     Counts old new result
 counts_on {old = old} {mid = mid} {new = new} same counts = record {

@@ -1,4 +1,4 @@
--- What one call does to a device.
+-- What one call does to a device: which sectors change, and what a crash may leave afterwards.
 use Rattle.std.specs.Prelude.{◌≡◌, ◌<◌, ◌≤◌, ◌↔◌, ℕ, ◌+◌, ◌*◌, ◌/◌, Bool, true, false, List, length, take, drop, Result}
 use Rattle.std.specs.Prelude.{IsErr}
 use Rattle.device.specs.Disk.{Image, Disk}

@@ -1,4 +1,4 @@
--- A device as its users see it: what a read gives, and what a crash may leave.
+-- A device, described by what a read gives and what a crash may leave.
 use Rattle.std.specs.Prelude.{◌≡◌, ◌<◌, ◌≤◌, ℕ, List, [], length, All}
 
 -- the bytes of each sector, by the sector's number
@@ -11,7 +11,7 @@ pub record IsWhole (count : ℕ) (image : Image) : Type 0 where
   pub bytes : (i : ℕ) → All (λ b. b < 256) (image i)
   pub nothing_beyond : (i : ℕ) → count ≤ i → image i ≡ []
 
--- what is known of a device at one moment
+-- a device at one moment
 pub record Disk : Type 1 where
   pub sectors : ℕ  -- how many there are
   pub seen : Image  -- what a read gives

@@ -2,7 +2,8 @@
 use Rattle.std.specs.Prelude.{◌≤◌, ◌⊎◌, ℕ}
 use Rattle.device.specs.Disk.{Image, Disk}
 
--- Time goes on: a crash since t might have left what was known before, or what a crash may leave now.
+-- Time goes on: an image that a crash since t may have left was one already at `old`, or is one that a crash now may
+-- leave.
 pub record Elapses (old new : Disk) : Type 0 where
   pub later : old.moment ≤ new.moment
   pub nothing_else : (t : ℕ) (c : Image) → t ≤ old.moment → new.left_since t c → old.left_since t c ⊎ new.may_leave c
@@ -12,7 +13,7 @@ pub record Elapses (old new : Disk) : Type 0 where
 pub record LeavesOnly (old new : Disk) (P : Image → Type 0) : Type 0 where
   pub later : old.moment ≤ new.moment
   pub each : (c : Image) → new.left_since old.moment c → P c
-  -- since an earlier moment t, a crash might have left no new image without P
+  -- each image that a crash since an earlier moment t may have left was possible before, or has P
   pub before : (t : ℕ) (c : Image) → t ≤ old.moment → new.left_since t c → old.left_since t c ⊎ P c
   pub keeps : (t : ℕ) (c : Image) → t ≤ old.moment → old.left_since t c → new.left_since t c
 

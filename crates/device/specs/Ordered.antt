@@ -1,4 +1,4 @@
--- Two runs of sectors. The second is written once the first is durable.
+-- Two runs of sectors. The second is written after the first is durable.
 use Rattle.std.specs.Prelude.{◌⊎◌, ℕ, List}
 use Rattle.device.specs.Disk.{Image}
 use Rattle.device.specs.Calls.{sectors_of, AreSectors, Elsewhere}
@@ -8,7 +8,7 @@ pub record IsWrittenAt (at : ℕ) (bytes : List ℕ) (old new : Image) : Type 0 
   pub whole : AreSectors new at bytes
   pub elsewhere : Elsewhere at (sectors_of bytes) old new
 
--- either the first run is old or torn, and nothing else is touched; or it is whole, and the second may be torn
+-- the first run is as before or torn, and no other sector differs; or it is whole, and the second may be torn
 abbrev pub IsInOrder : ℕ → List ℕ → ℕ → List ℕ → Image → Image → Type 0
 IsInOrder at first next second old c =
     Elsewhere at (sectors_of first) old c

@@ -1,5 +1,4 @@
-//! A device of sectors, as everything above it sees one: what a read gives, what a crash may leave,
-//! and when a call fails.
+//! The trait of devices made of sectors: what a read gives, what a crash may leave, and when a call fails.
 #![tactic(auto)]
 
 mod device;

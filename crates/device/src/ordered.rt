@@ -1,4 +1,4 @@
-// Writes, each durable before the next begins, over any device.
+// Writes that are durable before the next begins, over any device.
 ghost use Rattle.std.specs.Prelude.{◌≡◌, ◌≤◌, ◌+◌, ◌%◌, length, OnOk};
 ghost use Rattle.device.specs.Disk.{Image};
 ghost use Rattle.device.specs.Calls.{Elsewhere, sectors_of, AreSectors, Only, Counts};
@@ -19,7 +19,7 @@ pub fn write_durably<D: Device>(device: &mut D, at: u64, bytes: &[u8]) -> Result
     ensures durable { OnOk result (Only (D.disk device.new).seen (D.disk device.new)) }
     ensures size { (D.disk device.new).sectors ≡ (D.disk device.old).sectors }
 
-    // A crash at any moment leaves every other sector as it was.
+    // A crash at any moment leaves every other sector unchanged.
     ensures any_moment { LeavesOnly (D.disk device.old) (D.disk device.new)
         (λ c. Elsewhere at (sectors_of bytes.now) (D.disk device.old).seen c) }
     ensures cause { Counts (D.disk device.old) (D.disk device.new) result }
@@ -47,12 +47,12 @@ pub fn write_in_order<D: Device>(
     ensures second_written { OnOk result (AreSectors (D.disk device.new).seen next second.now) }
     ensures size { (D.disk device.new).sectors ≡ (D.disk device.old).sectors }
 
-    // After it a crash leaves the first run whole.
+    // A later crash leaves the first run whole.
     ensures first_durable { OnOk result
         ((c : Image) → (D.disk device.new).may_leave c → AreSectors c at first.now) }
 
-    // A crash at any moment leaves the first run old or torn and nothing else touched, or leaves it
-    // whole.
+    // A crash at any moment leaves the first run old or torn and all else unchanged, or it leaves the first
+    // run whole.
     ensures any_moment { LeavesOnly (D.disk device.old) (D.disk device.new)
         (λ c. IsInOrder at first.now next second.now (D.disk device.old).seen c) }
     ensures cause { Counts (D.disk device.old) (D.disk device.new) result }

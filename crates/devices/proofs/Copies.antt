@@ -1,4 +1,4 @@
--- Each call keeps the copy and the file in agreement.
+-- Each call preserves `IsCopy`: the copy has the file's sectors.
 use Rattle.devices.proofs.Names.{nat_tests, ℕ, List, [], length, All, Result, Ok, Err, OnOk, OnErr, refl, sym, ap, subst, arith, inl, ⊎_elim, cases_lt, Keep}
 use Rattle.devices.proofs.Names.{IsWhole, Elsewhere, AreSectors, sectors_of, image_of, Narrows, Tears, Only, Elapses, Event, cut, State, at_first, after}
 use Rattle.devices.proofs.Names.{MayLeave, disk_of, writes_of, image_whole, IsCopy, unwritten_same, synced}
@@ -8,7 +8,7 @@ use Rattle.std.proofs.Common.{◌≡◌, ◌<◌, ◌≤◌, ◌+◌, ◌-◌, �
 use Rattle.devices.proofs.Past.{elapses_one, elapses_still, replay-append, replay-one, written-durable}
 use Rattle.devices.proofs.Disks as Disks
 
--- a file to which nothing has been done
+-- `IsCopy` holds of a copy of the file's first content, before any event
 pub copy_fresh : (sectors : ℕ) (copy first : List ℕ) (events : List Event) → sectors ≤ 131072 → length copy ≡ 512 * sectors →
     All (λ b. b < 256) copy → first ≡ copy → events ≡ [] → IsCopy sectors copy first events
 copy_fresh sectors copy first events few size fits first_is events_is =
@@ -21,7 +21,7 @@ copy_fresh sectors copy first events few size fits first_is events_is =
       durable_whole = image_whole sectors copy size fits;
     }))
 
--- with no event, a crash leaves the first content
+-- without an event, a crash leaves only the first content
 pub fresh_only : (sectors : ℕ) (first : List ℕ) (events : List Event) (failures : ℕ) → events ≡ [] →
     Only (now_of first events).present (disk_of sectors (image_of first) events failures)
 fresh_only sectors first events failures is = grind (arith, nat_tests)

@@ -1,4 +1,4 @@
--- The calls of a file, one deed after another.
+-- What a file's calls add to its list of calls.
 use Rattle.devices.proofs.Names.{nat_tests, ℕ, List, [], Option, None, Some, Result, OnOk, is_ok, true, length, take, drop, sym, ap, subst, append_assoc}
 use Rattle.devices.proofs.Names.{append-nil, arith, length-append, length-take, length-take-le, ∥∥₁_map, take-add, take_rest, flat_map-append, concat-append, concat}
 use Rattle.devices.proofs.Names.{sectors_of, Event, writes_of, Adds, Call, took, Deed, writes, calls_of, events_by, taken, Takes, Tells, Bor, History, OnErr}
@@ -6,15 +6,15 @@ use Rattle.devices.proofs.Names.{false, refl, stepped, TakesFront, failures_by, 
 use Rattle.devices.specs.declared.history.Step.TheVariants.{Wrote}
 use Rattle.std.proofs.Common.{◌≡◌, ◌+◌, ◌-◌, ◌*◌, ◌≤◌, ◌∷◌, ◌++◌, ◌∙◌}
 
--- calls, and then more
+-- calls xs followed by calls ys add xs ++ ys
 pub adds_more : {X : Type 0} (a b c : Option (List X)) (xs ys : List X) → Adds a b xs → Adds b c ys → Adds a c (xs ++ ys)
 adds_more {X} a b c xs ys p q = grind (arith, nat_tests, append_assoc)
 
--- adding no calls
+-- without a call nothing is added
 pub adds_none : {X : Type 0} (a : Option (List X)) → Adds a a []
 adds_none {X} a = grind (arith, nat_tests, append-nil)
 
--- adding one piece
+-- a write of one more piece adds one call
 taken_one : (byte : ℕ) (ps : List (List ℕ)) (y : List ℕ) → taken byte (ps ++ y ∷ [])
     ≡ taken byte ps ++ took (byte + length (concat ps)) y ∷ []
 taken_one byte [] y = ap (λ (n : ℕ). took n y ∷ []) (omega arith)
@@ -36,7 +36,7 @@ takes_more byte a b c xs ys t adds =
           behind),
     )
 
--- a call took n bytes of the rest
+-- a call that takes n more bytes extends the bytes taken
 pub takes_on : (byte : ℕ) (a b c : Option (List Call)) (bytes : List ℕ) (i n : ℕ) → i ≤ length bytes → Takes byte a b (take i bytes)
     → Adds b c (took (byte + i) (take n (take (length bytes - i) (drop i bytes))) ∷ []) → Takes byte a c (take (i + n) bytes)
 takes_on byte a b c bytes i n within t adds =
@@ -45,18 +45,18 @@ takes_on byte a b c bytes i n within t adds =
     let adds' : Adds b c (took (byte + length (take i bytes)) (take n (drop i bytes)) ∷ []) = grind (arith, nat_tests) in
     subst (Takes byte a c) (sym (take-add i n bytes)) (takes_more byte a b c (take i bytes) (take n (drop i bytes)) t adds')
 
--- some of the bytes were taken
+-- if the first i bytes were taken, a prefix of the bytes was
 pub takes_front : (byte : ℕ) (a b : Option (List Call)) (bytes : List ℕ) (i : ℕ) → Takes byte a b (take i bytes) → TakesFront byte a b bytes
 takes_front byte a b bytes i t = (t.0, drop i bytes, ap (λ (l : List ℕ). l ++ drop i bytes) t.1 ∙ take-append-drop i bytes, t.2)
 
--- adding pieces
+-- the calls for two lists of pieces are those for the first, then those for the second
 taken_append : (byte : ℕ) (ps qs : List (List ℕ)) → taken byte (ps ++ qs) ≡ taken byte ps ++ taken (byte + length (concat ps)) qs
 taken_append byte [] qs = ap (λ (n : ℕ). taken n qs) (omega arith)
 taken_append byte (p ∷ ps) qs =
     ap (λ (l : List Call). took byte p ∷ l) (taken_append (byte + length p) ps qs
     ∙ ap (λ (n : ℕ). taken (byte + length p) ps ++ taken n qs) (omega (arith, length-append p (concat ps))))
 
--- some of the rest of the bytes was taken
+-- if the first i bytes and then a prefix of the rest were taken, a prefix of all was
 pub takes_then : (byte : ℕ) (a b c : Option (List Call)) (bytes : List ℕ) (i : ℕ) → i ≤ length bytes → Takes byte a b (take i bytes)
     → TakesFront (byte + i) b c (take (length bytes - i) (drop i bytes)) → TakesFront byte a c bytes
 takes_then byte a b c bytes i within t f =
@@ -70,20 +70,20 @@ takes_then byte a b c bytes i within t f =
           (adds_more a b c (taken byte t.0) (taken (byte + i) f.0) t.2 f.3),
     )
 
--- a call took none
+-- a call that takes no byte takes a prefix: the empty one
 pub takes_zero : (byte : ℕ) (a b : Option (List Call)) (bytes : List ℕ) → Adds a b (took byte (take 0 bytes) ∷ []) →
     TakesFront byte a b bytes
 takes_zero byte a b bytes adds = ([] ∷ [], bytes, refl, adds)
 
--- no call was made
+-- without a call a prefix is taken: the empty one
 pub takes_nothing : (byte : ℕ) (a : Option (List Call)) (bytes : List ℕ) → TakesFront byte a a bytes
 takes_nothing byte a bytes = ([], bytes, refl, adds_none a)
 
--- no call went well
+-- if no call succeeded, the empty prefix was taken
 pub takes_still : (byte : ℕ) (a b : Option (List Call)) (bytes : List ℕ) → b ≡ a → TakesFront byte a b bytes
 takes_still byte a b bytes same = subst (λ (o : Option (List Call)). TakesFront byte a o bytes) (sym same) (takes_nothing byte a bytes)
 
--- adding one deed
+-- one more deed adds its calls, its events and its failures
 tells_known : (events : List Event) (failures : ℕ) (old new : Option (List Call)) (d : Deed) → Tells events failures old →
     Adds old new (calls_of d) → Tells (events ++ events_by d) (failures + failures_by d) new
 tells_known events failures None None d tells adds = tt
@@ -107,13 +107,13 @@ tells_write events failures old new at bytes tells w =
     subst (λ (b : List ℕ). ∥ Tells (events ++ writes_of at (sectors_of b) b) (failures + 0) new ∥₁) w.1
     (tells_more events failures old new (writes at w.0) tells w.2)
 
--- a sync that failed
+-- a failed sync adds a failure and no call
 pub tells_failed_sync : (h : History) (old new : Option (List Call)) → ∥ Tells h.events h.failures old ∥₁ → new ≡ old
     → (let then = stepped h Failed in ∥ Tells then.events then.failures new ∥₁)
 tells_failed_sync h old new tells same =
     tells_more h.events h.failures old new fails_sync tells (subst (λ (o : Option (List Call)). Adds old o []) (sym same) (adds_none old))
 
--- a write that failed
+-- a failed write adds a failure, its events, and the calls of a prefix of its bytes
 pub tells_failed_write : (h : History) (old new : Option (List Call)) (at : ℕ) (bytes : Bor (List ℕ)) → ∥ Tells h.events h.failures old ∥₁
     → TakesFront (512 * at) old new bytes.now → (let then = stepped (stepped h (Wrote at bytes)) Failed in
     ∥ Tells then.events then.failures new ∥₁)

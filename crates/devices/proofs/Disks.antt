@@ -1,4 +1,4 @@
--- What the calls of a device with a record do to it, as its users see it.
+-- What the calls of a device with a record change: its image, and what a crash may leave.
 use Rattle.devices.proofs.Names.{nat_tests, ℕ, zero, suc, Bool, false, nat_lt, List, [], sym, ap, subst, arith, inr, ⊎_elim, append_assoc, lt-ltb, Outcome}
 use Rattle.devices.proofs.Names.{Image, Disk, IsWhole, Agrees, Elsewhere, AreSectors, sectors_of, image_of, Narrows, Tears, Only, Elapses, Event, wrote, synced}
 use Rattle.devices.proofs.Names.{cut, State, at_first, after, replay, left_by, MayLeave, disk_of, writes_of, IsQuiet, EndsCut, or_parts}
@@ -8,7 +8,7 @@ use Rattle.devices.proofs.Past.{replay-append, replay-one, elapses_still, elapse
 use Rattle.devices.proofs.Past.{written-present_inside, quiet-unsynced}
 use Rattle.devices.proofs.Keeps.{written-unsynced, names-entries_of}
 
--- time goes on through two calls, where the second takes nothing away that a crash might leave
+-- two calls in a row satisfy `Elapses` if each does, and after the second a crash may leave all that it may leave after the first
 elapses_on : {old mid new : Disk} → Elapses old mid → Elapses mid new → ((c : Image) → mid.may_leave c → new.may_leave c) → Elapses old new
 elapses_on {old} {mid} {new} first second grows = grind (arith, nat_tests)
 
@@ -16,7 +16,7 @@ module _ (sectors : ℕ) (first : Image) (past : List Event) where
   abbrev state : State
   state = replay (at_first first) past
 
-  -- a write of the first n sectors
+  -- time goes on through the events of a write
   pub elapses_writes : (at n : ℕ) (bytes : List ℕ) (failures risen : ℕ) →
       Elapses (disk_of sectors first past failures) (disk_of sectors first (past ++ writes_of at n bytes) risen)
   elapses_writes at zero bytes failures risen = grind (arith, nat_tests, append-nil, elapses_still)
@@ -54,7 +54,7 @@ module _ (sectors : ℕ) (first : Image) (past : List Event) where
         subst (λ (l : List Event). Elapses (disk_of sectors first past failures) (disk_of sectors first l risen)) (sym is)
         (elapses_writes at (sectors_of bytes) bytes failures risen)
 
-    -- for each image that may be left after the write, one that could have been left before it
+    -- for each image that may be left after the write, one that could have been left before: it differs only in the written sectors
     untorn : Image → Image
     untorn c i = if nat_lt i at then c i else (if nat_lt i (at + sectors_of bytes) then state.durable i else c i)
 

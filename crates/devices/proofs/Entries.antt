@@ -1,10 +1,10 @@
--- The record of what was done, and the events that it stands for.
+-- The record of a device, and its events.
 use Rattle.devices.proofs.Names.{nat_tests, ℕ, zero, suc, List, [], length, get_or, Option, Some, None, unwrap_or, refl, sym, ap, arith, inl, inr, ⊎_elim}
 use Rattle.devices.proofs.Names.{length-append, append_assoc, set, Outcome, Wrote, Synced, RecordEntry, image_of, Event, wrote, synced, cut, writes_of, IsQuiet}
 use Rattle.devices.proofs.Names.{EndsCut, event_of, mark_of, entry_events, events_of, entries_of, mark_after, marked}
 use Rattle.std.proofs.Common.{◌≡◌, ◌⊎◌, ◌+◌, ◌∷◌, ◌++◌, ◌∙◌}
 
--- a write over the last entry
+-- marking the last entry, in place, marks the list
 pub marked_set : (outcome : Outcome) (es : List RecordEntry) (k : ℕ) (e : RecordEntry) → suc k ≡ length es → e ≡ get_or es k e →
     set es k (mark_after outcome e) ≡ marked outcome es
 marked_set outcome [] k e size is = cc
@@ -14,13 +14,13 @@ marked_set outcome (x ∷ (y ∷ es)) zero e size is = absurd (omega arith)
 marked_set outcome (x ∷ (y ∷ es)) (suc k) e size is = ap (λ (l : List RecordEntry). x ∷ l)
     (marked_set outcome (y ∷ es) k e (omega arith) is)
 
--- the events of entries after others
+-- the events of xs ++ ys are those of xs, then those of ys
 pub events_of-append : (xs ys : List RecordEntry) → events_of (xs ++ ys) ≡ events_of xs ++ events_of ys
 events_of-append [] ys = refl
 events_of-append (x ∷ xs) ys = ap (λ (l : List Event). entry_events x ++ l) (events_of-append xs ys) ∙
     sym (append_assoc (entry_events x) (events_of xs) (events_of ys))
 
--- the events of a write
+-- the entries of a write have the events of the write
 pub events_of-entries_of : (at n : ℕ) (bytes : List ℕ) → events_of (entries_of at n bytes) ≡ writes_of at n bytes
 events_of-entries_of at zero bytes = refl
 events_of-entries_of at (suc n) bytes =
@@ -35,7 +35,7 @@ length-entries_of at (suc n) bytes = omega (
   length-entries_of at n bytes,
 )
 
--- the record after a write
+-- a write adds its events to the record's
 pub past_written : (entries more : List RecordEntry) (at n : ℕ) (bytes : List ℕ) → more ≡ entries ++ entries_of at n bytes →
     events_of more ≡ events_of entries ++ writes_of at n bytes
 past_written entries more at n bytes is = grind (arith, nat_tests, events_of-append, events_of-entries_of)
@@ -49,12 +49,12 @@ length_written entries more at n bytes is = omega (
   length-entries_of at n bytes,
 )
 
--- the record after a sync
+-- a sync adds its event to the record's
 pub past_synced : (entries more : List RecordEntry) → more ≡ entries ++ record { action = Synced; cut = None } ∷ [] →
     events_of more ≡ events_of entries ++ synced ∷ []
 past_synced entries more is = ap events_of is ∙ events_of-append entries (record { action = Synced; cut = None } ∷ [])
 
--- the record entries with one more sector
+-- the entries of i sectors and of one more are those of i + 1 sectors
 pub entries_more : (old now new : List RecordEntry) (at i : ℕ) (from bytes : List ℕ) → now ≡ old ++ entries_of at i from →
     new ≡ now ++ record { action = Wrote (at + i) bytes; cut = None } ∷ [] → bytes ≡ image_of from i
     → new ≡ old ++ entries_of at (i + 1) from
@@ -95,7 +95,7 @@ events_of-marked outcome (x ∷ (y ∷ es)) =
     ))
     (events_of-marked outcome (y ∷ es))
 
--- the record after a power cut
+-- a power cut adds its event to the record's, or none if nothing happened since the last cut
 pub past_cut : (outcome : Outcome) (entries more : List RecordEntry) → more ≡ marked outcome entries →
     EndsCut outcome (events_of entries) (events_of more)
 past_cut outcome entries more is = grind (arith, nat_tests, events_of-marked)

@@ -1,4 +1,4 @@
--- The history of a file as its first bytes are found, sector by sector.
+-- The history of a file whose first bytes become known sector by sector.
 use Rattle.devices.proofs.Names.{ℕ, List, take, length, ap, sym, arith, Bor, fresh, stepped, image_of, take-add, take_all, History, Held}
 use Rattle.std.proofs.Common.{◌≡◌, ◌+◌, ◌*◌, ◌≤◌, ◌++◌, ◌∙◌}
 

@@ -1,4 +1,4 @@
--- Each call keeps the bytes and the record in agreement.
+-- Each call preserves `IsSoundMirror`: bytes and record agree.
 use Rattle.devices.proofs.Names.{nat_tests, ℕ, zero, suc, Bool, true, false, nat_eq, List, [], length, drop, All, sym, ap, arith, inl, inr, ⊎_elim, cases_lt}
 use Rattle.devices.proofs.Names.{cases_Bool, or_cases, eqb-true, eqb-false, cases_order, drop-append-le, drop_all, or_assoc, Outcome, Synced, RecordEntry, None}
 use Rattle.devices.proofs.Names.{Agrees, Elsewhere, Patches, AreSectors, sectors_of, image_of, Event, wrote, synced, cut, State, at_first, after, replay}
@@ -9,7 +9,7 @@ use Rattle.devices.proofs.Past.{quiet-unsynced}
 use Rattle.devices.proofs.Patches.{names-append}
 use Rattle.devices.proofs.Entries.{past_written, length_written, past_synced, events_of-marked}
 
--- the sectors of a write
+-- the entries of a write name only the sectors from `at` to at + n - 1
 pub names-entries_of : (at n : ℕ) (bytes : List ℕ) (i : ℕ) → names (entries_of at n bytes) i ≡ true → (at ≤ i) × (i < at + n)
 names-entries_of at zero bytes i hit = cc
 names-entries_of at (suc n) bytes i hit =
@@ -126,7 +126,7 @@ module _ (sectors : ℕ) (first present durable : List ℕ) (entries : List Reco
     now_same : events_of (marked outcome entries) ≡ events_of entries → now_of first more ≡ now_of first entries
     now_same unmarked = ap (λ (l : List Event). replay (at_first (image_of first)) l) (ap events_of is ∙ unmarked)
 
-    -- a mark more, or none where nothing was unsynced
+    -- after a power cut all sectors are synced, and hold what the cut leaves
     now_cut : (i : ℕ) → Cut i
     now_cut i = grind (arith, nat_tests, now_marked, quiet-unsynced, quiet_left, now_same, events_of-marked)
 
@@ -148,11 +148,11 @@ module _ (sectors : ℕ) (first present durable : List ℕ) (entries : List Reco
       inside = λ i hit. let never : false ≡ true = sym (nothing_left_cut i) ∙ hit in cc;
     }
 
-    -- a read after the power cut returns what it left
+    -- a read after a power cut returns what the cut left
     pub cut_left : Agrees (now_of first more).present (left_by outcome (now_of first entries))
     cut_left i = sym (now_cut i).present_is ∙ left i
 
-  -- the bytes that a power cut leaves
+  -- a power cut leaves the same bytes whether the record or the stored bytes are used
   pub left_sound : (outcome : Outcome) → Agrees (left_by outcome (state_with present durable (drop settled entries)))
       (left_by outcome (now_of first entries))
   left_sound outcome = grind (arith, nat_tests)

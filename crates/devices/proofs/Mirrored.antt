@@ -5,7 +5,7 @@ use Rattle.devices.proofs.Names.{OpeningCall, reads, IsOpened, IsMade, Answers, 
 use Rattle.devices.specs.OpeningCalls.{sectors_in}
 use Rattle.std.proofs.Common.{◌≡◌, ◌<◌, ◌≤◌, ◌+◌, ◌*◌, ◌/◌, ◌∷◌, ◌++◌, ◌∙◌}
 
--- the pieces that reads returned are those of the file, if the reads are true of it
+-- if the file answered each read truly, the pieces that were read are its bytes, and it is unchanged
 reads_true : (first now : List ℕ) (byte : ℕ) (pieces : List (List ℕ)) → Answers first (reads byte pieces) now
     → (now ≡ first) × (concat pieces ≡ take (length (concat pieces)) (drop byte first))
 reads_true first now byte [] answers = (answers, refl)
@@ -26,7 +26,7 @@ reads_true first now byte (piece ∷ pieces) answers =
 sectors_within : (n : ℕ) → (sectors_in n ≤ n / 512) × (sectors_in n ≤ 131072)
 sectors_within n = grind (arith, nat_tests)
 
--- it has all whole sectors of a file that isn't longer than that
+-- if a file has at most 131072 sectors, the device has all its whole sectors
 all_sectors : (n : ℕ) → n / 512 ≤ 131072 → sectors_in n ≡ n / 512
 all_sectors n few = grind (arith, nat_tests)
 

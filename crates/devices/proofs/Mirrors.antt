@@ -1,11 +1,11 @@
--- What the calls of a device in memory do to it, as its users see it.
+-- What the calls of a device in memory change: its image, and what a crash may leave.
 use Rattle.devices.proofs.Names.{ℕ, List, [], subst, Outcome, Mirror, IsWhole, Agrees, Elsewhere, AreSectors, sectors_of, image_of, Narrows, Tears, Only}
 use Rattle.devices.proofs.Names.{Elapses, synced, left_by, writes_of, EndsCut, past_of, state_of, disk_of_mirror, present_whole, durable_whole, synced_same}
 use Rattle.std.proofs.Common.{◌≡◌, ◌∷◌, ◌++◌}
 use Rattle.devices.proofs.Disks as Disks
 
 module _ (old new : Mirror) (first_is : new.first ≡ old.first) (sectors_is : new.sectors ≡ old.sectors) (failures risen : ℕ) where
-  -- a write
+  -- after a write
   module _ (at : ℕ) (bytes : List ℕ) (past_is : past_of new ≡ past_of old ++ writes_of at (sectors_of bytes) bytes) where
     pub mirror_written : AreSectors (disk_of_mirror risen new).seen at bytes
     mirror_written = rw first_is (Disks.write_written old.sectors (image_of old.first.items) (past_of old) (past_of new) at bytes past_is)
@@ -25,7 +25,7 @@ module _ (old new : Mirror) (first_is : new.first ≡ old.first) (sectors_is : n
     mirror_write_time = rw (first_is, sectors_is)
         (Disks.write_time old.sectors (image_of old.first.items) (past_of old) (past_of new) at bytes past_is failures risen)
 
-  -- a sync
+  -- after a sync
   module _ (past_is : past_of new ≡ past_of old ++ synced ∷ []) where
     pub mirror_sync_durable : Only (disk_of_mirror risen new).seen (disk_of_mirror risen new)
     mirror_sync_durable = rw (first_is, sectors_is) (Disks.sync_durable old.sectors (image_of old.first.items) (past_of old) (past_of new)
@@ -44,7 +44,7 @@ module _ (old new : Mirror) (first_is : new.first ≡ old.first) (sectors_is : n
     mirror_sync_time = rw (first_is, sectors_is) (Disks.sync_time old.sectors (image_of old.first.items) (past_of old) (past_of new) past_is
         failures risen)
 
-  -- a power cut
+  -- after a power cut
   module _ (outcome : Outcome) (past_is : EndsCut outcome (past_of old) (past_of new)) where
     pub mirror_cut_durable : Only (disk_of_mirror risen new).seen (disk_of_mirror risen new)
     mirror_cut_durable = Disks.cut_durable new.sectors (image_of new.first.items) (past_of old) (past_of new) outcome past_is

@@ -1,4 +1,4 @@
--- The calls that open or make a device, one after another.
+-- What calls that open or make a device add to its list of calls.
 use Rattle.devices.proofs.Names.{nat_tests, ℕ, List, [], Option, IfSome, length, take, refl, sym, ap, subst, append-nil, arith, drop, length-append}
 use Rattle.devices.proofs.Names.{length-take-le, take-append-le, concat-append, concat, Disk, Agrees, image_of, sectors_of, Access, Lock, OpeningCall}
 use Rattle.devices.proofs.Names.{opened, locked, measured, got, resized, listed, resizes, KeepsLength, reads, Gets, LoadsLocked, MakesZeros, IsOpened, IsMade}
@@ -25,11 +25,11 @@ resizes_append (got at piece ∷ a) b = resizes_append a b
 resizes_append (resized n ∷ a) b = omega (arith, resizes_append a b)
 resizes_append (listed path ∷ a) b = resizes_append a b
 
--- calls that don't set the length
+-- calls that don't set the length keep `KeepsLength`
 pub keeps_length : (a b : Calls) (more : List OpeningCall) → Adds a b more → resizes more ≡ 0 → KeepsLength a b
 keeps_length a b more adds none = grind (arith, nat_tests, resizes_append)
 
--- pieces, and then more
+-- the reads of two lists of pieces are those of the first, then those of the second
 reads_append : (byte : ℕ) (ps qs : List (List ℕ)) → reads byte (ps ++ qs) ≡ reads byte ps ++ reads (byte + length (concat ps)) qs
 reads_append byte [] qs = ap (λ (n : ℕ). reads n qs) (omega arith)
 reads_append byte (p ∷ ps) qs =
@@ -46,7 +46,7 @@ gets_join byte next a b c xs ys next_is first second =
           (adds_more a b c (reads byte first.0) (reads next second.0) first.2 second.2),
     )
 
--- no bytes
+-- without a call no bytes are read
 pub gets_none : (byte : ℕ) (a : Calls) → GetsFrom byte a a []
 gets_none byte a = ([], refl, adds_none a)
 
@@ -58,7 +58,7 @@ module _ (byte : ℕ) (a b : Calls) (old part : List ℕ) (done k : ℕ) (within
     pub fits_within : (n : ℕ) → n ≤ length part → done + n ≤ length (put_mid done k old part)
     fits_within n fits = grind (arith, nat_tests, size, length-append)
 
-    -- a call read n more bytes into a buffer, after those already read
+    -- a call that reads n more bytes into a buffer extends the bytes read
     pub gets_on : (c : Calls) (n : ℕ) → n ≤ length part → Adds b c (got (byte + done) (take n part) ∷ [])
         → GetsFrom byte a c (take (done + n) (put_mid done k old part))
     gets_on c n fits adds =
@@ -70,14 +70,14 @@ module _ (byte : ℕ) (a b : Calls) (old part : List ℕ) (done k : ℕ) (within
         (gets_join byte (byte + done) a b c (take done old) (take n part) (ap (λ (m : ℕ). byte + m) (sym size)) gets
         (take n part ∷ [], append-nil (take n part), adds))
 
-    -- an interrupted call leaves the number of bytes within the buffer
+    -- after an interrupted call, the number of bytes read is still within the buffer
     pub still_within : done ≤ length (put_mid done k old part)
     still_within = omega (arith, fits_within 0 (omega arith))
 
     pub gets_still : GetsFrom byte a b (take done (put_mid done k old part))
     gets_still = subst (GetsFrom byte a b) (sym (take-put_mid_below done k old part done (omega arith) within)) gets
 
--- sectors were read into a copy after those already read, up to a byte or up to all of them
+-- if the sectors before `at` were read, and then those of `part`, all up to `next` or to the end were read
 pub sectors_on : (a b c : Calls) (old new part : List ℕ) (at byte next : ℕ) → byte ≡ 512 * at → length new ≡ length old →
     length part % 512 ≡ 0 → 512 * at ≤ length old → byte + length part ≡ min next (length old)
     → AreSectors (image_of new) at part → Elsewhere at (sectors_of part) (image_of old) (image_of new)
@@ -88,7 +88,7 @@ sectors_on a b c old new part at byte next byte_is same whole inside end written
     let reaches : take (byte + length part) new ≡ take next new = grind (arith, nat_tests, take_all) in
     subst (Gets a c) (all ∙ reaches) (gets_join 0 byte a b c (take byte old) part (omega (arith, size)) gets more)
 
--- a file that is emptied, lengthened and synced, before its folder is synced
+-- emptying, lengthening and syncing a file, then syncing its folder, adds these four calls
 pub filled : {T E : Type 0} (r : Result T E) (path : List ℕ) (n : ℕ) (a b c d e : Calls) → Adds a b (resized 0 ∷ []) →
     Adds b c (resized n ∷ []) → Adds c d (synced ∷ []) → OnOk r (Adds d e (listed path ∷ [])) →
     OnOk r (Adds a e (resized 0 ∷ resized n ∷ synced ∷ listed path ∷ []))
@@ -97,7 +97,7 @@ filled (Ok x) path n a b c d e emptied extended kept seen =
     adds_more a b e (resized 0 ∷ []) (resized n ∷ synced ∷ listed path ∷ []) emptied
     (adds_more b c e (resized n ∷ []) (synced ∷ listed path ∷ []) extended (adds_more c d e (synced ∷ []) (listed path ∷ []) kept seen))
 
--- the same for a file that is locked first
+-- if the file is locked before these four calls, it is made of zeros (`MakesZeros`)
 pub fills : (path : List ℕ) (n : ℕ) (a b c : Calls) → TakesLock Exclusive a b → Adds b c (resized 0 ∷ resized n ∷ synced ∷ listed path ∷ [])
     → MakesZeros path n a c
 fills path n a b c took more = (
@@ -107,7 +107,7 @@ fills path n a b c took more = (
       (resized 0 ∷ resized n ∷ synced ∷ listed path ∷ []) took.2 more,
 )
 
--- a file that is locked, synced and read
+-- locking, syncing and then loading a file is `LoadsLocked`
 pub loads_locked : (r : Result (List ℕ) FileFault) (lock : Lock) (a b c d : Calls) → TakesLock lock a b → Adds b c (synced ∷ []) →
     IfOk r (λ copy. Loads c d copy) → IfOk r (λ copy. LoadsLocked lock a d copy)
 loads_locked (Err x) lock a b c d took kept loads = tt
@@ -122,26 +122,26 @@ loads_locked (Ok copy) lock a b c d took kept loads =
       adds_more a b d (locked lock took.0 ∷ []) (synced ∷ read) took.2 (adds_more b c d (synced ∷ []) read kept loads.4),
     )
 
--- a file that was just opened, and then loaded
+-- opening a file and then loading it opens a device (`IsOpened`)
 pub opens : (path : List ℕ) (access : Access) (lock : Lock) (a b : Calls) (copy : List ℕ) (disk : Disk)
     → IfSome a (λ calls. calls ≡ opened path access ∷ []) → LoadsLocked lock a b copy
     → disk.sectors ≡ sectors_of copy → Agrees disk.seen (image_of copy)
     → IfSome b (λ calls. IsOpened path access lock calls disk)
 opens path access lock a b copy disk is loads size seen = grind (arith, nat_tests)
 
--- a file that was just opened, and then filled with zeros
+-- opening a file and then filling it with zeros makes a device (`IsMade`)
 pub makes : (path : List ℕ) (access : Access) (sectors n : ℕ) (a b : Calls) → IfSome a (λ calls. calls ≡ opened path access ∷ []) →
     n ≡ 512 * sectors → MakesZeros path n a b → IfSome b (λ calls. IsMade path access sectors calls)
 makes path access sectors n a b is size zeros = grind (arith, nat_tests)
 
--- the calls that follow the lock
+-- the calls of `MakesZeros` after the lock
 abbrev zero_calls : List ℕ → ℕ → List OpeningCall
 zero_calls path n = resized 0 ∷ resized n ∷ synced ∷ listed path ∷ []
 
 nonempty : (x : OpeningCall) (xs : List OpeningCall) → x ∷ xs ≢ []
 nonempty x xs is = grind (arith, nat_tests)
 
--- a failed call, with the calls before it
+-- if the first call fails, the calls stop within the list
 pub stops_at : (x : OpeningCall) (xs : List OpeningCall) (a b : Calls) → b ≡ a → StopsWithin (x ∷ xs) a b
 stops_at x xs a b same = ([], x ∷ xs, refl, nonempty x xs, subst (λ (c : Calls). Adds a c []) (sym same) (adds_none a))
 
@@ -161,7 +161,7 @@ pub fails_later : (path : List ℕ) (n : ℕ) (a b c : Calls) → TakesLock Excl
     FailsToMake path n a c
 fails_later path n a b c took stops = (took.0, took.1, stops_on (locked Exclusive took.0) (zero_calls path n) a b c took.2 stops)
 
--- a fault that is passed on
+-- a fault that is passed on is unchanged
 pub same_fault : {T : Type 0} (r : Result T FileFault) (y e f : FileFault) → r ≡ Err y → y ≡ e → r ≡ Err f → e ≡ f
 same_fault r y e f is from given = cc
 

@@ -4,7 +4,7 @@ use Rattle.devices.proofs.Names.{take_all, cases_lt, eq-eqb, ne_eqb, Image, imag
 use Rattle.devices.proofs.Names.{IsQuiet}
 use Rattle.std.proofs.Common.{◌≡◌, ◌<◌, ◌≤◌, ◌+◌, if◌then◌else◌, ◌∷◌, ◌++◌, ◌∙◌}
 
--- events after events
+-- replaying xs ++ ys is replaying xs, then ys
 pub replay-append : (s : State) (xs ys : List Event) → replay s (xs ++ ys) ≡ replay (replay s xs) ys
 replay-append s [] ys = refl
 replay-append s (x ∷ xs) ys = replay-append (after s x) xs ys
@@ -14,21 +14,21 @@ module _ (sectors : ℕ) (first : Image) where
   abbrev state_at : List Event → ℕ → State
   state_at past k = replay (at_first first) (take k past)
 
-  -- a disk with the same events
+  -- time goes on if no event is added
   pub elapses_still : (past : List Event) (failures risen : ℕ) → Elapses (disk_of sectors first past failures)
       (disk_of sectors first past risen)
   elapses_still past failures risen = record { later = omega arith; nothing_else = λ t c le left. inl left; keeps = λ t c le left. left }
 
-  -- a disk with one more event
+  -- time goes on if one event is added
   pub elapses_one : (past : List Event) (e : Event) (failures risen : ℕ) →
       Elapses (disk_of sectors first past failures) (disk_of sectors first (past ++ e ∷ []) risen)
   elapses_one past e failures risen = grind (arith, nat_tests, length-append, take_all, take-append-le)
 
--- the state after one more event
+-- replaying one more event is `after` on the state before
 pub replay-one : (s : State) (xs : List Event) (e : Event) → replay s (xs ++ e ∷ []) ≡ after (replay s xs) e
 replay-one s xs e = replay-append s xs (e ∷ [])
 
--- a write of some sectors, and nothing else
+-- a write doesn't change the durable sectors
 pub written-durable : (s : State) (at n : ℕ) (bytes : List ℕ) → (replay s (writes_of at n bytes)).durable ≡ s.durable
 written-durable s at zero bytes = refl
 written-durable s at (suc n) bytes =

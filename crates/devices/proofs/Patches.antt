@@ -1,4 +1,4 @@
--- Sectors that take the place of others, one after another.
+-- Sectors that replace others, one list of entries after another.
 use Rattle.devices.proofs.Names.{nat_tests, ℕ, Bool, true, false, zero, suc, List, [], length, get_or, take, drop, replicate, refl, sym, ap, arith, ⊎_elim}
 use Rattle.devices.proofs.Names.{length-drop, eq-eqb, eqb-true, eqb-false, cases_order, take_more, take-take, take-replicate, or_assoc, Image, Agrees, image_of}
 use Rattle.devices.proofs.Names.{sectors_of, AreSectors, Elsewhere, Patches, State, left_by, Outcome, Fill, names, Action, Wrote, RecordEntry, or-false}
@@ -7,7 +7,7 @@ use Rattle.std.proofs.lemmas.List.{length-take-le}
 use Rattle.devices.specs.Record.{writes}
 use Rattle.std.proofs.Common.{◌≡◌, ◌<◌, ◌≤◌, ◌+◌, ◌*◌, ◌||◌, ◌==◌, ◌∷◌, ◌++◌, ◌∙◌}
 
--- some sectors and then others
+-- patching the sectors of p, then those of q, patches the sectors of both
 pub patches_on : (p q r : ℕ → Bool) (from old mid new : Image) → Patches p from old mid → Patches q from mid new →
     ((i : ℕ) → r i ≡ (p i || q i)) → Patches r from old new
 patches_on p q r from old mid new first second either = record {
@@ -20,7 +20,7 @@ names-append [] ys i = refl
 names-append (x ∷ xs) ys i = ap (λ (b : Bool). writes x.action i || b) (names-append xs ys i)
     ∙ sym (or_assoc (writes x.action i) (names xs i) (names ys i))
 
--- the sectors that one more entry names
+-- a sector is named by j + 1 entries exactly if the first j or the last one name it
 pub names_more : (es : List RecordEntry) (j : ℕ) (d : RecordEntry) → j < length es → (i : ℕ) →
     names (take (j + 1) es) i ≡ (names (take j es) i || writes (get_or es j d).action i)
 names_more es j d lt i =
@@ -28,7 +28,7 @@ names_more es j d lt i =
     ∙ names-append (take j es) (get_or es j d ∷ []) i
     ∙ ap (λ (b : Bool). names (take j es) i || b) (or-false (writes (get_or es j d).action i))
 
--- the sector of each entry is among those that all entries name
+-- if one entry wrote a sector, the list of all entries names it
 pub names_at : (es : List RecordEntry) (j : ℕ) (d : RecordEntry) → j < length es → (i : ℕ) → writes (get_or es j d).action i ≡ true →
     names es i ≡ true
 names_at [] j d lt i hit = absurd (omega arith)
@@ -37,11 +37,11 @@ names_at (e ∷ es) (suc j) d lt i hit =
     let there : names es i ≡ true = names_at es j d (omega arith) i hit in
     elim (writes e.action i) as (λ b. (b || names es i) ≡ true) [ true ↦ refl | false ↦ there ]
 
--- an action that wrote a sector names it
+-- an action that wrote a sector names this sector
 pub wrote_here : (action : Action) (sector : ℕ) (bytes : List ℕ) → action ≡ Wrote sector bytes → writes action sector ≡ true
 wrote_here action sector bytes is = ap (λ (a : Action). writes a sector) is ∙ eq-eqb sector sector refl
 
--- patching one sector
+-- replacing the sector of an action by that of `from` patches it
 pub patches_one : (action : Action) (sector : ℕ) (bytes part : List ℕ) (from old new : Image) → action ≡ Wrote sector bytes →
     length part ≡ 512 → image_of part 0 ≡ from sector
     → AreSectors new sector part → Elsewhere sector (sectors_of part) old new → Patches (writes action) from old new
@@ -61,7 +61,7 @@ patches_one action sector bytes part from old new is size same put elsewhere =
           (cases_order i sector);
     }
 
--- the bytes of a sector in a list of sectors
+-- bytes 512 n to 512 n + 511 of a list are its sector n
 pub part_is : (bytes : List ℕ) (sector a k : ℕ) → a ≡ 512 * sector → k ≡ 512 → image_of (take k (drop a bytes)) 0 ≡ image_of bytes sector
 part_is bytes sector a k a_is k_is =
     rw (a_is, k_is, take-take 512 512 (drop (512 * sector) bytes) (omega arith)) refl
@@ -70,7 +70,7 @@ pub part_size : (bytes : List ℕ) (sector a k : ℕ) → a ≡ 512 * sector →
     length (take k (drop a bytes)) ≡ 512
 part_size bytes sector a k a_is k_is inside = grind (arith, nat_tests, length-take-le, length-drop)
 
--- a sector filled with one byte
+-- 512 times one byte is a sector filled with it
 pub filled_is : (byte : ℕ) → image_of (replicate 512 byte) 0 ≡ replicate 512 byte
 filled_is byte = take-replicate 512 512 byte (omega arith)
 
@@ -79,7 +79,7 @@ pub patches_both : (test : ℕ → Bool) (from first second new other : Image) �
     ((i : ℕ) → test i ≡ false → first i ≡ second i) → Agrees other new
 patches_both test from first second new other patched also same i = grind (arith, nat_tests)
 
--- filling the unsynced sectors
+-- filling the unsynced sectors with a byte leaves what the outcome `Fill` leaves
 pub filled_left : (byte : ℕ) (outcome : Outcome) (s : State) (new : Image) → outcome ≡ Fill byte →
     Patches s.unsynced (λ _. replicate 512 byte) s.present new → ((i : ℕ) → s.unsynced i ≡ false → s.present i ≡ s.durable i) →
     Agrees new (left_by outcome s)

@@ -1,4 +1,4 @@
--- Sectors, of which only some are stored, and the bytes of all.
+-- Sectors, some of which are stored, and the bytes of all.
 use Rattle.devices.proofs.Names.{nat_tests, ℕ, List, [], Option, Some, None, All, length, take, drop, replicate, refl, sym, ap, arith, inl, inr, length-append}
 use Rattle.devices.proofs.Names.{length-take-le, take-append-le, length-replicate, drop-drop, take-add, cases_lt, length-drop, zero, suc, subst, false}
 use Rattle.devices.proofs.Names.{image_of, sectors_of, AreSectors, Elsewhere, AreWhole, IsSector, bytes_of, item_at, is_some, get_or, Fits, w8, get_or_default}
@@ -9,7 +9,7 @@ unfoldable use Rattle.devices.specs.SectorCopy.{bytes_in}
 abbrev pub Stored : Type 0
 Stored = List (Option (List ℕ))
 
--- the sectors after the first
+-- if all sectors are whole, so are those after the first
 rest_whole : (x : Option (List ℕ)) (xs : Stored) → AreWhole (x ∷ xs) → AreWhole xs
 rest_whole x xs whole k = whole (suc k)
 
@@ -24,7 +24,7 @@ unfolding bytes_in
 bytes_fit [] whole = λ k d within. absurd (omega (arith, within))
 bytes_fit (x ∷ xs) whole = All-append (λ b. b < 256) (bytes_of x) (bytes_in xs) (whole 0).fits (bytes_fit xs (rest_whole x xs whole))
 
--- a sector within
+-- sector i of the bytes is sector i of the list
 pub image_is : (xs : Stored) → AreWhole xs → (i : ℕ) → i < length xs → image_of (bytes_in xs) i ≡ bytes_of (item_at xs i)
 unfolding bytes_in
 image_is [] whole i within = absurd (omega (arith, within))
@@ -37,14 +37,14 @@ image_is (x ∷ xs) whole (suc i) within =
     ∙ ap (λ (l : List ℕ). take 512 l) (drop-append-add (bytes_of x) (bytes_in xs) (512 * i))
     ∙ image_is xs (rest_whole x xs whole) i (omega (arith, within))
 
--- there are no bytes past all sectors
+-- past the last sector the image is empty
 image_past : (xs : Stored) → AreWhole xs → (i : ℕ) → length xs ≤ i → image_of (bytes_in xs) i ≡ []
 image_past xs whole i past = grind (arith, nat_tests, drop_all, length_bytes)
 
 bytes_of_none : (o : Option (List ℕ)) → false ≡ is_some o → bytes_of o ≡ replicate 512 0
 bytes_of_none o none = grind (arith, nat_tests)
 
--- sectors of which some are stored
+-- facts about sectors, some of which are stored, and their bytes v
 module _ (xs : Stored) (whole : AreWhole xs) (v : List ℕ) (view : bytes_in xs ≡ v) where
   pub count_is : length v ≡ 512 * length xs
   count_is = sym (ap length view) ∙ length_bytes xs whole
@@ -64,7 +64,7 @@ module _ (xs : Stored) (whole : AreWhole xs) (v : List ℕ) (view : bytes_in xs 
   pub zeros_are_there : (at : ℕ) → 512 * (at + 1) ≤ length v → false ≡ is_some (item_at xs at) → replicate 512 0 ≡ image_of v at
   zeros_are_there at inside none = sym (sector_is at inside ∙ bytes_of_none (item_at xs at) none)
 
--- the bytes of a slice
+-- 512 bytes of a slice form a sector
 pub is_sector : (bytes : List ℕ) → length bytes ≡ 512 → ((i : ℕ) → Fits w8 (get_or bytes i 0)) → IsSector bytes
 is_sector bytes size small = record { size = size; fits = λ k d within. omega (arith, get_or_default bytes k d 0 within, small k) }
 
@@ -88,7 +88,7 @@ module _ (xs : Stored) (was : AreWhole xs) (v : List ℕ) (view : bytes_in xs �
   pub is_put : IsPut v at sector ys
   is_put = grind (arith, nat_tests, now, image_is, is_within, apart, length_bytes, count_is, bytes_fit)
 
--- no sectors are stored
+-- if nothing is stored, no sector is
 none_at : (n k : ℕ) → item_at {T = List ℕ} (replicate n None) k ≡ None
 none_at zero k = refl
 none_at (suc n) zero = refl
@@ -107,11 +107,11 @@ none_zeros (suc n) =
     ap (λ (l : List ℕ). replicate 512 0 ++ l) (none_zeros n) ∙ replicate-append-replicate 512 (512 * n) 0
     ∙ ap (λ (m : ℕ). replicate m 0) (omega arith)
 
--- the length of a sector within
+-- a sector within the bytes has 512 bytes
 pub image_size : (v : List ℕ) (at : ℕ) → 512 * (at + 1) ≤ length v → length (image_of v at) ≡ 512
 image_size v at inside = length-take-le 512 (drop (512 * at) v) (omega (arith, inside, length-drop (512 * at) v))
 
--- sectors up to the n-th are the bytes in front
+-- if the first n sectors are equal, so are the first 512 n bytes
 pub same_front : (xs ys : List ℕ) (n : ℕ) → ((i : ℕ) → i < n → image_of ys i ≡ image_of xs i) → take (512 * n) ys ≡ take (512 * n) xs
 same_front xs ys zero same = refl
 same_front xs ys (suc n) same =
@@ -127,22 +127,22 @@ same_sectors xs ys size whole same =
     let n = sectors_of xs in
     sym (take_all (512 * n) ys (omega (arith, size, whole))) ∙ same_front xs ys n same ∙ take_all (512 * n) xs (omega (arith, whole))
 
--- all sectors were put over zeros
+-- if all sectors were written over zeros, the bytes are those written
 pub all_put : (bytes zeros new : List ℕ) → length bytes % 512 ≡ 0 → zeros ≡ replicate (512 * (length bytes / 512)) 0 →
     length new ≡ length zeros → AreSectors (image_of new) 0 bytes → new ≡ bytes
 all_put bytes zeros new whole is same written = grind (arith, nat_tests, length-replicate, same_sectors)
 
--- the bytes of a sector in a list of sectors
+-- bytes 512 i to 512 i + 511 of a list are its sector i
 pub part_is : (bytes : List ℕ) (i a k : ℕ) → a ≡ 512 * i → k ≡ 512 → take k (drop a bytes) ≡ image_of bytes i
 part_is bytes i a k a_is k_is = ap (λ (n : ℕ). take n (drop a bytes)) k_is ∙ ap (λ (n : ℕ). take 512 (drop n bytes)) a_is
 
--- one more sector was written
+-- if i sectors were written, and then the next, i + 1 are written
 pub put_more : (mid new from part : List ℕ) (at i : ℕ) → ((j : ℕ) → j < i → image_of from j ≡ image_of mid (at + j)) →
     part ≡ image_of from i → image_of new (at + i) ≡ part → Elsewhere (at + i) 1 (image_of mid) (image_of new)
     → (j : ℕ) → j < i + 1 → image_of from j ≡ image_of new (at + j)
 put_more mid new from part at i was part_is here others j below = grind (arith, nat_tests)
 
--- one more sector was read
+-- if i sectors were read, and then the next, i + 1 are read
 pub got_more : (v mid new sector : List ℕ) (at i : ℕ) → ((j : ℕ) → j < i → image_of mid j ≡ image_of v (at + j)) →
     sector ≡ image_of v (at + i) → length sector ≡ 512 → AreSectors (image_of new) i sector →
     Elsewhere i (sectors_of sector) (image_of mid) (image_of new)
@@ -155,7 +155,7 @@ got_more v mid new sector at i was is size written others j below = elim (cases_
       ∙ take_all 512 sector (omega (arith, size)) ∙ is ∙ ap (λ (n : ℕ). image_of v (at + n)) last
 ]
 
--- the bytes in front after sectors were put
+-- after a write of whole sectors at `at`, the bytes up to its end are the old ones before `at`, then the written ones
 pub front_part : (old new part : List ℕ) (at : ℕ) → length part % 512 ≡ 0 → AreSectors (image_of new) at part
     → Elsewhere at (sectors_of part) (image_of old) (image_of new) → take (512 * at + length part) new ≡ take (512 * at) old ++ part
 front_part old new part at whole written others =

@@ -1,4 +1,4 @@
--- A step that the walks of `src/history.rt` share: a struct without fields is made.
+-- A step in the proofs of `src/history.rt`: the code makes a struct without fields.
 use Rattle.std.proofs.Common.{List, [], ◌∷◌, refl}
 use seplogic.Ra.Ura.{Ura}
 use mir.Val.{Val, vstruct, vnil}

@@ -1,10 +1,10 @@
--- Whether bytes are all 0, by the sum of their bits.
+-- Whether bytes are all 0: their bits are or-ed.
 use Rattle.devices.proofs.Names.{nat_tests, ℕ, List, length, get_or, replicate, sym, arith, bit_or, IsTrue, le_or_l, le_or_r, same_lists, get_or-replicate}
 use Rattle.devices.proofs.Names.{get_or_default, length-replicate}
 use Rattle.std.specs.Prelude.{nat_eq, ◌↔◌}
 use Rattle.std.proofs.Common.{◌≡◌, ◌+◌, ◌<◌, ◌∙◌}
 
--- any is 0 exactly if the first i bytes are
+-- `any` is 0 exactly if the first i bytes are
 pub record IsSum (bytes : List ℕ) (i any : ℕ) : Type 0 where
   pub zero_bytes : any ≡ 0 → (k : ℕ) → k < i → get_or bytes k 0 ≡ 0
   pub zero_sum : ((k : ℕ) → k < i → get_or bytes k 0 ≡ 0) → any ≡ 0

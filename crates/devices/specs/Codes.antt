@@ -1,4 +1,4 @@
--- How the logic stores an event of a device.
+-- How the logic encodes an event of a device.
 use Rattle.devices.specs.Names.{ℕ, zero, suc, List, [], Coded, code_by, coded×, coded_ℕ, coded_list}
 use Rattle.std.specs.Prelude.{◌≡◌, refl}
 use Rattle.devices.specs.declared.record.Outcome.TheVariants.{Keep, Drop}

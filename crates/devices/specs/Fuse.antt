@@ -3,7 +3,7 @@ use Rattle.devices.specs.Names.{ℕ, Option, Some, option_map, Result, IsErr, Di
 use Rattle.std.specs.Prelude.{◌≡◌, ◌<◌, ◌+◌, ◌-◌}
 use Rattle.devices.specs.declared.fuse.Fuse.{Fuse}
 
--- the device that the calls are passed to
+-- the device to which the fuse passes calls
 abbrev pub beneath : {D : Type 0} → Fuse D → D
 beneath fuse = fuse.inner
 
@@ -15,14 +15,14 @@ calls_left fuse = fuse.left
 abbrev pub IsBlown : {D : Type 0} → Fuse D → Type 0
 IsBlown fuse = calls_left fuse ≡ Some 0
 
--- A blown fuse fails and leaves the device beneath alone. One that isn't blown fails only if that device does.
+-- A blown fuse fails and leaves the inner device unchanged. A fuse that isn't blown fails only if that device does.
 pub record Passes {D T E : Type 0} (disk : D → Disk) (old new : Fuse D) (result : Result T E) : Type 0 where
   pub blown : IsBlown old → IsErr result
   pub spared : IsBlown old → beneath new ≡ beneath old
   pub passed : (IsBlown old → ⊥) → IsErr result → (disk (beneath old)).failures < (disk (beneath new)).failures
   pub left : calls_left new ≡ option_map (λ calls. calls - 1) (calls_left old)
 
--- the device beneath, with the fuse's own failures added
+-- the disk of the inner device, with the fuse's own failures added
 abbrev pub fused : {D : Type 0} → (D → Disk) → Fuse D → Disk
 fused disk fuse = record {
   sectors = (disk fuse.inner).sectors;

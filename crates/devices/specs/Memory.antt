@@ -6,7 +6,7 @@ use Rattle.devices.specs.declared.record.Outcome.{Outcome}
 use Rattle.devices.specs.Past.{Event, State}
 use Rattle.devices.specs.Mirror.{past_of, state_of, disk_of_mirror}
 
--- all that has happened to a device in memory
+-- all events of a device in memory
 abbrev pub memory_past : Memory → List Event
 memory_past m = past_of m.mirror
 
@@ -26,6 +26,6 @@ outcome_of m = m.outcome
 abbrev pub IsUntouched : Memory → Memory → Type 0
 IsUntouched old new = new.mirror ≡ old.mirror
 
--- the device as its users see it
+-- the disk of a device in memory
 abbrev pub memory_disk : Memory → Disk
 memory_disk m = disk_of_mirror m.failures.number m.mirror

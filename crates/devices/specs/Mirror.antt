@@ -1,11 +1,11 @@
--- A device in memory, as the events that it has gone through.
+-- A device in memory, described by its events.
 use Rattle.devices.specs.Names.{ℕ, List, Disk, image_of}
 use Rattle.devices.specs.declared.mirror.Mirror.{Mirror}
 use Rattle.devices.specs.Past.{Event, State, disk_of}
 use Rattle.devices.specs.Record.{events_of}
 use Rattle.devices.specs.MirrorSound.{now_of}
 
--- all that has happened to the device
+-- all events of the device
 abbrev pub past_of : Mirror → List Event
 past_of m = events_of m.entries.items
 
@@ -13,6 +13,6 @@ past_of m = events_of m.entries.items
 abbrev pub state_of : Mirror → State
 state_of m = now_of m.first.items m.entries.items
 
--- a mirror as a device with this number of failures
+-- the disk of a mirror with this number of failures
 abbrev pub disk_of_mirror : ℕ → Mirror → Disk
 disk_of_mirror failures m = disk_of m.sectors (image_of m.first.items) (past_of m) failures

@@ -1,4 +1,4 @@
--- What always holds of the bytes and the record of a device in memory.
+-- The invariant of a device in memory: its bytes agree with its record.
 use Rattle.devices.specs.Names.{ℕ, true, false, List, length, drop, All, Agrees, image_of}
 use Rattle.std.specs.Prelude.{◌≡◌, ◌<◌, ◌≤◌, ◌*◌}
 use Rattle.devices.specs.declared.record.RecordEntry.{RecordEntry}
@@ -14,7 +14,7 @@ abbrev pub state_with : List ℕ → List ℕ → List RecordEntry → State
 state_with present synced unsynced =
     record { present = image_of present; durable = image_of synced; unsynced = names unsynced }
 
--- The events of the record give these bytes; its entries from `settled` on aren't durable yet.
+-- The invariant: replaying the record gives these bytes. The entries from `settled` on aren't durable yet.
 pub record IsSoundMirror (sectors : ℕ) (first present synced : List ℕ) (entries : List RecordEntry) (settled : ℕ) : Type
     0 where
   pub few : sectors ≤ 131072

@@ -39,16 +39,16 @@ resizes (listed path ∷ calls) = resizes calls
 abbrev pub KeepsLength : Option (List OpeningCall) → Option (List OpeningCall) → Type 0
 KeepsLength old new = option_map resizes new ≡ option_map resizes old
 
--- reads that give these pieces, one after the other, from a byte on
+-- the calls that read these pieces, one after the other, from a byte on
 abbrev pub reads : ℕ → List (List ℕ) → List OpeningCall
 reads byte [] = []
 reads byte (piece ∷ pieces) = got byte piece ∷ reads (byte + length piece) pieces
 
--- reads from a byte on gave these bytes
+-- successive reads from a byte on gave these bytes
 abbrev pub GetsFrom : ℕ → Option (List OpeningCall) → Option (List OpeningCall) → List ℕ → Type 0
 GetsFrom byte old new bytes = (pieces : List (List ℕ)) × (concat pieces ≡ bytes) × Adds old new (reads byte pieces)
 
--- reads from byte 0 on gave these bytes
+-- successive reads from byte 0 on gave these bytes
 abbrev pub Gets : Option (List OpeningCall) → Option (List OpeningCall) → List ℕ → Type 0
 Gets old new bytes = GetsFrom 0 old new bytes
 
@@ -62,7 +62,7 @@ Loads old new copy =
     (n : ℕ) × (pieces : List (List ℕ)) × (concat pieces ≡ copy) × (length copy ≡ 512 * sectors_in n)
     × Adds old new (measured n ∷ reads 0 pieces)
 
--- a lock was requested, and no other open file excludes it
+-- a lock was requested, and no other open file excludes it (or the system has no locks)
 abbrev pub TakesLock : Lock → Option (List OpeningCall) → Option (List OpeningCall) → Type 0
 TakesLock lock old new = (answer : LockAnswer) × (answer ≢ Held) × Adds old new (locked lock answer ∷ [])
 
@@ -79,7 +79,7 @@ MakesZeros path bytes old new =
     (answer : LockAnswer) × (answer ≢ Held)
     × Adds old new (locked Exclusive answer ∷ resized 0 ∷ resized bytes ∷ synced ∷ listed path ∷ [])
 
--- These calls and no others opened a device. It has the sectors that were read.
+-- Exactly these calls opened a device. Its sectors are those that were read.
 pub record IsOpened (path : List ℕ) (access : Access) (lock : Lock) (calls : List OpeningCall) (disk : Disk)
     : Type 0 where
   pub answer : LockAnswer
@@ -91,26 +91,26 @@ pub record IsOpened (path : List ℕ) (access : Access) (lock : Lock) (calls : L
   pub whole : length (concat pieces) ≡ 512 * sectors_in bytes
   pub seen : Agrees disk.seen (image_of (concat pieces))
 
--- These calls and no others made the file of a device of `sectors` sectors.
+-- Exactly these calls made the file of a device of `sectors` sectors.
 pub record IsMade (path : List ℕ) (access : Access) (sectors : ℕ) (calls : List OpeningCall) : Type 0 where
   pub answer : LockAnswer
   pub made : calls ≡ opened path access ∷ locked Exclusive answer
       ∷ resized 0 ∷ resized (512 * sectors) ∷ synced ∷ listed path ∷ []
   pub free : answer ≢ Held
 
--- a beginning of these calls was made, and not all of them
+-- the calls made are a proper prefix of this list
 abbrev pub StopsWithin : List OpeningCall → Option (List OpeningCall) → Option (List OpeningCall) → Type 0
 StopsWithin calls old new =
     (front : List OpeningCall) × (left : List OpeningCall) × (calls ≡ front ++ left) × (left ≢ []) × Adds old new front
 
--- as `MakesZeros`, but a call failed
+-- the calls of `MakesZeros` up to one that failed
 abbrev pub FailsToMake : List ℕ → ℕ → Option (List OpeningCall) → Option (List OpeningCall) → Type 0
 FailsToMake path bytes old new =
     (answer : LockAnswer) × (answer ≢ Held) ×
     StopsWithin (locked Exclusive answer ∷ resized 0 ∷ resized bytes ∷ synced ∷ listed path ∷ []) old new
 
--- A file was made at a path, and is no device of `sectors` sectors: another device is open in it, and it wasn't changed;
--- or one of the calls that make the device failed.
+-- A file was made at a path, but isn't a device of `sectors` sectors. Either another device is open in it, and it
+-- wasn't changed; or one of the calls that make the device failed.
 abbrev pub IsUnfinished : List ℕ → ℕ → FileFault → List OpeningCall → Type 0
 IsUnfinished path sectors fault.Held calls = calls ≡ opened path New ∷ locked Exclusive Held ∷ []
 IsUnfinished path sectors fault.Io calls =
@@ -133,7 +133,7 @@ bytes_after bytes (got at piece) = bytes
 bytes_after bytes (resized n) = take n (bytes ++ replicate n 0)
 bytes_after bytes (listed path) = bytes
 
--- the call's answer is true of a file with these bytes
+-- the call's answer is right for a file with these bytes
 abbrev pub IsTrueOf : List ℕ → OpeningCall → Type 0
 IsTrueOf bytes (opened path access) = ⊤
 IsTrueOf bytes (locked lock answer) = ⊤
@@ -143,12 +143,12 @@ IsTrueOf bytes (got at piece) = piece ≡ take (length piece) (drop at bytes)
 IsTrueOf bytes (resized n) = ⊤
 IsTrueOf bytes (listed path) = ⊤
 
--- a file with the bytes `first` answers each call truly, and has the bytes `now` after the last
+-- a file with the bytes `first` gives these answers, and has the bytes `now` after the last call
 abbrev pub Answers : List ℕ → List OpeningCall → List ℕ → Type 0
 Answers first [] now = now ≡ first
 Answers first (call ∷ calls) now = IsTrueOf first call × Answers (bytes_after first call) calls now
 
--- if the answers are true of a file, whatever it held, the device has the first whole sectors of that file
+-- for whatever file these answers are right, the device has that file's whole sectors from the first on
 abbrev pub Mirrors : List OpeningCall → Disk → Type 0
 Mirrors calls disk =
     (first now : List ℕ) → Answers first calls now

@@ -1,23 +1,23 @@
--- What a device with a record has gone through, and what a crash at each moment of this past may leave.
+-- The events of a device with a record, and what a crash at each moment may leave.
 use Rattle.devices.specs.Names.{ℕ, Bool, false, List, [], length, take, replicate, zero, suc, Image, IsWhole, Disk}
 use Rattle.devices.specs.Names.{image_of}
 use Rattle.std.specs.Prelude.{◌≡◌, ◌≤◌, ◌⊎◌, ◌+◌, ◌||◌, ◌==◌, if◌then◌else◌, ◌∷◌, ◌++◌}
 use Rattle.devices.specs.declared.record.Outcome.{Outcome}
 use Rattle.devices.specs.declared.record.Outcome.TheVariants.{Keep, Drop, Fill}
 
--- what happens to a device: a sector is written, all is synced, or the power goes and comes back
+-- an event: a sector is written, all sectors are synced, or the power goes and comes back
 pub data Event : Type 0 where
   wrote : ℕ → List ℕ → Event
   synced : Event
   cut : Outcome → Event
 
--- the sectors at one moment
+-- the sectors at one moment, as reads and as crashes see them
 pub record State : Type 0 where
   pub present : Image  -- what a read gives
   pub durable : Image  -- what the last sync or power cut left
   pub unsynced : ℕ → Bool  -- which sectors were written since then
 
--- a device on which nothing has happened
+-- the state before any event
 abbrev pub at_first : Image → State
 at_first first = record { present = first; durable = first; unsynced = λ _. false }
 
@@ -42,12 +42,12 @@ abbrev pub replay : State → List Event → State
 replay s [] = s
 replay s (e ∷ es) = replay (after s e) es
 
--- a crash leaves the durable sectors, with any bytes in each sector that isn't synced
+-- a crash leaves the durable sectors, with any bytes in each unsynced sector
 pub record MayLeave (sectors : ℕ) (s : State) (c : Image) : Type 0 where
   pub whole : IsWhole sectors c
   pub untouched : (i : ℕ) → s.unsynced i ≡ false → c i ≡ s.durable i
 
--- the device that began with these bytes and went through these events
+-- the disk of a device that began with the image `first` and then had these events
 abbrev pub disk_of : ℕ → Image → List Event → ℕ → Disk
 disk_of sectors first past failures = record {
   sectors = sectors;

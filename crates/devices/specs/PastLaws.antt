@@ -1,4 +1,4 @@
--- The laws that a device has to meet hold for each device with a record.
+-- Each device with a record satisfies the laws of `Device`.
 use Rattle.devices.specs.Names.{ℕ, List, length, take, drop, All, arith, sym, subst, ap, length-drop, take_all}
 use Rattle.devices.specs.Names.{drop_all, length-take-le, All-take, All-drop, Image, IsWhole, image_of}
 use Rattle.std.specs.Prelude.{◌≡◌, ◌≤◌, ◌<◌, ◌*◌}
@@ -17,7 +17,7 @@ module _ (sectors : ℕ) (first : Image) (past : List Event) where
             (sym all) left,
       )
 
-  -- a crash since this moment might have left only images that a crash may leave now
+  -- an image that a crash since now may have left is one that a crash now may leave
   pub past_only_now : (c : Image) → (k : ℕ) × (length past ≤ k) × (k ≤ length past) × MayLeave sectors
       (replay (at_first first) (take k past)) c
       → MayLeave sectors (replay (at_first first) past) c
@@ -25,7 +25,7 @@ module _ (sectors : ℕ) (first : Image) (past : List Event) where
       let all : take left.0 past ≡ past = take_all left.0 past left.1 in
       subst (λ (es : List Event). MayLeave sectors (replay (at_first first) es) c) all left.3
 
--- 512 bytes for each sector make whole sectors
+-- a list of 512 bytes for each sector is a whole image
 pub image_whole : (sectors : ℕ) (bytes : List ℕ) → length bytes ≡ 512 * sectors → All (λ b. b < 256) bytes →
     IsWhole sectors (image_of bytes)
 image_whole sectors bytes size fits = record {

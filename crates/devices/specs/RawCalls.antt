@@ -1,10 +1,10 @@
--- The calls of a file of the operating system, and what they do to its sectors.
+-- The calls of a file of the operating system, and their effect on its sectors.
 use Rattle.devices.specs.Names.{ℕ, List, [], length, Option, None, Some, ⊤, concat, flat_map, sum_by, sectors_of}
 use Rattle.std.specs.Prelude.{◌≡◌, ◌+◌, ◌*◌, ◌∷◌, ◌++◌}
 use Rattle.devices.specs.declared.record.Outcome.TheVariants.{Keep}
 use Rattle.devices.specs.Past.{Event, synced, cut, writes_of}
 
--- a successful call: it took bytes to write from a byte on, or it made the written bytes durable
+-- a successful call: a write took these bytes at this byte, or a sync made the written bytes durable
 pub data Call : Type 0 where
   took : ℕ → List ℕ → Call
   kept : Call
@@ -15,7 +15,7 @@ Adds None now more = now ≡ None
 Adds (Some calls) None more = ⊥
 Adds (Some calls) (Some now) more = now ≡ calls ++ more
 
--- what happens to a file of sectors
+-- one operation on a file of sectors
 pub data Deed : Type 0 where
   writes : ℕ → List (List ℕ) → Deed  -- these pieces are written from a sector on
   fails_write : ℕ → List (List ℕ) → List ℕ → Deed  -- these pieces are written, and a write of the rest fails
@@ -28,7 +28,7 @@ abbrev pub taken : ℕ → List (List ℕ) → List Call
 taken byte [] = []
 taken byte (piece ∷ pieces) = took byte piece ∷ taken (byte + length piece) pieces
 
--- the successful calls of a deed
+-- the successful calls that a deed makes
 abbrev pub calls_of : Deed → List Call
 calls_of (writes at pieces) = taken (512 * at) pieces
 calls_of (fails_write at pieces rest) = taken (512 * at) pieces
@@ -36,7 +36,7 @@ calls_of syncs = kept ∷ []
 calls_of fails_sync = []
 calls_of cuts = []
 
--- what a deed is to a device: a write that fails may have written any of its sectors
+-- the events of a deed: a write that fails may have written any of its sectors
 abbrev pub events_by : Deed → List Event
 events_by (writes at pieces) = writes_of at (sectors_of (concat pieces)) (concat pieces)
 events_by (fails_write at pieces rest) = writes_of at (sectors_of (concat pieces ++ rest)) (concat pieces ++ rest)
@@ -44,7 +44,7 @@ events_by syncs = synced ∷ []
 events_by fails_sync = []
 events_by cuts = cut Keep ∷ []
 
--- how many calls of the device fail in a deed
+-- how many failures a deed counts as
 abbrev pub failures_by : Deed → ℕ
 failures_by (writes at pieces) = 0
 failures_by (fails_write at pieces rest) = 1
@@ -52,16 +52,16 @@ failures_by syncs = 0
 failures_by fails_sync = 1
 failures_by cuts = 0
 
--- all of the bytes were taken from a byte on, one piece after another
+-- all of the bytes were written from a byte on, one piece after another
 abbrev pub Takes : ℕ → Option (List Call) → Option (List Call) → List ℕ → Type 0
 Takes byte old new bytes = (pieces : List (List ℕ)) × (concat pieces ≡ bytes) × Adds old new (taken byte pieces)
 
--- a beginning of the bytes was taken from a byte on, one piece after another
+-- a prefix of the bytes was written from a byte on, one piece after another
 abbrev pub TakesFront : ℕ → Option (List Call) → Option (List Call) → List ℕ → Type 0
 TakesFront byte old new bytes =
     (pieces : List (List ℕ)) × (rest : List ℕ) × (concat pieces ++ rest ≡ bytes) × Adds old new (taken byte pieces)
 
--- the known calls are those of some deeds, and these have exactly these events and this number of failures
+-- the known calls are those of some list of deeds, which has these events and this number of failures
 abbrev pub Tells : List Event → ℕ → Option (List Call) → Type 0
 Tells events failures None = ⊤
 Tells events failures (Some calls) =

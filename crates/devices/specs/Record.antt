@@ -1,4 +1,4 @@
--- The record that a device in memory keeps of what was done to it.
+-- The record of a device in memory: what was done to it.
 use Rattle.devices.specs.Names.{ℕ, zero, suc, Bool, false, List, [], Option, Some, None, unwrap_or, image_of}
 use Rattle.std.specs.Prelude.{◌+◌, ◌||◌, ◌==◌, ◌∷◌, ◌++◌}
 use Rattle.devices.specs.declared.record.Outcome.{Outcome}
@@ -12,7 +12,7 @@ abbrev pub event_of : Action → Event
 event_of (Wrote sector bytes) = wrote sector bytes
 event_of Synced = synced
 
--- the event of a mark: the power cut after an entry, if there was one
+-- the event of a mark: the power cut that came after an entry, if one did
 abbrev pub mark_of : Option Outcome → List Event
 mark_of None = []
 mark_of (Some outcome) = cut outcome ∷ []

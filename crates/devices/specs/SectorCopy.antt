@@ -1,8 +1,8 @@
--- The bytes of all sectors, where a sector that isn't stored is zeros.
+-- The bytes of all sectors, when sectors of zeros aren't stored.
 use Rattle.devices.specs.Names.{ℕ, List, Option, None, Some, All, length, map, replicate, concat, item_at}
 use Rattle.std.specs.Prelude.{◌≡◌, ◌<◌}
 
--- the bytes of a sector: zeros where none are stored
+-- the bytes of a sector: zeros if none are stored
 abbrev pub bytes_of : Option (List ℕ) → List ℕ
 bytes_of None = replicate 512 0
 bytes_of (Some bytes) = bytes

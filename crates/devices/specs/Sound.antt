@@ -1,13 +1,13 @@
--- What always holds of a file and its copy.
+-- The invariant of a file and its copy.
 use Rattle.devices.specs.Names.{ℕ, List, length, All, IsWhole, Agrees, image_of}
 use Rattle.std.specs.Prelude.{◌≡◌, ◌<◌, ◌≤◌, ◌*◌}
 use Rattle.devices.specs.Past.{Event, State, at_first, replay}
 
--- the sectors after all that was done to the file
+-- the state of the sectors after all events of the file
 abbrev pub now_of : List ℕ → List Event → State
 now_of first events = replay (at_first (image_of first)) events
 
--- the copy has the sectors that the file has
+-- the invariant: the copy has the file's sectors
 pub record IsCopy (sectors : ℕ) (copy first : List ℕ) (events : List Event) : Type 0 where
   pub few : sectors ≤ 131072
   pub size : length copy ≡ 512 * sectors

@@ -15,7 +15,7 @@ events_of Synced = synced ∷ []
 events_of Cut = cut Keep ∷ []
 events_of Failed = []
 
--- the bytes that the file held at first; a step `Held` adds what it found
+-- the bytes that the file held at first; a step `Held` reports more of them
 abbrev pub first_after : List ℕ → Step → List ℕ
 first_after first (Held bytes) = first ++ bytes.now
 first_after first (Wrote at bytes) = first
@@ -31,7 +31,7 @@ failures_of Synced = 0
 failures_of Cut = 0
 failures_of Failed = 1
 
--- the history of a file that holds these bytes, and to which nothing has been done
+-- the history of a file with these bytes, before any event
 abbrev pub fresh : List ℕ → History
 fresh bytes = record { first = bytes; events = []; failures = 0 }
 

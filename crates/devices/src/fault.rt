@@ -1,4 +1,4 @@
-// Why a file is no device.
+// Why a file can't be opened as a device.
 ghost use Rattle.std.specs.Prelude.{◌≡◌};
 ghost use Rattle.devices.specs.declared.fault.FileFault.TheVariants.{Io, NoMemory};
 

@@ -14,13 +14,12 @@ use std::fs::File;
 
 /// A device in a file, and a copy of its sectors.
 ///
-/// A read is answered from the copy and doesn't fail. A write goes to the file and to the copy.
-/// Where the file fails, the call is `Failed`, and so is each write and each sync after it: open
-/// the file again then.
+/// A read is answered from the copy and doesn't fail. A write goes to the file and to the copy. If the file
+/// fails, the call returns `Failed`, and so does each later write and sync. Then open the file again.
 #[derive(Drop)]
 pub struct CopiedFile<F: SectorFile> {
     sectors: u64,
-    // What a read gives.
+    // What a read returns.
     copy: SectorCopy,
     file: F,
     ghost sound: { IsCopy sectors copy (F.first file) (F.events file) },
@@ -32,7 +31,7 @@ pub type FileDevice = CopiedFile<HostFile<File>>;
 impl<F: SectorFile> CopiedFile<F> {
     ghost use Rattle.devices.specs.FileDevice.{file_disk};
 
-    /// A device in this file, which holds the bytes of `copy`. Nothing has been done to the file.
+    /// A device in this file, which holds the bytes of `copy`. Nothing has been done to the file yet.
     #[tactic(auto, using(crate::proofs::Copies::fresh_only))]
     pub fn new(copy: SectorCopy, file: F) -> CopiedFile<F>
         requires few { sectors_of copy ≤ 131072 }
@@ -51,7 +50,7 @@ impl<F: SectorFile> CopiedFile<F> {
         }
     }
 
-    /// The file beneath, on which no call is made.
+    /// The file of the device. No call may be made on it.
     pub fn file(&self) -> &F
         ensures { result.now ≡ self.now.file }
     {
@@ -89,7 +88,7 @@ impl<F: SectorFile> Device for CopiedFile<F> {
         self.sectors
     }
 
-    /// It doesn't fail.
+    /// Never fails.
     fn read(&mut self, at: u64, into: &mut [u8]) -> Result<(), Failed>
         requires whole { length into.old % 512 ≡ 0 }
         requires inside { at + sectors_of into.old ≤ (file_disk self.old).sectors }
@@ -117,7 +116,7 @@ impl<F: SectorFile> Device for CopiedFile<F> {
         self.file.sync()
     }
 
-    /// It does nothing to the file: every byte is kept.
+    /// Does nothing to the file: every byte is kept.
     fn power_cut(&mut self) {
         self.file.power_cut();
     }

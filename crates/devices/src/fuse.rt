@@ -7,11 +7,10 @@ use crate::read_only::SharedDevice;
 use collections::Tally;
 use device::{Device, Failed};
 
-/// Passes some reads, writes and syncs to the device beneath it, and then fails each of them, until
-/// a power cut.
+/// Passes a number of reads, writes and syncs to an inner device, and then fails each of them until a power
+/// cut.
 ///
-/// A call that it fails itself doesn't reach the device beneath: a failed write of the fuse writes
-/// nothing.
+/// A call that the fuse fails doesn't reach the inner device: a failed write writes nothing.
 #[derive(Drop)]
 pub struct Fuse<D: Device> {
     inner: D,
@@ -48,7 +47,7 @@ impl<D: Device> Fuse<D> {
         }
     }
 
-    /// The device beneath.
+    /// The inner device.
     pub fn into_inner(self) -> D
         ensures { result ≡ beneath self }
     {
@@ -56,7 +55,7 @@ impl<D: Device> Fuse<D> {
         inner
     }
 
-    // Takes one call off those that are left.
+    // Counts a call, or fails if none are left.
     fn pass(&mut self) -> Result<(), Failed>
         ensures inner { self.new.inner ≡ self.old.inner }
         ensures blown { IsErr result ↔ IsBlown self.old }
@@ -116,7 +115,7 @@ impl<D: Device> Device for Fuse<D> {
         ensures time { Elapses (fused D.disk self.old) (fused D.disk self.new) }
         ensures cause { Counts (fused D.disk self.old) (fused D.disk self.new) result }
     {
-        // A write that isn't passed on writes nothing.
+        // If `pass` fails, nothing is written.
         self.pass()?;
         self.inner.write(at, from)
     }
@@ -136,7 +135,7 @@ impl<D: Device> Device for Fuse<D> {
         self.inner.sync()
     }
 
-    /// It mends the fuse too: from then on each call is passed on.
+    /// Mends the fuse too: each later call is passed on.
     fn power_cut(&mut self)
         ensures mended { calls_left self.new ≡ None }
         ensures left { (fused D.disk self.old).may_leave (fused D.disk self.new).seen }

@@ -1,4 +1,4 @@
-// What has been done to a file. Only clauses read it.
+// What has been done to a file, for contracts only.
 ghost use Rattle.std.specs.Prelude.{◌≡◌, ℕ, List};
 ghost use Rattle.std.specs.Borrow.{ftrue};
 ghost use Rattle.std.specs.Coded.{coded_list};
@@ -7,8 +7,8 @@ ghost use Rattle.devices.specs.Codes.{coded_event};
 
 use std::marker::Model;
 
-/// What a file held when it was opened, all that was done to it since, and how many calls have
-/// failed. It takes no bytes and does nothing at run time, so it doesn't grow.
+/// What a file held when it was opened, all that was done to the file since, and how many calls have failed.
+/// A history is ghost: it takes no bytes, however long it is.
 #[derive(Drop)]
 pub struct History {
     pub ghost first: { List ℕ },
@@ -20,10 +20,10 @@ impl Model for History {
     ghost also_owns = { λ _. ftrue };
 }
 
-/// What happens to a file.
+/// One step of a file's history.
 #[derive(Clone, Copy, Drop)]
 pub(crate) enum Step<'a> {
-    /// The file was found to hold these bytes after those known.
+    /// The file was found to hold these bytes, after those already known.
     Held { bytes: &'a [u8] },
     /// These sectors are written from `at` on.
     Wrote { at: u64, bytes: &'a [u8] },
@@ -45,7 +45,7 @@ impl History {
         History {}
     }
 
-    /// One step more.
+    /// The history with one more step.
     pub(crate) fn then(&self, _step: &Step<'_>) -> History
         ensures { result ≡ stepped self.now _step.now }
     {

@@ -13,8 +13,8 @@ use std::io::ErrorKind;
 
 /// An open file of the operating system, which nothing else writes to.
 ///
-/// Its history is what its calls did. A write that failed counts as a write of all its sectors,
-/// because it may have written a beginning of its bytes.
+/// Its history lists what its calls did. A write that failed counts as a write of all its sectors, because it
+/// may have written some of them.
 #[derive(Drop)]
 pub struct HostFile<F: RawFile> {
     file: F,
@@ -22,12 +22,12 @@ pub struct HostFile<F: RawFile> {
     is_broken: bool,
     history: History,
     ghost broken: { is_broken ≡ nat_lt 0 history.failures },
-    // A call of the device failed only if one of the file did.
+    // A call of the device fails only if a call of the file failed.
     ghost caused: { is_broken ≡ true → HasFailed (F.errors file) },
     ghost reported: { ∥ Tells history.events history.failures (F.calls file) ∥₁ },
 }
 
-// Writes a beginning of the bytes at the byte `at`, at least one. An interrupted call is made again.
+// Writes at least one byte of `from`, at the byte `at`. An interrupted call is repeated.
 fn put_some<F: RawFile>(file: &mut F, at: u64, from: &[u8]) -> Result<usize, Failed>
     requires { 0 < length from.now }
     ensures bound { IfOk result (λ n. (0 < n) × (n ≤ length from.now)) }
@@ -49,7 +49,7 @@ fn put_some<F: RawFile>(file: &mut F, at: u64, from: &[u8]) -> Result<usize, Fai
     Err(Failed)
 }
 
-// Writes all of the bytes at the byte `at`. `Failed` may leave a beginning of the bytes written.
+// Writes all of the bytes at the byte `at`. After `Failed`, a prefix of them may be written.
 #[tactic(auto, using(crate::proofs::Deeds::takes_none))]
 fn put_fully<F: RawFile>(file: &mut F, at: u64, from: &[u8]) -> Result<(), Failed>
     requires { at ≤ 512 * 131072 }
@@ -64,7 +64,7 @@ fn put_fully<F: RawFile>(file: &mut F, at: u64, from: &[u8]) -> Result<(), Faile
     Ok(())
 }
 
-// Writes these sectors from `at` on. `Failed` may leave a beginning of the bytes written.
+// Writes these sectors from `at` on. After `Failed`, a prefix of the bytes may be written.
 fn put_sectors<F: RawFile>(file: &mut F, at: u64, from: &[u8]) -> Result<(), Failed>
     requires { at ≤ 131072 }
     ensures ok { OnOk result (Takes (512 * at) (F.calls file.old) (F.calls file.new) from.now) }
@@ -83,8 +83,8 @@ fn sync_all<F: RawFile>(file: &mut F) -> Result<(), Failed>
     file.keep().map_err(|_| Failed)
 }
 
-// The history of a file that holds these sectors, and to which nothing has been done. It takes no
-// bytes: the loop is there because no slice has them all.
+// The history of a file that holds these sectors, before any event. The loop computes nothing, because a
+// history takes no bytes. It is there for the proof: no slice has all sectors at once.
 #[tactic(auto, using(crate::proofs::Histories::all_held))]
 fn history_of(copy: &SectorCopy) -> History
     ensures { result ≡ fresh copy.now }
@@ -98,7 +98,7 @@ fn history_of(copy: &SectorCopy) -> History
 }
 
 impl<F: RawFile> HostFile<F> {
-    /// A file that holds these sectors, on which nothing has been done.
+    /// A file that holds these sectors, before any event.
     pub fn new(file: F, copy: &SectorCopy) -> HostFile<F>
         requires { IfSome (F.calls file) (λ calls. calls ≡ []) }
         ensures first { result.history.first ≡ copy.now }
@@ -113,7 +113,7 @@ impl<F: RawFile> HostFile<F> {
         }
     }
 
-    /// The file beneath.
+    /// The operating system's file.
     pub fn file(&self) -> &F
         ensures { result.now ≡ self.now.file }
     {

@@ -13,7 +13,7 @@ use std::alloc::{AllocError, Global};
 
 /// A device in memory, which keeps a record with an entry for each sector written and each sync.
 ///
-/// A write or a sync that finds too few entries left fails and writes nothing. No other call fails.
+/// A write or a sync for which the record lacks entries fails and writes nothing. No other call fails.
 #[derive(Drop)]
 pub struct Memory {
     mirror: Mirror,
@@ -54,7 +54,7 @@ impl Memory {
         })
     }
 
-    // Fails if the record takes fewer entries than these.
+    // Fails if the record has space for fewer entries.
     fn check_capacity(&mut self, entries: usize) -> Result<(), Failed>
         ensures full { IsErr result ↔ (capacity_left self.old < entries) }
         ensures mirror { self.new.mirror ≡ self.old.mirror }
@@ -84,7 +84,7 @@ impl Device for Memory {
         self.mirror.sectors
     }
 
-    /// It doesn't fail.
+    /// Never fails.
     fn read(&mut self, at: u64, into: &mut [u8]) -> Result<(), Failed>
         requires whole { length into.old % 512 ≡ 0 }
         requires inside { at + sectors_of into.old ≤ (memory_disk self.old).sectors }
@@ -102,8 +102,8 @@ impl Device for Memory {
         Ok(())
     }
 
-    /// It fails exactly if the record takes fewer entries than there are sectors in `from`, and
-    /// writes nothing then.
+    /// Fails exactly if the record has space for fewer entries than `from` has sectors. Then it writes
+    /// nothing.
     fn write(&mut self, at: u64, from: &[u8]) -> Result<(), Failed>
         requires whole { length from.now % 512 ≡ 0 }
         requires inside { at + sectors_of from.now ≤ (memory_disk self.old).sectors }
@@ -127,7 +127,7 @@ impl Device for Memory {
         Ok(())
     }
 
-    /// It fails exactly if the record takes no more entries.
+    /// Fails exactly if the record has no space.
     fn sync(&mut self) -> Result<(), Failed>
         ensures full { IsErr result ↔ (capacity_left self.old ≡ 0) }
         ensures past { OnOk result (memory_past self.new ≡ memory_past self.old ++ synced ∷ []) }
@@ -148,8 +148,8 @@ impl Device for Memory {
         Ok(())
     }
 
-    /// A read gives exactly what the outcome leaves: the written bytes, the synced ones, or these
-    /// with each unsynced sector filled. It needs no space in the record.
+    /// Afterwards a read gives exactly what the outcome leaves: the written bytes, the synced ones, or the
+    /// synced ones with each unsynced sector filled. It needs no space in the record.
     fn power_cut(&mut self)
         ensures outcome_left { Agrees (memory_disk self.new).seen
             (left_by (outcome_of self.old) (memory_state self.old)) }

@@ -12,12 +12,12 @@ pub(crate) struct Mirror {
     pub(crate) sectors: u64,
     // The bytes that the device began with.
     first: Vec<u8>,
-    // What a read gives.
+    // What a read returns.
     present: Vec<u8>,
     // What the last sync or power cut left.
     synced: Vec<u8>,
     pub(crate) entries: Vec<RecordEntry>,
-    // The entries from this one on are not synced.
+    // The entries from this index on aren't synced.
     settled: usize,
     ghost sound: { IsSoundMirror sectors first.items present.items synced.items entries.items settled },
 }
@@ -27,7 +27,7 @@ impl Mirror {
     ghost use Rattle.devices.specs.Past.{synced, writes_of, left_by, EndsCut};
     ghost use Rattle.devices.specs.Mirror.{past_of, state_of};
 
-    /// A device with these bytes, on which nothing has happened yet. The record is empty.
+    /// A device with these bytes, before any event. The record is empty.
     pub fn new(
         alloc: Global,
         sectors: u64,
@@ -64,7 +64,7 @@ impl Mirror {
         into.copy_from_slice(&self.present[start..start + into.len()]);
     }
 
-    /// Writes these sectors from `at` on. The record needs space for an entry each.
+    /// Writes `from` into the sectors from `at` on. The record needs space for an entry for each.
     #[tactic(auto, using(crate::proofs::Entries::length_written, crate::proofs::Entries::past_written))]
     pub fn write(&mut self, at: u64, from: &[u8])
         requires whole { length from.now % 512 ≡ 0 }

@@ -1,4 +1,4 @@
-// Making a device in a file that isn't there.
+// Makes a device in a new file.
 ghost use Rattle.std.specs.Prelude.{◌≡◌, ◌<◌, ◌≤◌, ℕ, IfErr, IfOk, IfSome, replicate};
 ghost use Rattle.device.specs.Calls.{Only};
 ghost use Rattle.devices.specs.FileDevice.{file_disk, raw_file};
@@ -18,18 +18,18 @@ use std::io;
 pub enum Unmade<F> {
     /// Memory ran out. No file was made.
     NoMemory,
-    /// The system made no file: something stands at the path, or it has another cause.
+    /// The system made no file, for example because something exists at the path.
     Refused(io::Error),
-    /// The system made this file, and refused a later call, or another device is open in it.
+    /// The system made this file, but a later call failed, or another device is open in it.
     Unfinished(F, FileFault),
 }
 
 impl<F: Openable> CopiedFile<HostFile<F>> {
-    /// As `create`, in a file that isn't there. If anything stands at `path`, a link too, it isn't changed: the call
-    /// that opens the file also makes it.
+    /// As `create`, but only in a new file. If anything exists at `path`, even a link, it isn't changed: one
+    /// call makes and opens the file.
     ///
-    /// `NoMemory` where there is no memory for a copy of the file, `Refused` where the system doesn't make it. In both
-    /// cases no file was made. `Unfinished` where it was made, and can't be locked, lengthened or synced.
+    /// `NoMemory` if there is no memory for a copy of the file, `Refused` if the system doesn't make it: in
+    /// both cases no file was made. `Unfinished` if it was made, but can't be locked, lengthened or synced.
     pub fn create_new(
         rt: &HostRuntime,
         path: &str,

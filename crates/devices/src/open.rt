@@ -1,4 +1,4 @@
-// Opening and making a device in a file.
+// Opens and makes devices in files.
 ghost use Rattle.std.specs.Prelude.{◌≡◌, ◌≢◌, ◌⊎◌, ◌<◌, ◌≤◌, ◌*◌, ◌/◌, ℕ, [], ◌∷◌, length, replicate, take};
 ghost use Rattle.std.specs.Prelude.{IfErr, IfOk, IfSome, IsErrOf, OnOk, OnErr};
 ghost use Rattle.device.specs.Calls.{Agrees, Only, sectors_of, image_of};
@@ -29,7 +29,7 @@ fn device_sectors(bytes: u64) -> u64
 // How many sectors are read at once.
 const READ_SECTORS: usize = 128;
 
-// Reads bytes of the file from `at` on, at least one, and returns how many. An interrupted call is made again.
+// Reads at least one byte of the file from `at` on, and returns how many. An interrupted call is repeated.
 #[tactic(auto, using(crate::proofs::Openings::keeps_length))]
 fn get_some<F: Openable>(file: &mut F, at: u64, into: &mut [u8]) -> Result<usize, FileFault>
     requires { 0 < length into.old }
@@ -128,7 +128,7 @@ fn load<F: Openable>(alloc: Global, file: &mut F) -> Result<SectorCopy, FileFaul
     Ok(copy)
 }
 
-// Takes a lock on the file, or goes without one where the system has none. `Held` where another open file excludes it.
+// Takes a lock on the file, or none if the system has no locks. `Held` if another open file excludes it.
 #[tactic(auto, using(crate::proofs::Openings::keeps_length))]
 fn take_lock<F: Openable>(file: &mut F, lock: Lock) -> Result<(), FileFault>
     ensures ok { OnOk result (TakesLock lock (F.opening file.old) (F.opening file.new)) }
@@ -145,7 +145,7 @@ fn take_lock<F: Openable>(file: &mut F, lock: Lock) -> Result<(), FileFault>
     }
 }
 
-// Locks the file, makes it durable and reads it. At `Held` the only call was for the lock.
+// Locks, syncs and reads the file. If it returns `Held`, the request for the lock was its only call.
 fn load_locked<F: Openable>(
     alloc: Global,
     file: &mut F,
@@ -177,8 +177,8 @@ fn fill_zeros<F: Openable>(rt: &HostRuntime, file: &mut F, path: &str, bytes: u6
     file.sync_folder(rt, path)
 }
 
-/// Locks the file, fills it with zeros and makes it durable. At `Held` the only call was for the
-/// lock.
+/// Locks the file, fills it with zeros and syncs it. If it returns `Held`, the request for the lock was its
+/// only call.
 pub(crate) fn make_zeros<F: Openable>(
     rt: &HostRuntime,
     file: &mut F,
@@ -198,7 +198,7 @@ pub(crate) fn make_zeros<F: Openable>(
     Ok(())
 }
 
-// Opens the file at `path`, locks it, and gives the device in it.
+// Opens and locks the file at `path`, and returns the device in it.
 fn open_locked<F: Openable>(
     rt: &HostRuntime,
     path: &str,
@@ -217,13 +217,14 @@ fn open_locked<F: Openable>(
 }
 
 impl<F: Openable> CopiedFile<HostFile<F>> {
-    /// The device in the file at `path`, which has to be there. Its sectors are the whole ones of
-    /// the file, but at most `MAX_SECTORS`. The bytes after the last sector stay. The file is locked and synced before
-    /// it is read, so what a read of the device gives at first is durable. Until the device is dropped no other is
-    /// open in the file.
+    /// Opens the device in the file at `path`, which must exist. The device has the file's whole sectors, at
+    /// most `MAX_SECTORS`. Bytes after the last sector stay. The file is locked and synced before it is read,
+    /// so what the device first reads is durable. Until the device is dropped, no other can be opened in the
+    /// file.
     ///
-    /// `Held` where another device is open in it. `Io` where the system refuses to open, sync, measure or read it, as
-    /// it does with a file that isn't there, a folder or a pipe. `NoMemory` where there is no memory for a copy of it.
+    /// `Held` if another device is open in the file. `Io` if the system refuses to open, sync, measure or
+    /// read it, for example if it doesn't exist, or is a folder or a pipe. `NoMemory` if there is no memory
+    /// for a copy of it.
     pub fn open(rt: &HostRuntime, path: &str) -> Result<CopiedFile<HostFile<F>>, FileFault>
         ensures opening { IfOk result (λ d. IfSome (F.opening (raw_file d))
             (λ calls. IsOpened path.now Access.Write Lock.Exclusive calls (file_disk d))) }
@@ -234,8 +235,8 @@ impl<F: Openable> CopiedFile<HostFile<F>> {
         open_locked(rt, path, Access::Write, Lock::Exclusive)
     }
 
-    /// As `open`, but the file needn't be writable: each write to the device fails. Other devices that were opened in
-    /// this way may be open in the file too.
+    /// As `open`, but the file needn't be writable: each write to the device fails. Other devices opened by
+    /// `open_to_read` may be open in the file too.
     pub fn open_to_read(rt: &HostRuntime, path: &str) -> Result<CopiedFile<HostFile<F>>, FileFault>
         ensures opening { IfOk result (λ d. IfSome (F.opening (raw_file d))
             (λ calls. IsOpened path.now Access.Read Lock.Shared calls (file_disk d))) }
@@ -246,13 +247,13 @@ impl<F: Openable> CopiedFile<HostFile<F>> {
         open_locked(rt, path, Access::Read, Lock::Shared)
     }
 
-    /// A device of `sectors` sectors, all zeros, in a new file at `path`. A file that is there is emptied first. The
-    /// zeros are synced, and the folder that has the file, where the system lets it be opened. Until the device is
-    /// dropped no other is open in the file.
+    /// Makes a device of `sectors` sectors, all zeros, in the file at `path`. An existing file is emptied
+    /// first. The zeros are synced, and so is the folder of the file if the system lets it be opened. Until
+    /// the device is dropped, no other can be opened in the file.
     ///
-    /// `Held` where another device is open in the file; it isn't changed then. `Io` if the system
-    /// refuses to make, lengthen or sync the file, which may then be there with any length.
-    /// `NoMemory` where there is no memory for a copy of it, and then no file was touched.
+    /// `Held` if another device is open in the file, which then isn't changed. `Io` if the system refuses to
+    /// make, lengthen or sync the file, which may then exist with any length. `NoMemory` if there is no
+    /// memory for a copy of it; then no file was touched.
     pub fn create(
         rt: &HostRuntime,
         path: &str,

@@ -16,13 +16,13 @@ use std::path::Path;
 /// What a file is opened for.
 #[derive(Clone, Copy, PartialEq, Eq, Debug)]
 pub enum Access {
-    /// To be read. The file has to be there.
+    /// To read. The file must exist.
     Read,
-    /// To be read and written. The file has to be there.
+    /// To read and write. The file must exist.
     Write,
-    /// To be read and written. A file that isn't there is made.
+    /// To read and write. If the file doesn't exist, it is made.
     Create,
-    /// To be read and written. Nothing stands at the path, no link either, and the file is made.
+    /// To read and write. Nothing may exist at the path, not even a link; the file is made.
     New,
 }
 
@@ -42,14 +42,14 @@ pub enum LockAnswer {
     Granted,
     /// Another open file holds a lock that excludes it.
     Held,
-    /// The system gives no lock on this file.
+    /// The system doesn't lock this file.
     Unavailable,
 }
 
-/// A file in which a device can be opened or made, and the calls of this trait with their answers,
-/// where they are known. Each method is one call.
+/// A file in which a device can be opened or made. Its calls and their answers are listed if they are known.
+/// Each method is one call.
 pub trait Openable: RawFile {
-    // These calls, in order.
+    // The calls so far, in order.
     ghost opening: { Self → Option (List OpeningCall) };
 
     /// Opens the file at `path`.
@@ -59,7 +59,7 @@ pub trait Openable: RawFile {
         ensures opened { IfOk result (λ file. IfSome (opening file) (λ calls. calls ≡ opened path.now access ∷ [])) }
         ensures fresh { IfOk result (λ file. IfSome (Self.calls file) (λ calls. calls ≡ [])) };
 
-    /// Requests a lock, and doesn't wait.
+    /// Requests a lock without waiting.
     fn lock(&mut self, lock: Lock) -> io::Result<LockAnswer>
         ensures ok { IfOk result (λ answer. Adds (opening self.old) (opening self.new) (locked lock answer ∷ [])) }
         ensures err { OnErr result (opening self.new ≡ opening self.old) }
@@ -106,8 +106,8 @@ pub trait Openable: RawFile {
         ensures went { OnOk result (Self.errors self.new ≡ Self.errors self.old) }
         ensures failed { OnErr result (Self.errors self.new ≡ option_map (more_errors 1 0) (Self.errors self.old)) };
 
-    /// Makes durable that the file stands in the folder of `path`, where the system lets that
-    /// folder be opened.
+    /// Syncs the folder of `path`, so that the file's name there is durable, if the system lets that folder
+    /// be opened.
     fn sync_folder(&mut self, rt: &HostRuntime, path: &str) -> io::Result<()>
         ensures ok { OnOk result (Adds (opening self.old) (opening self.new) (listed path.now ∷ [])) }
         ensures err { OnErr result (opening self.new ≡ opening self.old) }
@@ -116,7 +116,7 @@ pub trait Openable: RawFile {
         ensures failed { OnErr result (Self.errors self.new ≡ option_map (more_errors 1 0) (Self.errors self.old)) };
 }
 
-// The answer to a try for a lock.
+// The answer to a request for a lock.
 fn answer_of(answer: Result<(), TryLockError>) -> LockAnswer
     ensures granted { (result ≡ LockAnswer.Granted) ↔ IsOk answer }
     ensures held { (result ≡ LockAnswer.Held) ↔ IsErrOf answer TryLockError.WouldBlock }
@@ -128,7 +128,7 @@ fn answer_of(answer: Result<(), TryLockError>) -> LockAnswer
     }
 }
 
-/// Nothing is known of its calls: what it does is trusted.
+/// Its calls are unknown: what it does is trusted.
 impl Openable for File {
     ghost opening = { λ _. None };
 

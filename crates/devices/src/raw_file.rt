@@ -10,16 +10,16 @@ use std::fs::File;
 use std::io::{self, ErrorKind};
 use std::os::unix::fs::FileExt;
 
-/// A file of the operating system, its calls that went well, and the errors that the others returned,
-/// where they are known. Each method is one call.
+/// A file of the operating system. Its successful calls are listed if they are known, and the errors of the
+/// others counted. Each method is one call.
 pub trait RawFile: Drop {
-    // The calls that went well, in order.
+    // The successful calls, in order.
     ghost calls: { Self → Option (List Call) };
 
     // The errors so far.
     ghost errors: { Self → Option CallErrors } = { λ _. None };
 
-    /// Writes the first of these bytes at the byte `at`, as many as the system takes.
+    /// Writes the first bytes of `from` at the byte `at`, as many as the system takes. Returns how many.
     fn put(&mut self, at: u64, from: &[u8]) -> io::Result<usize>
         ensures bound { WritesAtMost result from.now }
         ensures ok { IfOk result (λ n. Adds (calls self.old) (calls self.new) (took at (take n from.now) ∷ [])) }
@@ -40,7 +40,7 @@ pub trait RawFile: Drop {
         ensures failed { OnErr result (errors self.new ≡ option_map (more_errors 1 0) (errors self.old)) };
 }
 
-/// Nothing is known of its calls: what it does is trusted.
+/// Its calls are unknown: what it does is trusted.
 impl RawFile for File {
     ghost calls = { λ _. None };
 

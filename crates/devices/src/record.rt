@@ -5,14 +5,14 @@ ghost use Rattle.devices.specs.Record.{entries_of, marked};
 
 use device::SECTOR_SIZE;
 
-/// What a power cut leaves of what was written and not synced.
+/// What a power cut leaves of the bytes that were written and not synced.
 #[derive(Clone, Copy)]
 pub enum Outcome {
-    /// All of it.
+    /// All of them.
     Keep,
-    /// None of it.
+    /// None of them: the synced bytes remain.
     Drop,
-    /// This byte, in each place of each sector.
+    /// This byte, everywhere in each unsynced sector.
     Fill(u8),
 }
 
@@ -32,7 +32,7 @@ pub(crate) struct RecordEntry {
     pub(crate) cut: Option<Outcome>,
 }
 
-/// Notes what was done. The record needs space for it.
+/// Adds an entry. The record needs space for it.
 pub(crate) fn note(entries: &mut Vec<RecordEntry>, action: Action)
     requires { vec_len entries.old < vec_capacity entries.old }
     ensures items { entries.new.items
@@ -42,7 +42,7 @@ pub(crate) fn note(entries: &mut Vec<RecordEntry>, action: Action)
     let _ = entries.push(RecordEntry { action, cut: None });
 }
 
-/// Notes that these sectors were written from `at` on. The record needs space for an entry each.
+/// Adds the entries of a write from `at` on. The record needs space for one each.
 pub(crate) fn note_writes(entries: &mut Vec<RecordEntry>, at: u64, from: &[u8])
     requires room { vec_len entries.old + sectors_of from.now ≤ vec_capacity entries.old }
     requires few { at + sectors_of from.now < 2 ^ 64 }
@@ -59,7 +59,7 @@ pub(crate) fn note_writes(entries: &mut Vec<RecordEntry>, at: u64, from: &[u8])
     }
 }
 
-/// Marks the last entry with a power cut, where there is one and it has no mark yet.
+/// Marks the last entry with a power cut, if there is an entry and it has no mark yet.
 #[tactic(auto, using(crate::proofs::Entries::marked_set))]
 pub(crate) fn mark(entries: &mut Vec<RecordEntry>, outcome: Outcome)
     ensures items { entries.new.items ≡ marked outcome entries.old.items }

@@ -12,11 +12,11 @@ use std::marker::Model;
 
 /// The bytes of sectors, one sector after the other.
 ///
-/// All memory is reserved when it is made, so no later call lacks memory. The system gives memory
-/// for a sector when bytes other than zeros are first put there.
+/// All memory is reserved by `zeros` or `of`, so no later call lacks memory. The system provides memory for a
+/// sector once bytes other than zeros are put there.
 #[derive(Drop)]
 pub struct SectorCopy {
-    // By number, the sectors that held other bytes than zeros. The others hold zeros.
+    // The sectors that ever held a byte other than 0, by number. The others hold zeros.
     stored: SparseVec<[u8; SECTOR_SIZE]>,
 }
 
@@ -42,7 +42,7 @@ fn are_zeros(bytes: &[u8]) -> bool
     any == 0
 }
 
-// These bytes as an array.
+// These 512 bytes as an array.
 fn array_of(bytes: &[u8]) -> [u8; SECTOR_SIZE]
     requires { length bytes.now ≡ 512 }
     ensures { result ≡ bytes.now }
@@ -52,7 +52,7 @@ fn array_of(bytes: &[u8]) -> [u8; SECTOR_SIZE]
     array
 }
 
-// Puts a sector in the place of another. Zeros aren't stored where nothing was.
+// Replaces a sector. If the sector isn't stored and the new bytes are zeros, nothing is stored.
 fn store(stored: &mut SparseVec<[u8; SECTOR_SIZE]>, at: usize, sector: &[u8])
     requires size { length sector.now ≡ 512 }
     requires inside { at < length stored.old }
@@ -69,7 +69,7 @@ fn store(stored: &mut SparseVec<[u8; SECTOR_SIZE]>, at: usize, sector: &[u8])
 }
 
 impl SectorCopy {
-    /// Sectors of zeros. Fails only if memory runs out.
+    /// A number of sectors of zeros. Fails only if memory runs out.
     #[tactic(auto, using(crate::proofs::Stored::none_whole, crate::proofs::Stored::none_zeros))]
     pub fn zeros(alloc: Global, sectors: usize) -> Result<SectorCopy, AllocError>
         ensures { IfOk result (λ copy. copy ≡ replicate (512 * sectors) 0) }
@@ -79,7 +79,7 @@ impl SectorCopy {
         })
     }
 
-    /// These sectors. Fails only if memory runs out.
+    /// A copy of these sectors. Fails only if memory runs out.
     #[tactic(auto, using(crate::proofs::Stored::all_put))]
     pub fn of(alloc: Global, bytes: &[u8]) -> Result<SectorCopy, AllocError>
         requires { length bytes.now % 512 ≡ 0 }
@@ -119,14 +119,14 @@ impl SectorCopy {
         requires inside { 512 * (at + sectors_of into.old) ≤ length self.now }
         ensures { AreSectors (image_of self.now) at into.new }
     {
-        // So `at + i` is no overflow.
+        // For the proof: the contract of `sectors` has a bound, by which `at + i` doesn't overflow.
         let _sectors = self.sectors();
         for i in 0..into.len() / SECTOR_SIZE {
             sectors::put(into, i, self.sector(at + i));
         }
     }
 
-    // Puts a sector in the place of another.
+    // Replaces a sector.
     fn put_sector(&mut self, at: usize, sector: &[u8])
         requires size { length sector.now ≡ 512 }
         requires inside { 512 * (at + 1) ≤ length self.old }
@@ -138,7 +138,7 @@ impl SectorCopy {
         store(&mut self.stored, at, sector);
     }
 
-    /// Puts whole sectors in the place of those from `at` on.
+    /// Replaces the sectors from `at` on.
     #[tactic(auto, using(crate::proofs::Stored::part_is, crate::proofs::Stored::put_more))]
     pub fn put(&mut self, at: usize, from: &[u8])
         requires whole { length from.now % 512 ≡ 0 }
@@ -148,7 +148,7 @@ impl SectorCopy {
         ensures length { length self.new ≡ length self.old }
         ensures fits { All (λ b. b < 256) self.new }
     {
-        // So `at + i` is no overflow.
+        // For the proof: the contract of `sectors` has a bound, by which `at + i` doesn't overflow.
         let _sectors = self.sectors();
         for i in 0..from.len() / SECTOR_SIZE {
             let start = i * SECTOR_SIZE;

@@ -8,19 +8,19 @@ use device::Failed;
 
 /// A file of sectors, and what has been done to it since it was opened.
 ///
-/// The first failure is not the last: from then on each write and each sync fails. A write that
-/// failed may have left any bytes, and after a failed sync nobody knows what is durable.
+/// After the first failure each write and each sync fails. A write that failed may have left any bytes, and
+/// after a failed sync it isn't known what is durable.
 pub trait SectorFile: Drop {
-    /// What it held when it was opened.
+    /// The bytes when the file was opened.
     ghost first: { Self → List ℕ };
 
-    /// What has been done to it since.
+    /// The events since then.
     ghost events: { Self → List Event };
 
     /// How many calls have failed.
     ghost failures: { Self → ℕ };
 
-    /// Writes these sectors from `at` on. After `Failed` they may hold any bytes, as if they were
+    /// Writes `from` into the sectors from `at` on. After `Failed` they may hold any bytes, as if these were
     /// written and not synced.
     fn write(&mut self, at: u64, from: &[u8]) -> Result<(), Failed>
         requires whole { length from.now % 512 ≡ 0 }

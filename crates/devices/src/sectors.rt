@@ -1,4 +1,4 @@
-// Sectors kept in one slice of bytes.
+// Sectors stored in one slice of bytes.
 ghost use Rattle.std.specs.Prelude.{◌≡◌, ◌<◌, ◌≤◌, ◌+◌, ◌*◌, ◌%◌, ℕ, true, false, length, replicate, All};
 ghost use Rattle.device.specs.Calls.{Agrees, sectors_of, image_of, AreSectors, Elsewhere, Patches};
 ghost use Rattle.devices.specs.Past.{left_by};
@@ -8,7 +8,7 @@ ghost use Rattle.devices.specs.MirrorSound.{state_with};
 use crate::record::{Action, Outcome, RecordEntry};
 use device::SECTOR_SIZE;
 
-/// Puts whole sectors in the place of those from `at` on.
+/// Replaces the sectors from `at` on.
 pub fn put(sectors: &mut [u8], at: usize, from: &[u8])
     requires whole { length from.now % 512 ≡ 0 }
     requires inside { 512 * (at + sectors_of from.now) ≤ length sectors.old }
@@ -21,7 +21,7 @@ pub fn put(sectors: &mut [u8], at: usize, from: &[u8])
     sectors[start..start + from.len()].copy_from_slice(from);
 }
 
-// Copies the sector that this action wrote, if it wrote one.
+// If this action wrote a sector, copies that sector from `from`.
 fn copy_sector(into: &mut [u8], from: &[u8], action: &Action)
     requires same_size { length from.now ≡ length into.old }
     requires inside { (i : ℕ) → writes action.now i ≡ true → 512 * (i + 1) ≤ length into.old }
@@ -36,7 +36,7 @@ fn copy_sector(into: &mut [u8], from: &[u8], action: &Action)
     }
 }
 
-/// Copies each sector that one of these entries wrote.
+/// Copies each sector that one of these entries wrote, from `from`.
 #[tactic(auto, using(crate::proofs::Patches::names_at))]
 pub(crate) fn copy_written(into: &mut [u8], from: &[u8], entries: &[RecordEntry])
     requires same_size { length from.now ≡ length into.old }
@@ -50,7 +50,7 @@ pub(crate) fn copy_written(into: &mut [u8], from: &[u8], entries: &[RecordEntry]
     }
 }
 
-// Fills the sector that this action wrote, if it wrote one.
+// If this action wrote a sector, fills that sector with this byte.
 fn fill_sector(into: &mut [u8], byte: u8, action: &Action)
     requires inside { (i : ℕ) → writes action.now i ≡ true → 512 * (i + 1) ≤ length into.old }
     ensures patched { Patches (writes action.now) (λ _. replicate 512 byte) (image_of into.old) (image_of into.new) }
@@ -73,8 +73,8 @@ pub(crate) fn fill_written(into: &mut [u8], byte: u8, entries: &[RecordEntry])
     }
 }
 
-/// Makes both the present and the synced sectors those that a power cut leaves, where these entries
-/// are not synced.
+/// Gives the present and the synced sectors the bytes that a power cut leaves, if `unsynced` are the entries
+/// that aren't synced.
 pub(crate) fn settle(
     present: &mut [u8],
     synced: &mut [u8],

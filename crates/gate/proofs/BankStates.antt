@@ -1,4 +1,4 @@
--- The banks' state agrees with the objects while a process returns, after the reply, and after an invocation with no bank's order.
+-- The banks' state agrees with the objects after a process returns, after a reply, and after an invocation that is no order of a bank.
 use Rattle.gate.proofs.Names.{nat_tests, ℕ, Bool, true, false, List, Result, Ok, Err, drop, length, refl, sym, ap, subst, arith, IsTrue, OnOk, OnErr, slice_index}
 use Rattle.gate.proofs.Names.{All, Bank, Invocation, Operation, Call, Return, Send, Geometry, Object, Arguments, deliver, AreCurrent, AreKeepable}
 use Rattle.gate.proofs.Names.{IsSoundFrames, is_running, IsNoBankOrder, IsSound, NamesItsKind, Fits, World, annex_at, is_process, is_running_process}
@@ -11,14 +11,14 @@ use Rattle.gate.proofs.Effects.{frame_before}
 use Rattle.gate.proofs.Standing.{running_process, now_sound}
 use Rattle.gate.proofs.Plans.{enough_held, invoked_held}
 
--- counts hold of all objects with the same frame
+-- counts that agree with some objects agree with all that have the `SameFrame`
 pub counted_on : {g : Geometry} {os us : List Object} {s : BanksState} → SameFrame os us → AreCounted g os s → AreCounted g us s
 counted_on {g} {os} {us} {s} f h = grind (arith, nat_tests, tests_at, usage_same)
 
 process_runs : (os : List Object) (p : ℕ) → IsTrue (is_running_process os p) → is_running (root_at os p).state ≡ true
 process_runs os p runs = grind (arith, nat_tests)
 
--- facts about sound frames, in the state in which the order finds them
+-- facts about sound frames, after the process that invokes has changed its state before the order
 module _ (old mid : Parts) (s : BanksState) (sound : AreSound old) (counted : AreCounted old.geometry (objects_in old) s) (op : Operation)
     (p : ℕ)
     (runs : IsTrue (is_running_process (objects_in old) p)) (is : objects_in mid ≡ state_before op (objects_in old) p)
@@ -52,7 +52,7 @@ module _ (old mid : Parts) (s : BanksState) (sound : AreSound old) (counted : Ar
         MayChange mid.geometry (objects_in mid) (drop (writer_count caller.operation) list) plan.change
     before_may i caller plan list planned there = search (arith, nat_tests, before_frame, now_sound)
 
--- a reply changes no frame
+-- a reply keeps the `SameFrame`
 pub answered_frame : (op : Operation) (us : List Object) (p : ℕ) (replying : Reply) → SameFrame us (answered op p us replying)
 answered_frame Call us p replying = go (is_running_process us p) (λ runs. running_process us p runs)
   where
@@ -62,7 +62,7 @@ answered_frame Call us p replying = go (is_running_process us p) (λ runs. runni
 answered_frame Return us p replying = frame_refl us
 answered_frame Send us p replying = frame_refl us
 
--- the numbers that an invocation writes itself come first
+-- the numbers that an invocation writes itself come first in the list
 pub process_listed : (P : ℕ → Type 0) (op : Operation) (p a : ℕ) (rest list : List ℕ) → list ≡ writers op p a ++ rest → (op ≡ Send → ⊥) →
     All P list → P p
 process_listed P op p a rest list is other all = grind (arith, nat_tests)
@@ -79,7 +79,7 @@ no_send op is other = grind (arith, nat_tests)
 pub writers_within : (op : Operation) (p a : ℕ) (rest list : List ℕ) → list ≡ writers op p a ++ rest → writer_count op ≤ length list
 writers_within op p a rest list is = grind (arith, nat_tests)
 
--- an order that isn't a bank's keeps the counts, also after a call that only reads
+-- an order that isn't a bank's keeps the banks' state right, also after a call that only reads
 module _ (old mid new : Parts) (i : Invocation) (s : BanksState) (sound : AreSound old) (same : mid ≡ old)
     (fits : Fits (command.Invoke i)) (runs : IsTrue (is_running_process (objects_in old) i.process))
     (other : IsNoBankOrder (register_at (objects_in old) i.process i.register) (slice_index i.words 0))
@@ -100,7 +100,7 @@ module _ (old mid new : Parts) (i : Invocation) (s : BanksState) (sound : AreSou
       subst (λ (p : Parts). AreCounted p.geometry (objects_in p) s) (sym (unchanged (stayed ∙ sym (ap (λ (p : Parts). p.failures) same))))
       counted_mid
 
--- an invoked bank may plan its order
+-- an order of the bank that is invoked may be planned
 pub bank_may_ask : (p : Parts) (s : BanksState) (i : Invocation) (caller : Caller) (b : ℕ) (args : Arguments) → AreSound p →
     AreCounted p.geometry (objects_in p) s →
     Fits (command.Invoke i) → IsRequested (objects_in p) i caller → AreEnough (objects_in p) i caller.invoked args →

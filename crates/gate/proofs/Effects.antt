@@ -1,4 +1,4 @@
--- The effect and outcome of an invocation, through a gate too, from what its parts report. The numbers that are listed for it.
+-- The effect of an invocation, from the results of its parts, and the numbers that it writes.
 use Rattle.gate.proofs.Names.{nat_tests, ℕ, zero, suc, Bool, List, Option, None, Some, drop, length, refl, sym, ap, subst, arith, IsTrue, slice_index, All}
 use Rattle.gate.proofs.Names.{Capability, Start, Resume, Invocation, Operation, Call, Return, Send, Frame, Geometry, Object, Available, Arguments, ResultCode}
 use Rattle.gate.proofs.Names.{objects_of, Effect, can_start, invoke, on_kernel_object, ordered, through_gate, AreCurrent, AreKeepable, IsSoundFrames, world_at}
@@ -15,7 +15,7 @@ use Rattle.model.specs.declared.answer.Refusal.TheVariants as refusal
 use Rattle.gate.proofs.Standing.{announced_same, held_fits, resume_fits, register_kind, in_geometry}
 use Rattle.gate.proofs.Plans.{arguments_held, change_fetched, invoked_held}
 
--- an invocation by the capability that is invoked
+-- the effect of an invocation of this capability
 abbrev pub invoked_by : Geometry → List Object → Invocation → Capability → Option Effect
 invoked_by g os i c = elim c [
   | Start q key ↦ if can_start os i q then Some (through_gate os i q key) else None
@@ -31,7 +31,7 @@ object_by : (g : Geometry) (os : List Object) (i : Invocation) (c : Capability) 
     invoked_by g os i c ≡ Some (on_kernel_object g os i)
 object_by g os i c object = grind (arith, nat_tests)
 
--- the result code of an invocation by the capability that is invoked
+-- the result code of an invocation of this capability
 abbrev pub code_by : Geometry → List Object → Invocation → Capability → Option ResultCode
 code_by g os i c = elim c [ Start q key ↦ None | Resume q ↦ None | _ ↦ Some (ordered g os i).code ]
 
@@ -43,7 +43,7 @@ pub object_invoked : (g : Geometry) (os : List Object) (i : Invocation) (caller 
     IsKernelObject caller.invoked → invoke g os i ≡ Some (on_kernel_object g os i)
 object_invoked g os i caller is object = invoke_is g os i ∙ ap (invoked_by g os i) (sym is.invoked) ∙ object_by g os i caller.invoked object
 
--- sound frames after an invocation whose objects are those of its effect
+-- if the objects are those of an invocation's effect, the frames are sound at the next age
 pub sound_after : (g : Geometry) (age : ℕ) (fs gs : List Frame) (i : Invocation) (e : Effect) → age < 2 ^ 62 → Fits (command.Invoke i) →
     IsTrue (is_running_process (objects_of fs) i.process) →
     invoke g (objects_of fs) i ≡ Some e → objects_of gs ≡ e.objects → IsSoundFrames g age fs → AreKeepable g (age + 1) gs → AreCurrent gs →
@@ -55,7 +55,7 @@ sound_after g age fs gs i e young fits runs is objects sound keepable current = 
       (invocation_keeps g (world_at age fs) i e sound.sound fits runs young is);
 }
 
--- An invocation of a kernel object, by the kind of the invocation.
+-- the reply of an order's outcome
 abbrev reply_in : OrderOutcome → Reply
 reply_in o = record { code = o.code; words = o.words; capability = o.capability }
 
@@ -65,7 +65,7 @@ effect_by operation p annex o = record {
   written = writers operation p annex ++ o.written;
 }
 
--- a process that returns leaves the frame
+-- the objects before an order have the `SameFrame`, even if a process that returns becomes available first
 pub frame_before : (op : Operation) (os : List Object) (p : ℕ) → IsTrue (is_process os p) → SameFrame os (state_before op os p)
 frame_before Return os p is = state_frame os p Available is
 frame_before c os p is = frame_refl os
@@ -82,7 +82,7 @@ module _ {g : Geometry} {os : List Object} {i : Invocation} {caller : Caller} {p
   abbrev rest : List ℕ
   rest = drop (writer_count caller.operation) list
 
-  -- the effect, by the parts of the caller
+  -- the effect of an order, computed from what was read of the caller
   effect_requested : on_kernel_object g os i ≡ effect_by caller.operation caller.process caller.annex
       (order g (state_before caller.operation os caller.process) caller.invoked word args)
   unfolding on_kernel_object
@@ -101,7 +101,7 @@ module _ {g : Geometry} {os : List Object} {i : Invocation} {caller : Caller} {p
   pub order_written : list ≡ (on_kernel_object g os i).written
   order_written = planned.listed ∙ sym (ap (λ (e : Effect). e.written) (effect_requested ∙ effect_planned caller.operation))
 
-  -- all numbers that are written are those of objects
+  -- a property of the process, its annex and the numbers of all objects holds of each listed number
   pub listed_known : (P : ℕ → Type 0) → P caller.process → P caller.annex → ((n : ℕ) → n < length os → P n) → All P list
   listed_known P of_process of_annex known = grind (arith, nat_tests)
 
@@ -110,7 +110,7 @@ module _ {g : Geometry} {os : List Object} {i : Invocation} {caller : Caller} {p
       change_fetched g os rest P plan.change (planned.plans.may os (frame_refl os) now)
       (λ k d inside. known _ (planned.plans.known k d inside))
 
-  -- the objects after the order are sound, and the capability that it gives fits
+  -- the objects after the order are sound, and the capability in the reply satisfies `FitsCap`
   module _ (now : IsNow g os) (fits : Fits (command.Invoke i)) (runs : IsTrue (is_running_process os i.process)) where
     ordered_requested : ordered g os i ≡ order g (state_before caller.operation os caller.process) caller.invoked word args
     ordered_requested = λ k. order g (state_before (sym is.operation k) os (sym is.process k)) (sym is.invoked k) word args
@@ -130,11 +130,11 @@ module _ {g : Geometry} {os : List Object} {i : Invocation} {caller : Caller} {p
         (order g os caller.invoked word args).capability
         (held_to (order g os caller.invoked word args).objects (order g os caller.invoked word args).capability outcome.held))
 
-    -- the code of the plan is the order's
+    -- the code of the plan is the code of the order
     pub order_code : IsKernelObject caller.invoked → result_code g os i ≡ Some plan.reply.code
     order_code object = grind (arith, nat_tests, object_code, ordered_requested, frame_before)
 
--- the effect of an invocation through a gate
+-- the effect of an invocation through this gate
 abbrev pub effect_through : List Object → Invocation → Gate → Effect
 effect_through os i gate = record {
   objects = entered os i gate (sent_by os i);
@@ -149,14 +149,14 @@ gate_by : (g : Geometry) (os : List Object) (i : Invocation) (q key : ℕ) (b : 
 unfolding through_gate
 gate_by g os i q key b zeroth can = grind (arith, nat_tests)
 
--- the invocation is carried out if the gate can be entered
+-- an invocation through a gate that can be entered has this effect
 pub gate_invoked : (g : Geometry) (os : List Object) (i : Invocation) (caller : Caller) (gate : Gate) → IsRequested os i caller →
     caller.invoked ≡ gate_capability gate →
     (gate.is_resume ≡ true → gate.key ≡ 0) → (gate.is_resume || can_start os i gate.process) ≡ true →
     invoke g os i ≡ Some (effect_through os i gate)
 gate_invoked g os i caller gate is same zeroth can = grind (arith, nat_tests, invoke_is, gate_by)
 
--- otherwise it stalls
+-- an invocation through a gate that can't be entered stalls
 stalled_by : (g : Geometry) (os : List Object) (i : Invocation) (q key : ℕ) (b : Bool) → (b || can_start os i q) ≡ false →
     invoked_by g os i (gate_capability (made q key b)) ≡ None
 stalled_by g os i q key b can = grind (arith, nat_tests)
@@ -165,7 +165,7 @@ pub gate_stalled : (g : Geometry) (os : List Object) (i : Invocation) (caller : 
     caller.invoked ≡ gate_capability gate → (gate.is_resume || can_start os i gate.process) ≡ false → invoke g os i ≡ None
 gate_stalled g os i caller gate is same can = grind (arith, nat_tests, invoke_is, stalled_by)
 
--- such an invocation has no result code
+-- an invocation through a gate has no result code
 no_code : (g : Geometry) (os : List Object) (i : Invocation) (q key : ℕ) (b : Bool) → code_by g os i (gate_capability (made q key b)) ≡ None
 no_code g os i q key b = grind (arith, nat_tests)
 
@@ -173,7 +173,7 @@ pub gate_code : (g : Geometry) (os : List Object) (i : Invocation) (caller : Cal
     caller.invoked ≡ gate_capability gate → result_code g os i ≡ None
 gate_code g os i caller gate is same = ap (code_by g os i) (sym is.invoked ∙ same) ∙ no_code g os i gate.process gate.key gate.is_resume
 
--- a gate is that of a process
+-- a gate names a process
 gate_names : (os : List Object) (q key : ℕ) (b : Bool) → NamesItsKind os (gate_capability (made q key b)) → IsTrue (is_process os q)
 gate_names os q key b kind = grind (arith, nat_tests)
 
@@ -181,7 +181,7 @@ pub gate_process : (p : Parts) (sound : AreSound p) {i : Invocation} {caller : C
     caller.invoked ≡ gate_capability gate → IsTrue (is_process (objects_in p) gate.process)
 gate_process p sound {i} {caller} gate requested same = grind (arith, nat_tests, gate_names, register_kind)
 
--- the capabilities that are received fit
+-- each capability that the receiver gets satisfies `FitsCap`
 pub received_fits : (g : Geometry) (os : List Object) (i : Invocation) (sent : List Capability) → IsNow g os → object_count g < 2 ^ 64 →
     IsTrue (is_process os i.process) → sent ≡ sent_by os i →
     All (FitsCap g) (received i sent)
@@ -206,7 +206,7 @@ contained (y ∷ ys) (suc i) x inside is =
     let rest = contained ys i x (omega arith) is in
     (suc rest.0, omega (arith, rest.1), rest.2)
 
--- the numbers that are written through a gate
+-- an invocation through a gate writes the receiver, its annex and, unless it sends, the process that invokes
 asking_in : (operation : Operation) (p q a : ℕ) → (operation ≡ Send → ⊥) → Contains (written_through operation p q a) p
 asking_in operation p q a other = grind (arith, nat_tests)
 
@@ -218,11 +218,11 @@ announced_through Announced operation p q a replying = grind (arith, nat_tests, 
 pub all_through : (P : ℕ → Type 0) (operation : Operation) (p q a : ℕ) → P p → P q → P a → All P (written_through operation p q a)
 all_through P operation p q a of_p of_q of_a = grind (arith, nat_tests)
 
--- four capabilities, one after the other
+-- a property of four items holds of each item in their list
 pub all_four : {X : Type 0} (P : X → Type 0) (a b c d : X) → P a → P b → P c → P d → All P (a ∷ b ∷ c ∷ d ∷ [])
 all_four {X} P a b c d x y z w is e inside = grind (arith, nat_tests)
 
--- a refusal to prepare comes from the gate, not from the process
+-- a refusal of `prepare` is one that the gate may give
 of_gate : (why : Refusal) → IsUnprepared why → IsOfGate why
 of_gate why of = grind (arith, nat_tests)
 
@@ -236,7 +236,7 @@ pub ok_no_err : {T : Type 0} (x : T) → IsErr {T = T} {E = Failed} (Ok x) → �
 ok_no_err x is = cc
 
 module _ {S : Type 0} {parts : S → Parts} {Continues : S → S → Type 0} (i : Invocation) where
-  -- an invocation after a read-only call
+  -- facts about an invocation whose process was fetched
   module _ (twice : (s t u : S) → Continues s t → Continues t u → Continues s u) {s t : S} (u : S) {T : Type 0} {x : T}
       (only_reads : FetchesOrFails {T = T} parts Continues s t (Ok x)) where
     same : parts t ≡ parts s
@@ -245,7 +245,7 @@ module _ {S : Type 0} {parts : S → Parts} {Continues : S → S → Type 0} (i 
     before : (P : Parts → Type 0) → P (parts t) → P (parts s)
     before P p = subst P same p
 
-    -- a refusal that only a read reported
+    -- if a refusal comes from reading alone, `Invoked` holds with it
     found : (k : Refusal) → IsOfGate k → (IsErrOf {T = Option ResultCode} (Err k) refusal.LogFull → ⊥) →
         (IsErrOf {T = Option ResultCode} (Err k) refusal.Fault → ⊥) →
         (IsErrOf {T = Option ResultCode} (Err k) refusal.NotRunning → is_running_process (objects_in (parts s)) i.process ≡ false) →
@@ -273,15 +273,15 @@ module _ {S : Type 0} {parts : S → Parts} {Continues : S → S → Type 0} (i 
       continues = twice s t u only_reads.snapshots.continues is.continues;
     }
 
-    -- an invocation whose effect is known, and the numbers that it writes
+    -- facts about an invocation with effect e, which writes the numbers ns
     module _ (ns : List ℕ) (e : Effect) (invoked : invoke (parts s).geometry (objects_in (parts s)) i ≡ Some e) (written : ns ≡ e.written)
       where
-        -- numbers that couldn't be announced
+        -- if the numbers couldn't be announced, `Invoked` holds with the refusal
         pub unannounced : {U : Type 0} (f : Refusal) → Prepares {T = U} parts Continues t u ns (Err f) →
             Invoked parts Continues s u i (Err f)
         unannounced {U} f replying = grind (arith, nat_tests, of_gate, of_process, same)
 
-        -- these numbers were prepared, and then written
+        -- facts after these numbers were announced
         module _ {U : Type 0} (m : S) (y : U) (replying : Prepares {T = U} parts Continues t m ns (Ok y))
             (failures : (parts u).failures ≡ (parts m).failures)
           where

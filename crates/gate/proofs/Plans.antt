@@ -1,4 +1,4 @@
--- What stays of processes while one changes. Orders that look only at the words of their arguments; orders carried out as planned.
+-- Processes and annexes that an edit keeps. Orders that read only the words of their arguments. Orders that are carried out as planned.
 use Rattle.gate.proofs.Names.{nat_tests, ℕ, List, [], refl, sym, ap, IsTrue, slice_index_or, get_or-map, map-set_same, Capability, Invocation, Operation}
 use Rattle.gate.proofs.Names.{Content, Object, State, after_gate, free, is_root, map_content, root_in, with_slot_in, with_word_in, with_root_word, with_space}
 use Rattle.gate.proofs.Names.{consume, resumes, void_where, without, annex_at, content_at, is_process, root_at, with_content, with_root, with_slot, with_state}
@@ -19,7 +19,7 @@ use Rattle.model.specs.declared.order.ResultCode.TheVariants as code
 use Rattle.model.specs.declared.command.Command.TheVariants as command
 use Rattle.gate.proofs.Standing.{held_fits, named_used}
 
--- a field of contents that an edit of one object keeps
+-- if an edit of one object keeps a field of its content, it keeps this field everywhere
 module _ {X : Type 0} (field : Content Capability → X) where
   abbrev field_of : Object → X
   field_of o = field o.content
@@ -35,7 +35,7 @@ module _ {X : Type 0} (field : Content Capability → X) where
 abbrev annex_in : Content Capability → ℕ
 annex_in c = (root_in c).annex
 
--- a process in another state
+-- changing the state of a process keeps processes and annexes
 module _ (os : List Object) (p : ℕ) (s : State) (is : IsTrue (is_process os p)) where
   pub state_process : (q : ℕ) → is_process (with_state os p s) q ≡ is_process os q
   unfolding with_state with_root
@@ -45,7 +45,7 @@ pub state_annex : (os : List Object) (p : ℕ) (s : State) (q : ℕ) → annex_a
 unfolding with_state with_root
 state_annex os p s q = field_kept annex_in os p (content.Root (record (root_at os p) { state = s })) refl q
 
--- the process that invokes through a gate
+-- an invocation through a gate keeps which numbers are processes
 pub after_process : (os : List Object) (i : Invocation) → IsTrue (is_process os i.process) → (q : ℕ) →
     is_process (after_gate os i) q ≡ is_process os q
 after_process os i is q = grind (arith, nat_tests, state_process)
@@ -53,7 +53,7 @@ after_process os i is q = grind (arith, nat_tests, state_process)
 pub after_annex : (os : List Object) (i : Invocation) (q : ℕ) → annex_at (after_gate os i) q ≡ annex_at os q
 after_annex os i q = grind (arith, nat_tests, state_annex)
 
--- setting a slot or a word, and making capabilities void, keep annexes
+-- setting a word keeps the annex that a content names
 word_annex : (c : Content Capability) (i word : ℕ) → annex_in (with_word_in c i word) ≡ annex_in c
 word_annex c i word = grind (arith, nat_tests)
 
@@ -69,7 +69,7 @@ consume_annex p os q =
     ap (λ (o : Object). annex_in o.content) (get_or-map (without (resumes p)) os q free)
     ∙ void_annex (void_where (resumes p)) (content_at os q)
 
--- a change leaves the annex of each process
+-- an edit keeps the annex of each process
 pub changed_annex : (os : List Object) (list : List ℕ) (c : Change) → IsWithinObject c → (q : ℕ) →
     annex_at (changed os list c) q ≡ annex_at os q
 unfolding with_word with_slot with_root
@@ -86,7 +86,7 @@ changed_annex os list (change.Space process held) within q = field_kept annex_in
     (content.Root (with_space (root_at os process) held)) refl q
 changed_annex os list (change.Bank made) within q = absurd within
 
--- an edit of one object doesn't depend on the list, and keeps the frame
+-- an edit of one object doesn't depend on the listed numbers
 pub changed_any : (os : List Object) (list : List ℕ) (c : Change) → IsWithinObject c → changed os [] c ≡ changed os list c
 changed_any os list c within = grind (arith, nat_tests)
 
@@ -103,16 +103,16 @@ changed_frame os (change.Bank made) within of = absurd within
 pub not_both : (b : Bool) → b ≡ false → b ≡ true → ⊥
 not_both b is other = grind (arith, nat_tests)
 
--- arguments with the words of others, and another capability
+-- these arguments with another capability
 abbrev with_sent : Arguments → Capability → Arguments
 with_sent a sent = record { first = a.first; second = a.second; capability = sent }
 
--- an order that doesn't depend on the capability reads only the words
+-- if an order does the same for each capability that is sent, it reads only the words
 by_words : (c : Capability) (w : ℕ) → ((g : Geometry) (us : List Object) (a : Arguments) (sent : Capability) →
     order g us c w a ≡ order g us c w (with_sent a sent)) → ReadsOnlyWords c w
 by_words c w same g us a b first second = grind (arith, nat_tests)
 
--- the outcome of the order that was found, or another one; it is the same if it is the same for each order
+-- the outcome of the order that was found or, if none was, another; two such outcomes are equal if they are for each order
 abbrev found_or : {R : Type 0} → OrderOutcome → (R → OrderOutcome) → Option R → OrderOutcome
 found_or other on found = elim found [ None ↦ other | Some requested ↦ on requested ]
 
@@ -147,7 +147,7 @@ pub bank_words : (b w : ℕ) → (bank_order w ≡ Some bank.Free → ⊥) → R
 unfolding order
 bank_words b w other = grind (arith, nat_tests, by_words, same_found, bank_found)
 
--- the process or the node that a capability names, if this may be held
+-- the process, or the node, that a capability names exists if the capability may be held
 pub process_there : (os : List Object) (c : Capability) → NamesItsKind os c → (p : ℕ) → process_named c ≡ Some p → IsTrue (is_process os p)
 process_there os c kind p is = grind (arith, nat_tests)
 
@@ -188,7 +188,7 @@ module _ (os : List Object) (c : Capability) (args : Arguments) (kind : NamesIts
       (root_used (content_at os n) (subst (λ (m : ℕ). is_process os m ≡ true) e (process_there os c kind process for.0)))
   for_target annexes (change.Bank made) for n is = absurd for
 
--- an edit that may be made may also be made among objects with the same frame
+-- if two lists of objects have the `SameFrame`, the same edits may be made in both
 module _ (g : Geometry) (os us : List Object) (frame : SameFrame os us) where
   process_alike : (x : Change) → IsOfProcess os x → IsOfProcess us x
   process_alike x of = grind (arith, nat_tests, tests_at)
@@ -214,7 +214,7 @@ module _ (g : Geometry) (os : List Object) (list : List ℕ) where
   pub bank_change : (x : Change) → IsForBank g os list x → MayChange g os list x
   bank_change x may = grind (arith, nat_tests)
 
-  -- a property of all numbers that are written holds of those that are fetched
+  -- a property of all numbers that an order writes holds of those to be fetched
   made_fetched : (P : ℕ → Type 0) (made : BankChange) → MayMake g os list made → All P list → All P (numbers_of made)
   made_fetched P made may all = grind (arith, nat_tests)
 
@@ -230,11 +230,11 @@ target_all P o all n is = grind (arith, nat_tests)
 all_target : (P : ℕ → Type 0) (o : Option ℕ) → ((n : ℕ) → o ≡ Some n → P n) → All P (option_to_list o)
 all_target P o each k d inside = grind (arith, nat_tests)
 
--- the list after the numbers that the invocation writes itself
+-- without the numbers that the invocation writes itself, the list has those of the order
 pub behind_writers : (op : Operation) (p annex : ℕ) (ns : List ℕ) → drop (writer_count op) (writers op p annex ++ ns) ≡ ns
 behind_writers op p annex ns = grind (arith, nat_tests)
 
--- a plan with some arguments is a plan with others for which the order does the same
+-- a plan for some arguments is a plan for others if the order does the same with both
 plans_with : (g : Geometry) (os : List Object) (c : Capability) (w : ℕ) (args others : Arguments) (list : List ℕ) (plan : OrderPlan) →
     ((us : List Object) → order g us c w args ≡ order g us c w others) → Plans g os c w args list plan → Plans g os c w others list plan
 plans_with g os c w args others list plan same plans = grind (arith, nat_tests)
@@ -245,7 +245,7 @@ pub planned_by : (g : Geometry) (os : List Object) (i : Invocation) (caller : Ca
     Plans g os caller.invoked (slice_index i.words 0) args rest plan → IsPlanned g os i caller plan list
 planned_by g os i caller plan args first list rest enough first_is is plans = grind (arith, nat_tests, behind_writers, plans_with)
 
--- the invoked capability, and those that are sent, may be held
+-- the capability that is invoked, and those that are sent, may be held
 module _ (g : Geometry) (os : List Object) (i : Invocation) (now : IsNow g os) where
   pub invoked_held : (c : Capability) → c ≡ register_at os i.process i.register → IsHeld os (Waits os) c
   invoked_held c is = subst (IsHeld os (Waits os)) (sym is) ((now.filled (annex_at os i.process)).slots i.register)
@@ -256,7 +256,7 @@ module _ (g : Geometry) (os : List Object) (i : Invocation) (now : IsNow g os) w
   pub enough_held : (c : Capability) (args : Arguments) → Fits (command.Invoke i) → AreEnough os i c args → AreArguments os args
   enough_held c args fits enough = grind (arith, nat_tests, arguments_held, held_void)
 
--- an order that isn't a bank's is planned
+-- an order that isn't a bank's is planned right
 pub object_planned : (g : Geometry) (os us : List Object) (i : Invocation) (caller : Caller) (plan : OrderPlan) (args : Arguments)
     (first list : List ℕ) → us ≡ os → IsNow g os → object_count g < 2 ^ 64 → Fits (command.Invoke i) → IsRequested os i caller →
     AreEnough os i caller.invoked args → first ≡ writers caller.operation caller.process caller.annex →
@@ -289,7 +289,7 @@ object_planned g os us i caller plan args first list same now few fits is enough
           (for_target os c args kind (λ p process. (now.frame.annexes p process).0) plan.change for_os);
     })
 
--- an order of a bank
+-- order w on a bank is the bank's order with this number
 bank_ordered : (g : Geometry) (os : List Object) (b w : ℕ) (requested : BankOrder) (args : Arguments) → bank_order w ≡ Some requested →
     order g os (Bank b) w args ≡ on_bank g os b requested args
 unfolding order

@@ -1,4 +1,4 @@
--- The objects of sound frames: which numbers have some, and which capabilities may be kept. Allocation counts after an invocation.
+-- The objects of sound frames: which numbers exist, and which capabilities may be kept. Allocation counts after an invocation.
 use Rattle.gate.proofs.Names.{nat_tests, ℕ, true, false, Some, List, [], length, refl, ap, subst, arith, IsTrue, All, Capability, Resume, ObjectHeader, Object}
 use Rattle.gate.proofs.Names.{named, is_annex, is_free, NamesItsKind, content_at, is_process, is_running_process, Parts, frames_of, objects_in, annex_used}
 use Rattle.gate.proofs.Names.{bank_used, known_used, node_used, page_used, root_used, sym, get_or-map, Cap, Frame, Geometry, Content, blank_frame, conveyed}
@@ -15,7 +15,7 @@ use Rattle.model.specs.declared.command.Command.TheVariants as command
 pub annex_known : (p : Parts) (n : ℕ) → IsTrue (is_annex (content_at (objects_in p) n)) → n < length p.headers
 annex_known p n is = known_used p n (annex_used (content_at (objects_in p) n) is)
 
--- the object that a capability names, if this may be held, isn't free
+-- the object that a capability names isn't free, if the capability may be held
 module _ (os : List Object) where
   pub named_used : (c : Capability) → NamesItsKind os c → (n : ℕ) → named c ≡ Some n → is_free (content_at os n) ≡ false
   named_used c kind n is = grind (arith, nat_tests, page_used, node_used, root_used, bank_used)
@@ -27,14 +27,14 @@ named_known p c kind n is = known_used p n (named_used (objects_in p) c kind n i
 pub running_process : (os : List Object) (p : ℕ) → IsTrue (is_running_process os p) → IsTrue (is_process os p)
 running_process os p running = grind (arith, nat_tests)
 
--- two numbers that exist
+-- a property of two numbers holds of each number in their list
 pub both_known : (P : ℕ → Type 0) (m n : ℕ) → P m → P n → All P (m ∷ n ∷ [])
 both_known P m n x y is d inside = grind (arith, nat_tests)
 
 header_there : (fs : List Frame) (n : ℕ) → header_at (headers fs) n ≡ (frame_at fs n).header
 header_there fs n = get_or-map (λ (f : Frame). f.header) fs n blank_frame
 
--- a capability that fits may be kept with its object's count
+-- a capability that fits may be kept with its object's present count
 module _ (g : Geometry) (age : ℕ) (fs : List Frame) (keepable : AreKeepable g age fs) where
   allocations_fit : (n : ℕ) → n < object_count g → IsCount age (header_at (headers fs) n).allocations
   allocations_fit n inside = subst (λ (h : ObjectHeader). IsCount age h.allocations) (sym (header_there fs n))
@@ -46,7 +46,7 @@ module _ (g : Geometry) (age : ℕ) (fs : List Frame) (keepable : AreKeepable g 
   pub live_is_kept : (c : Capability) → FitsCap g c → IsKeptCap g age (record { what = c; count = current_count (headers fs) c })
   live_is_kept c fits = grind (arith, nat_tests, allocations_fit, calls_fit)
 
--- capabilities that may be held among objects of their kinds fit
+-- a capability that may be held satisfies `FitsCap`
 module _ (g : Geometry) (os : List Object) (kinds : (n : ℕ) → IsOfKind g n (content_at os n)) (few : object_count g < 2 ^ 64) where
   kept_number : (n : ℕ) → n < g.nodes → IsNodeNumber g n
   kept_number n inside = (inside, omega (arith, inside, few))
@@ -57,11 +57,11 @@ module _ (g : Geometry) (os : List Object) (kinds : (n : ℕ) → IsOfKind g n (
   pub held_fits : (c : Capability) → MayBeHeld os c → FitsCap g c
   held_fits c h = grind (arith, nat_tests, page_number, zero_count, kept_number, node_number, root_number, bank_number)
 
-  -- the resume capability to a process fits
+  -- the resume capability of a process satisfies `FitsCap`
   pub resume_fits : (p : ℕ) → IsTrue (is_root (content_at os p)) → FitsCap g (Resume p)
   resume_fits p is = (kept_number p (root_number g p (content_at os p) (kinds p) is), zero_count)
 
--- a capability that fits may be kept in a store with its object's count
+-- a capability that satisfies `FitsCap` may be kept in a store's frames with its object's present count
 pub fits_kept : (g : Geometry) (age : ℕ) (p : Parts) → AreKeepable g age (frames_of p) → (c : Capability) → FitsCap g c →
     IsKeptCap g age (record { what = c; count = current_count p.headers c })
 fits_kept g age p keepable c fits =
@@ -107,23 +107,23 @@ module _ (p : Parts) (sound : AreSound p) where
       (is_annex (content_at (objects_in p) (annex_at (objects_in p) q)))
   annex_there q is = (sound.1.sound.annexes q is).0
 
-  -- no call count has its greatest value
+  -- no call count has the greatest value of 64 bits
   pub calls_below : (n : ℕ) → n < length p.headers → (header_at p.headers n).calls < 2 ^ 64 - 1
   calls_below n known = omega (arith, calls_kept p.geometry sound.0 p sound.1.keepable n known, sound.1.sound.age)
 
--- after a call that only reads, and an announcement, only the touched numbers differ
+-- after a call that only reads, and then an announcement, only the touched numbers differ
 module _ {S : Type 0} {parts : S → Parts} {Continues : S → S → Type 0} {s t u : S} where
   pub announced_same : {T U : Type 0} {x : T} {y : U} {ws : List ℕ} → FetchesOrFails {T = T} parts Continues s t (Ok x) →
       Prepares {T = U} parts Continues t u ws (Ok y) → parts u ≡ touched_too ws (parts s)
   announced_same {T} {U} {x} {y} {ws} fetched prepared = prepared.done ∙ ap (touched_too ws) fetched.same
 
--- the capability that a process invokes, read after its annex was fetched
+-- the capability that a process invokes is the one read from its annex
 pub requested_by : {old now : Parts} → now ≡ old → (i : Invocation) (annex : ℕ) (invoked : Capability) →
     annex ≡ annex_at (objects_in old) i.process → invoked ≡ slot_at (objects_in now) annex i.register →
     IsRequested (objects_in now) i (record { process = i.process; annex = annex; operation = i.operation; invoked = invoked })
 requested_by {old} {now} same i annex invoked annex_is is = grind (arith, nat_tests)
 
--- a number of an object has a header
+-- the number of an object has a header
 pub inside_known : (p : Parts) (n : ℕ) → n < length (objects_in p) → n < length p.headers
 inside_known p n inside = subst (λ (m : ℕ). n < m) (length_objects p.headers p.contents) inside
 
@@ -132,15 +132,15 @@ pub requested_annex : (p : Parts) (sound : AreSound p) (q a : ℕ) → IsTrue (i
 requested_annex p sound q a is same = subst (λ (n : ℕ). n < length p.headers) (sym same)
     (annex_known p (annex_at (objects_in p) q) (annex_there p sound q is))
 
--- an invocation of a gate is no bank's order
+-- an invocation through a gate is no order of a bank
 pub gate_no_bank : (gate : Gate) (w : ℕ) → IsNoBankOrder (gate_capability gate) w
 gate_no_bank gate w = grind (arith, nat_tests)
 
--- the free numbers stay free if the frame does
+-- objects with the `SameFrame` have the same free numbers
 pub free_in_frame : (p q : Parts) (us : List Object) → objects_in q ≡ us → SameFrame (objects_in p) us → SameFree p q
 free_in_frame p q us objects frame n = grind (arith, nat_tests, tests_at)
 
--- an order that isn't a bank's frees nothing
+-- an invocation that is no order of a bank frees nothing
 pub renews_invoked : (old mid new : Parts) (i : Invocation) (e : Effect) → AreSound old → mid.headers ≡ old.headers →
     Fits (command.Invoke i) → IsTrue (is_running_process (objects_in old) i.process) →
     IsNoBankOrder (register_at (objects_in old) i.process i.register) (slice_index i.words 0)

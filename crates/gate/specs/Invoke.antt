@@ -8,13 +8,13 @@ use Rattle.std.specs.Prelude.{◌≡◌, ◌↔◌, ◌+◌, ◌^◌, ◌<◌, �
 use Rattle.model.specs.declared.answer.Refusal.TheVariants as refusal
 use Rattle.gate.specs.declared.gates.Gate.{Gate}
 
--- the objects after an invocation, and which are touched then: no more than a half of the log has slots
+-- an invocation had this effect: objects and touched numbers afterwards, at most as many as a log half has slots
 abbrev pub Invokes : Geometry → Invocation → List Object → List Bool → List Object → List Bool → Type 0
 Invokes g i before touched after touched_after =
     (effect : Effect) × (invoke g before i ≡ Some effect) × (after ≡ effect.objects)
     × (touched_after ≡ touching touched effect.written) × (touched_count touched_after ≤ g.log)
 
--- an invocation that would write more numbers than half of the log holds
+-- an invocation would touch more numbers than a log half has slots
 abbrev pub Overfills : Geometry → Invocation → List Object → List Bool → Type 0
 Overfills g i before touched =
     (effect : Effect) × (invoke g before i ≡ Some effect) × (g.log < touched_count (touching touched effect.written))
@@ -25,12 +25,12 @@ IsKernelObject (Start p key) = ⊥
 IsKernelObject (Resume p) = ⊥
 IsKernelObject _ = Unit {0}
 
--- the numbers that an invocation through the gate of process q writes: q, its annex, and the invoker if it calls or
--- returns
+-- the numbers that an invocation through a gate to process q writes: q, its annex and, for a call or a return, the
+-- process that invokes
 abbrev pub written_through : Operation → ℕ → ℕ → ℕ → List ℕ
 written_through operation process q annex = q ∷ annex ∷ (elim operation [ Send ↦ [] | _ ↦ process ∷ [] ])
 
--- what was read of an invocation and its invoker
+-- what was read of an invocation and of the process that invokes
 pub record IsRequested (os : List Object) (i : Invocation) (caller : Caller) : Type 0 where
   pub process : caller.process ≡ i.process
   pub operation : caller.operation ≡ i.operation
@@ -42,12 +42,12 @@ abbrev pub result_code : Geometry → List Object → Invocation → Option Resu
 result_code g os i = elim (register_at os i.process i.register)
     [ Start q key ↦ None | Resume q ↦ None | _ ↦ Some (ordered g os i).code ]
 
--- frames that are sound at an age are sound at the next
+-- frames that are sound at an age below 2^62 are sound at the next age
 abbrev pub KeepsSoundFrames : Parts → Parts → Type 0
 KeepsSoundFrames old new = (age : ℕ) → age < 2 ^ 62 → IsSoundFrames old.geometry age (frames_of old) →
     IsSoundFrames old.geometry (age + 1) (frames_of new)
 
--- a refusal that the gate may give; the other refusals of an invocation come before these
+-- a refusal that `invoke` may return; the kernel checks for the others before
 abbrev pub IsOfGate : Refusal → Type 0
 IsOfGate refusal.NotRunning = Unit {0}
 IsOfGate refusal.Stalled = Unit {0}
@@ -55,7 +55,7 @@ IsOfGate refusal.LogFull = Unit {0}
 IsOfGate refusal.Fault = Unit {0}
 IsOfGate _ = ⊥
 
--- whether the process runs, if the result says so
+-- what a result says about whether the process runs
 abbrev pub TellsState : List Object → Invocation → Result (Option ResultCode) Refusal → Type 0
 TellsState os i (Ok code) = is_running_process os i.process ≡ true
 TellsState os i (Err refusal.NotRunning) = is_running_process os i.process ≡ false
@@ -64,8 +64,8 @@ TellsState os i (Err refusal.LogFull) = is_running_process os i.process ≡ true
 TellsState os i (Err refusal.Fault) = Unit {0}
 TellsState os i (Err other) = ⊥
 
--- The outcome of an invocation. After a refusal nothing has changed; nothing is said of the parts after a failure of the
--- device. The parameters are ghost members of a store of present frames.
+-- The result of an invocation. After a refusal nothing has changed; after a failure of the device the parts are
+-- unknown. The parameters are the ghost members of a store of present frames.
 pub record Invoked {S : Type 0} (parts : S → Parts) (Continues : S → S → Type 0) (old new : S) (i : Invocation)
     (result : Result (Option ResultCode) Refusal) : Type 0 where
   pub done : OnOk result
@@ -85,15 +85,16 @@ pub record Invoked {S : Type 0} (parts : S → Parts) (Continues : S → S → T
   pub later : (parts old).failures ≤ (parts new).failures
   pub continues : Continues old new
 
--- the capabilities that a gate receives if these are sent: with a call, the last one is the right to resume the caller
+-- the capabilities that the receiver gets if these are sent: for a call, the last one is the right to resume the
+-- caller
 abbrev pub received : Invocation → List Capability → List Capability
 received i sent = elim i.operation [ Call ↦ slice_set sent 3 (Resume i.process) | _ ↦ sent ]
 
--- the capability to a gate
+-- the start or resume capability of a gate
 abbrev pub gate_capability : Gate → Capability
 gate_capability gate = if gate.is_resume then Resume gate.process else Start gate.process gate.key
 
--- the objects after a message went through a gate; a resume capability is consumed last
+-- the objects after a message was sent through a gate; a resume capability is consumed last
 abbrev pub entered : List Object → Invocation → Gate → List Capability → List Object
 entered os i gate sent =
     let delivered = deliver (after_gate os i) gate.process

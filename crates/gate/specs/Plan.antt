@@ -7,24 +7,25 @@ use Rattle.std.specs.Prelude.{◌≡◌, ◌⊎◌, ◌<◌, ◌≤◌, ◌∷�
 use Rattle.capability.specs.declared.order.Change.TheVariants as change
 use Rattle.model.specs.declared.order.ResultCode.TheVariants as code
 
--- the outcome of an order on one object, as planned
+-- the outcome of a planned order that changes at most one object
 abbrev pub outcome_of : List Object → OrderPlan → OrderOutcome
 outcome_of os plan = outcome_by os (written_of plan.change) plan
 
--- an outcome has the plan's code, objects and written numbers
+-- an outcome has the code, objects and written numbers of a plan
 pub record ChangesAs (os : List Object) (plan : OrderPlan) (outcome : OrderOutcome) : Type 0 where
   pub code : outcome.code ≡ plan.reply.code
   pub objects : outcome.objects ≡ changed os (written_of plan.change) plan.change
   pub written : outcome.written ≡ written_of plan.change
 
--- a page, node or space capability with its own restrictions and those of a word; none if the word is no access
+-- a page, node or space capability with the restrictions of a word added; `None` if the word is no access, or the
+-- capability of another kind
 abbrev pub reduced : Capability → ℕ → Option Capability
 reduced (Page o a) w = if reduces w then Some (Page o (union a w)) else None
 reduced (Node o a) w = if reduces w then Some (Node o (union a w)) else None
 reduced (Space o h a) w = if reduces w then Some (Space o h (union a w)) else None
 reduced _ w = None
 
--- the plan of the order that reduces a capability by a word
+-- the plan of the order that adds the restrictions of a word to a capability
 abbrev pub reduction : Capability → ℕ → OrderPlan
 reduction c w = elim (reduced c w) [
   | Some less ↦ record {
@@ -47,8 +48,8 @@ abbrev pub process_named : Capability → Option ℕ
 process_named (Process p) = Some p
 process_named _ = None
 
--- a change that an order on a capability may make: of the object that the capability names, or of its annex if it is a
--- process; within bounds, and with the capability that was sent
+-- A change that an order on capability c may make: in the object that c names, or in its annex if that is a process;
+-- within bounds, and with the capability that was sent.
 abbrev pub IsFor : List Object → Capability → Arguments → Change → Type 0
 IsFor os c args change.Nothing = Unit {0}
 IsFor os c args (change.Word page index word) = (index < 512) × (named c ≡ Some page)
@@ -62,7 +63,7 @@ IsFor os c args (change.SetState process state) = process_named c ≡ Some proce
 IsFor os c args (change.Space process held) = (process_named c ≡ Some process) × (held ≡ args.capability) × IsSpace held
 IsFor os c args (change.Bank made) = ⊥
 
--- a capability that is no page, node, space or process, nor a bank with an order that it knows
+-- word w is an order that needs no object: c isn't a page, node, space or process, nor a bank with order w
 abbrev pub IsPlain : Capability → ℕ → Type 0
 IsPlain (Page o a) w = ⊥
 IsPlain (Node o a) w = ⊥
@@ -70,7 +71,7 @@ IsPlain (Space o h a) w = ⊥
 IsPlain (Process p) w = ⊥
 IsPlain c w = IsNoBankOrder c w
 
--- a change of a word, slot or register that its object has
+-- the index of a change is within its object
 abbrev pub IsWithinObject : Change → Type 0
 IsWithinObject (change.Word page index word) = index < 512
 IsWithinObject (change.Slot node slot held) = slot < 32
@@ -79,32 +80,32 @@ IsWithinObject (change.RootWord process index word) = index < 4
 IsWithinObject (change.Bank made) = ⊥
 IsWithinObject _ = Unit {0}
 
--- if a change is of a root, its number is that of a process
+-- a change of a root names a process
 abbrev pub IsOfProcess : List Object → Change → Type 0
 IsOfProcess os (change.RootWord process index word) = IsTrue (is_process os process)
 IsOfProcess os (change.SetState process state) = IsTrue (is_process os process)
 IsOfProcess os (change.Space process held) = IsTrue (is_process os process)
 IsOfProcess os _ = Unit {0}
 
--- a capability that can be kept with count 0
+-- a capability fits a geometry: it may be kept with count 0
 abbrev pub FitsCap : Geometry → Capability → Type 0
 FitsCap g c = IsKeptCap g 0 (record { what = c; count = 0 })
 
--- a change puts a capability only where it may be, and only one that can be kept
+-- a change stores only a capability that fits, and only in a node, a register or an address space
 abbrev pub MayHold : Geometry → List Object → Change → Type 0
 MayHold g os (change.Slot node slot held) = FitsCap g held × IsTrue (is_node (content_at os node))
 MayHold g os (change.Register process annex register held) = FitsCap g held
 MayHold g os (change.Space process held) = FitsCap g held × IsSpace held
 MayHold g os _ = Unit {0}
 
--- a change of one object that may be made, and the numbers that it writes
+-- a change of one object may be made, and writes these numbers
 pub record MayEdit (g : Geometry) (os : List Object) (list : List ℕ) (c : Change) : Type 0 where
   pub within : IsWithinObject c
   pub process : IsOfProcess os c
   pub holds : MayHold g os c
   pub listed : list ≡ written_of c
 
--- a change that may be made, whose order writes the numbers of a list
+-- a change may be made, and its order writes the numbers of the list
 abbrev pub MayChange : Geometry → List Object → List ℕ → Change → Type 0
 MayChange g os list (change.Bank made) = MayMake g os list made
 MayChange g os list c = MayEdit g os list c

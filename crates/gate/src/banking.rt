@@ -4,7 +4,7 @@ ghost use Rattle.model.specs.Order.{IsNoBankOrder, bank_order};
 
 use model::{BankOrder, Capability};
 
-/// The order that a word requests of a bank.
+/// Returns the bank order with this number, or `None`.
 pub fn bank_order(word: u64) -> Option<BankOrder>
     ensures { result ≡ bank_order word }
 {
@@ -21,8 +21,8 @@ pub fn bank_order(word: u64) -> Option<BankOrder>
     }
 }
 
-/// The bank that is invoked and the order that a word requests of it. `None` if no bank is invoked,
-/// or if no bank knows the word.
+/// Returns the bank that is invoked, and the order with number `word`. Returns `None` if no bank is invoked,
+/// or if no order of banks has this number.
 pub fn requested_bank(invoked: Capability, word: u64) -> Option<(u64, BankOrder)>
     ensures bank { IfSome result (λ requested. invoked ≡ Capability.Bank requested.0) }
     ensures order { IfSome result (λ requested. bank_order word ≡ Some requested.1) }

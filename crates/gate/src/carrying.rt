@@ -1,4 +1,4 @@
-// A planned order is carried out.
+// Carries out planned orders.
 ghost use Rattle.std.specs.Prelude.{◌≡◌, ℕ, ◌+◌, ◌<◌, ◌≤◌, ◌^◌, drop, length, IsTrue};
 ghost use Rattle.std.specs.List.{All};
 ghost use Rattle.model.specs.declared.command.Invocation.{Invocation};
@@ -18,7 +18,7 @@ use capability::{Caller, Change, OrderPlan, PresentFrames, Reply, roots};
 use model::{Capability, Message, Operation, State};
 use space_bank::Banks;
 
-// The count of numbers that an invocation of a kernel object writes itself.
+// Returns how many numbers an invocation of a kernel object writes itself.
 fn writer_count(operation: Operation) -> usize
     ensures { result ≡ writer_count operation }
 {
@@ -29,7 +29,7 @@ fn writer_count(operation: Operation) -> usize
     }
 }
 
-// Before the order: a process that returns becomes available.
+// Makes the process available if it returns. This comes before the order.
 fn set_state_before_order<F: PresentFrames>(store: &mut F, caller: Caller)
     requires process { IsTrue (is_process (objects_in (F.parts store.old)) caller.process) }
     requires fetched { F.IsFetched store.old caller.process }
@@ -77,7 +77,7 @@ fn change<F: PresentFrames>(store: &mut F, banks: &mut Banks, skip: usize, chang
     }
 }
 
-// Gives a caller the reply, if it is still a process and runs.
+// Delivers the reply to a caller, if it is still a process and runs.
 fn reply<F: PresentFrames>(store: &mut F, process: u64, reply: Reply)
     requires roles { HaveTheirRoles (frames_of (F.parts store.old)) }
     requires root { IsTrue (is_process (objects_in (F.parts store.old)) process)
@@ -114,7 +114,7 @@ fn reply<F: PresentFrames>(store: &mut F, process: u64, reply: Reply)
     deliver(store, process, message);
 }
 
-// After the order: a process that called gets the reply.
+// Delivers the reply if the process called. This comes after the order.
 fn answer<F: PresentFrames>(store: &mut F, caller: Caller, replying: Reply)
     requires roles { HaveTheirRoles (frames_of (F.parts store.old)) }
     requires root { caller.operation ≡ Operation.Call
@@ -140,8 +140,8 @@ fn answer<F: PresentFrames>(store: &mut F, caller: Caller, replying: Reply)
     }
 }
 
-/// Carries out an order that is planned and announced. First a process that returns becomes
-/// available. At the end a process that called gets the reply, if it is still a process and runs.
+/// Carries out an order that is planned and announced. First, a process that returns becomes available. Last,
+/// a process that called gets the reply, if it is still a process and runs.
 pub fn carry_out<F: PresentFrames>(
     store: &mut F,
     banks: &mut Banks,

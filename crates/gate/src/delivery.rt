@@ -1,4 +1,4 @@
-// Messages on their way to a process.
+// Delivers messages to processes.
 ghost use Rattle.std.specs.Prelude.{◌≡◌, ℕ, IsTrue};
 ghost use Rattle.std.specs.List.{All};
 ghost use Rattle.model.specs.Invoke.{deliver};
@@ -10,8 +10,8 @@ ghost use Rattle.gate.specs.Plan.{FitsCap};
 use capability::{PresentFrames, objects};
 use model::Message;
 
-/// Delivers a message to a process, whose root and annex are fetched and announced: words, a key,
-/// and capabilities to its last four registers. The process is running from then on.
+/// Delivers a message to a process, whose root and annex must be fetched and announced: words and key to the
+/// root, capabilities to the last four registers. Afterwards the process runs.
 #[inline(always)]
 pub fn deliver<F: PresentFrames>(store: &mut F, process: u64, message: Message)
     requires process { IsTrue (is_process (objects_in (F.parts store.old)) process) }

@@ -28,7 +28,7 @@ pub struct Gate {
     pub is_resume: bool,
 }
 
-/// The gate of a start or resume capability; `None` for any other capability.
+/// Returns the gate of a start or resume capability, or `None` for any other.
 pub fn gate_of(capability: Capability) -> Option<Gate>
     ensures gate { IfSome result (λ gate. capability ≡ gate_capability gate) }
     ensures key { IfSome result (λ gate. gate.is_resume ≡ true → gate.key ≡ 0) }
@@ -49,7 +49,7 @@ pub fn gate_of(capability: Capability) -> Option<Gate>
     }
 }
 
-// What a gate receives: with a call the last register gets the right to answer.
+// Returns the message that a gate receives. For a call the last capability is the right to answer.
 fn message(invocation: &Invocation, sent: [Capability; 4], key: u16) -> Message
     ensures words { result.words ≡ invocation.now.words }
     ensures key { result.key ≡ key }
@@ -67,8 +67,8 @@ fn message(invocation: &Invocation, sent: [Capability; 4], key: u16) -> Message
     }
 }
 
-// How many of the receiver, its annex and the caller an invocation through a gate writes: one that
-// sends doesn't write the caller.
+// Returns how many of these an invocation through a gate writes: the receiver, its annex, the process that
+// invokes. A send doesn't write the last.
 fn written_count(operation: Operation) -> usize
     ensures within { result ≤ 3 }
     ensures written { (process receiver annex : ℕ)
@@ -80,7 +80,7 @@ fn written_count(operation: Operation) -> usize
     }
 }
 
-// Announces what an invocation through a gate writes, and fetches it.
+// Fetches and announces what an invocation through a gate writes.
 #[tactic(auto, using(crate::proofs::Effects::all_through))]
 fn announce_gate<F: PresentFrames>(
     store: &mut F,
@@ -105,8 +105,7 @@ fn announce_gate<F: PresentFrames>(
     store.prepare(&all, &all[..written_count(invocation.operation)])
 }
 
-// The state of the process that invokes changes: one that calls waits, and one that returns is
-// available.
+// Changes the state of the process that invokes: one that calls waits, and one that returns is available.
 fn set_state_at_gate<F: PresentFrames>(store: &mut F, invocation: &Invocation)
     requires process { IsTrue (is_process
         (objects_in (F.parts store.old)) invocation.now.process) }
@@ -130,8 +129,8 @@ fn set_state_at_gate<F: PresentFrames>(store: &mut F, invocation: &Invocation)
     }
 }
 
-// Sends the message through the gate. A gate that works only once is consumed at the end, so a copy
-// of it that was sent arrives void.
+// Sends the message through the gate. A resume capability is consumed at the end, so a copy of it that was
+// sent arrives void.
 fn enter<F: PresentFrames>(
     store: &mut F,
     invocation: &Invocation,
@@ -168,8 +167,8 @@ fn enter<F: PresentFrames>(
     }
 }
 
-// Whether a gate can be entered: it resumes a process, or its process is available, or a process
-// returns to itself.
+// Whether a gate can be entered: it resumes a process, or its process is available, or a process returns to
+// itself.
 fn can_enter<F: Frames>(store: &F, invocation: &Invocation, gate: Gate) -> bool
     requires fetched { F.IsFetched store.now gate.process }
     requires process { IsTrue (is_process
@@ -183,8 +182,8 @@ fn can_enter<F: Frames>(store: &F, invocation: &Invocation, gate: Gate) -> bool
     invocation.operation == Operation::Return && invocation.process == gate.process
 }
 
-/// An invocation by a running process through a gate. A start capability needs an available
-/// process, or one that returns to itself.
+/// Carries out an invocation by a running process through a gate. For a start capability the process must be
+/// available, or return to itself; otherwise it returns `Stalled`.
 pub fn invoke_gate<F: PresentFrames>(
     store: &mut F,
     banks: &Banks,

@@ -1,4 +1,4 @@
-// Invocations.
+// Invocations of capabilities.
 ghost use Rattle.std.specs.Prelude.{◌≡◌, IsTrue};
 ghost use Rattle.model.specs.Invoke.{invoke};
 ghost use Rattle.model.specs.World.{is_process};
@@ -15,17 +15,16 @@ use space_bank::Banks;
 
 /// Carries out the invocation of a capability by a process (EROS, KeyKOS: call, return and send).
 ///
-/// The invoked and the sent capabilities are read before anything changes. A start or resume
-/// capability is a gate: the message goes to another process, and the result is `None`. A resume
-/// capability works once: every copy of it is void afterwards. Any other capability is a kernel
-/// object: its order is carried out, a `call` gets the reply, and the result is the order's code.
-/// `banks` keeps the usages of the banks as they are after it. The count of allocations of a number
+/// The invoked and the sent capabilities are read before anything changes. A start or resume capability is a
+/// gate: the message goes to another process, and the result is `None`. A resume capability works once: every
+/// copy of it is void afterwards. Any other capability is a kernel object: its order is carried out, a `call`
+/// gets the reply, and the result is the order's code. `banks` is updated. The allocation count of a number
 /// rises by one if its object is freed.
 ///
-/// A refusal but `Fault` changes nothing. `NotRunning`: the process doesn't run. `Stalled`: the process behind
-/// the start capability isn't available. `LogFull`: with what the invocation writes, more numbers
-/// were written since the last checkpoint than half of the log holds. `Fault`: the device failed, and
-/// nothing is said of the objects. There is no other refusal.
+/// A refusal other than `Fault` changes nothing. `NotRunning`: the process doesn't run. `Stalled`: the
+/// process of the start capability isn't available. `LogFull`: with what the invocation writes, more numbers
+/// would be touched than a log half has slots. `Fault`: the device failed, and the objects are unknown. There
+/// is no other refusal.
 pub fn invoke<F: PresentFrames>(
     store: &mut F,
     banks: &mut Banks,
@@ -42,7 +41,7 @@ pub fn invoke<F: PresentFrames>(
     ensures counted { (F.parts store.new).failures ≡ (F.parts store.old).failures
         → AreCounted (F.parts store.new).geometry (objects_in (F.parts store.new)) banks.new }
 {
-    // Proof only: these two bring in invariants, of the invocation and of the object table.
+    // For the proof: these two calls bring in invariants of the invocation and of the object table.
     invocation.can_be_spelt();
     numbers_fit(store);
     let process = invocation.process;

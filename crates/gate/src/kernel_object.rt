@@ -24,7 +24,7 @@ use device::Failed;
 use model::{Capability, Invocation, Refusal, ResultCode};
 use space_bank::Banks;
 
-// Lists the object that the change of an order writes, if it writes one.
+// Lists the object that a change writes, if it writes one.
 fn list_target(banks: &mut Banks, change: Change)
     requires { length banks.old.listed < banks.old.room }
     ensures { banks.new ≡ record banks.old { listed = banks.old.listed ++ written_of change } }
@@ -35,7 +35,7 @@ fn list_target(banks: &mut Banks, change: Change)
     }
 }
 
-// Plans an order that isn't a bank's, and lists what it writes. First fetches what it reads.
+// Plans an order that isn't a bank's, and lists what it writes. First fetches what the order reads.
 #[inline(always)]
 fn plan_object_order<F: Frames>(
     store: &mut F,
@@ -91,7 +91,7 @@ fn plan_order<F: Frames>(
     ensures fetches { FetchesOrFails F.parts F.ContinuesTo store.old store.new result }
 {
     banks.list_writers(caller);
-    // The compiler makes a plan for pages alone of this: most calls are of pages.
+    // Most calls are of pages. This lets the compiler specialize the planning for pages.
     if let Capability::Page { .. } = caller.invoked {
         return plan_object_order(store, banks, invocation, caller);
     }
@@ -104,7 +104,7 @@ fn plan_order<F: Frames>(
     }
 }
 
-// The process, its annex, and the numbers of new objects.
+// Returns the process, its annex, and the numbers of new objects.
 fn with_new(caller: Caller, made: BankChange) -> [u64; 4]
     ensures count { length result ≡ 4 }
     ensures process { slice_index result 0 ≡ caller.process }
@@ -125,7 +125,7 @@ fn with_new(caller: Caller, made: BankChange) -> [u64; 4]
     }
 }
 
-// The process, its annex, and what a change needs fetched.
+// Returns the process, its annex, and the numbers that must be fetched for a change.
 fn fetched_by(caller: Caller, change: Change) -> [u64; 4]
     ensures count { length result ≡ 4 }
     ensures process { slice_index result 0 ≡ caller.process }
@@ -164,8 +164,8 @@ fn announce_order<F: PresentFrames>(
     store.prepare(&fetched, listed)
 }
 
-/// An invocation of a kernel object by a running process. The order is carried out. A `call` gets
-/// the reply, unless the order freed the caller. The result is the order's code.
+/// Carries out an invocation of a kernel object by a running process, and returns the order's code. A `call`
+/// gets the reply, unless the order freed the caller.
 pub fn invoke_order<F: PresentFrames>(
     store: &mut F,
     banks: &mut Banks,

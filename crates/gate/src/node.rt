@@ -11,7 +11,7 @@ use bitflags::Flags;
 use capability::{Change, Frames, OrderPlan, objects};
 use model::{Access, Arguments, Capability, MAX_HEIGHT, NodeOrder, ResultCode, SLOTS};
 
-/// The node order with a number.
+/// Returns the node order with this number, or `None`.
 pub fn node_order(word: u64) -> Option<NodeOrder>
     ensures { result ≡ node_order word }
 {
@@ -25,8 +25,7 @@ pub fn node_order(word: u64) -> Option<NodeOrder>
     }
 }
 
-// The capability that a fetch gives through a node capability with an access: diminished if the
-// access is weak.
+// Returns what a fetch through a node capability with this access gives: diminished if the access is weak.
 fn fetched(access: Access, capability: Capability) -> Capability
     ensures { result ≡ fetched access capability }
 {
@@ -61,7 +60,7 @@ fn stored(object: u64, access: Access, arguments: Arguments, capability: Capabil
     })
 }
 
-// Plans an address space of a height, whose top is a node.
+// Plans to make an address space of this height, whose top is a node.
 #[tactic(auto, unfolding(model::specs::Order::on_node))]
 fn space(object: u64, access: Access, arguments: Arguments) -> OrderPlan
     ensures only { (os : List Object)
@@ -81,7 +80,7 @@ fn space(object: u64, access: Access, arguments: Arguments) -> OrderPlan
     })
 }
 
-/// Plans an order on a node, which is fetched.
+/// Plans an order on a node, which must be fetched.
 #[tactic(auto, unfolding(model::specs::Order::on_node))]
 pub fn on_node<F: Frames>(
     store: &F,

@@ -23,7 +23,7 @@ const READ_NUMBER: u64 = 1;
 // The order that reduces an address space.
 const REDUCE_SPACE: u64 = 3;
 
-// The order for the kind of a capability.
+// The order of a discrim capability, which returns the kind of another.
 const CLASSIFY: u64 = 1;
 
 // Plans an order on an address space.
@@ -47,7 +47,7 @@ fn on_space(object: u64, height: u8, access: Access, word: u64, arguments: Argum
     plan_reduction(space, arguments.first)
 }
 
-// The tag of a capability, for the order that classifies.
+// Returns the number of a capability's kind.
 fn tag_of(capability: Capability) -> u64
     ensures { result ≡ tag_of capability }
 {
@@ -65,7 +65,7 @@ fn tag_of(capability: Capability) -> u64
     }
 }
 
-// The access of a capability, or 0 where it has none.
+// Returns the access of a capability, or 0 if it has none.
 fn access_bits(capability: Capability) -> u64
     ensures { result ≡ access_bits capability }
 {
@@ -98,8 +98,8 @@ fn on_plain(word: u64, capability: Capability, arguments: Arguments) -> OrderPla
     }
 }
 
-/// Plans an order on a kernel object, with the number `word`. It isn't a bank's order. The object
-/// is fetched, and so is the annex of a process.
+/// Plans order `word` on a kernel object, other than an order of a bank. The object must be fetched, and for
+/// a process also its annex.
 #[inline(always)]
 #[tactic(auto, unfolding(model::specs::Order::order))]
 pub fn plan<F: Frames>(

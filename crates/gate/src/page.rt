@@ -10,7 +10,7 @@ use bitflags::Flags;
 use capability::{Change, Frames, OrderPlan, objects};
 use model::{Access, Arguments, Capability, PageOrder, ResultCode, WORDS};
 
-/// The page order with a number.
+/// Returns the page order with this number, or `None`.
 pub fn page_order(word: u64) -> Option<PageOrder>
     ensures { result ≡ page_order word }
 {
@@ -22,7 +22,7 @@ pub fn page_order(word: u64) -> Option<PageOrder>
     }
 }
 
-/// Plans an order on a page, which is fetched.
+/// Plans an order on a page, which must be fetched.
 #[tactic(auto, unfolding(model::specs::Order::on_page))]
 pub fn on_page<F: Frames>(
     store: &F,

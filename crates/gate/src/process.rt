@@ -9,10 +9,10 @@ ghost use Rattle.gate.specs.Plan.{outcome_of, ChangesAs, HaveAnnexesOf, IsFor};
 use capability::{Change, Frames, OrderPlan, objects, roots};
 use model::{Arguments, Capability, ProcessOrder, REGISTERS, ResultCode, State};
 
-// How many words a process is delivered.
+// How many words of a message the root of a process has.
 const ROOT_WORDS: u64 = 4;
 
-/// The order that a word requests of a process.
+/// Returns the process order with this number, or `None`.
 pub fn process_order(word: u64) -> Option<ProcessOrder>
     ensures { result ≡ process_order word }
 {
@@ -30,7 +30,7 @@ pub fn process_order(word: u64) -> Option<ProcessOrder>
     }
 }
 
-// Plans an order that puts what was sent into a register of a process, other than register 0.
+// Plans to put the capability that was sent into a register of a process, other than register 0.
 #[tactic(auto, unfolding(model::specs::Order::on_process))]
 fn put_register(process: u64, annex: u64, arguments: Arguments) -> OrderPlan
     ensures only { (os : List Object) → annex ≡ annex_at os process
@@ -51,7 +51,7 @@ fn put_register(process: u64, annex: u64, arguments: Arguments) -> OrderPlan
     })
 }
 
-// Plans an order that puts a word into the root of a process.
+// Plans to put a word into the root of a process.
 #[tactic(auto, unfolding(model::specs::Order::on_process))]
 fn put_word(process: u64, arguments: Arguments) -> OrderPlan
     ensures only { (os : List Object)
@@ -71,7 +71,7 @@ fn put_word(process: u64, arguments: Arguments) -> OrderPlan
     })
 }
 
-// Plans an order that makes a start capability to a process, with a key.
+// Plans to make a start capability for a process, with a key.
 #[tactic(auto, unfolding(model::specs::Order::on_process))]
 fn make_start(process: u64, arguments: Arguments) -> OrderPlan
     ensures only { (os : List Object)
@@ -90,7 +90,7 @@ fn make_start(process: u64, arguments: Arguments) -> OrderPlan
     })
 }
 
-// Plans an order that sets the state of a process: 0 makes it available, 1 running.
+// Plans to set the state of a process: 0 makes it available, 1 running.
 #[tactic(auto, unfolding(model::specs::Order::on_process))]
 fn set_state(process: u64, arguments: Arguments) -> OrderPlan
     ensures only { (os : List Object)
@@ -108,7 +108,7 @@ fn set_state(process: u64, arguments: Arguments) -> OrderPlan
     OrderPlan::changed(Change::SetState { process, state })
 }
 
-// Plans an order that sets the address space of a process.
+// Plans to set the address space of a process.
 #[tactic(auto, unfolding(model::specs::Order::on_process))]
 fn set_space(process: u64, arguments: Arguments) -> OrderPlan
     ensures only { (os : List Object)
@@ -128,7 +128,7 @@ fn set_space(process: u64, arguments: Arguments) -> OrderPlan
     })
 }
 
-/// Plans an order on a process, whose root and annex are fetched.
+/// Plans an order on a process, whose root and annex must be fetched.
 #[tactic(auto, unfolding(model::specs::Order::on_process))]
 pub fn on_process<F: Frames>(
     store: &F,

@@ -1,4 +1,4 @@
-// What an invocation reads before anything changes.
+// Reads what an invocation needs before anything changes.
 ghost use Rattle.std.specs.Prelude.{◌≡◌, ℕ, ◌<◌, ◌^◌, false, length, Some, IfOk, OnOk, IsTrue};
 ghost use Rattle.model.specs.Capability.{named};
 ghost use Rattle.model.specs.Invoke.{sent_by};
@@ -37,8 +37,7 @@ pub fn fetch_process<F: Frames>(store: &mut F, banks: &Banks, process: u64) -> R
     Ok(annex)
 }
 
-/// Fetches what an order on a capability reads: the object that it names, and the annex of a
-/// process.
+/// Fetches what an order on a capability reads: the object that it names and, for a process, its annex.
 #[tactic(auto, using(crate::proofs::Standing::named_known, space_bank::proofs::Renewing::one_all))]
 #[inline(always)]
 pub fn fetch_named<F: Frames>(
@@ -68,8 +67,8 @@ pub fn fetch_named<F: Frames>(
     }
 }
 
-/// The arguments of an order: two words, and the first capability that is sent. The annex of the
-/// process is fetched.
+/// Returns the arguments of an order: two words, and the first capability that is sent. The annex of the
+/// process must be fetched.
 pub fn order_arguments<F: Frames>(store: &F, invocation: &Invocation, annex: u64) -> Arguments
     requires fetched { F.IsFetched store.now annex }
     requires annex { annex
@@ -83,7 +82,7 @@ pub fn order_arguments<F: Frames>(store: &F, invocation: &Invocation, annex: u64
     }
 }
 
-// Whether an order reads the capability that is sent. If not, it does the same with any other.
+// Whether an order may read the capability that is sent. If not, it does the same with any other.
 #[inline(always)]
 fn reads_sent_capability(invoked: Capability, word: u64) -> bool
     ensures { result ≡ false → ReadsOnlyWords invoked word }
@@ -96,8 +95,8 @@ fn reads_sent_capability(invoked: Capability, word: u64) -> bool
     }
 }
 
-/// Arguments with which an order does what it does with those of the invocation. The capability that
-/// is sent is read only if the order reads it. The annex of the process is fetched.
+/// Returns arguments with which an order does the same as with those of the invocation. Reads the capability
+/// that is sent only if the order may. The annex of the process must be fetched.
 #[inline(always)]
 pub fn needed_arguments<F: Frames>(
     store: &F,
@@ -121,7 +120,7 @@ pub fn needed_arguments<F: Frames>(
     }
 }
 
-/// The four capabilities that are sent. The annex of the process is fetched.
+/// Returns the four capabilities that are sent. The annex of the process must be fetched.
 pub fn all_sent<F: Frames>(store: &F, invocation: &Invocation, annex: u64) -> [Capability; 4]
     requires fetched { F.IsFetched store.now annex }
     requires annex { annex
@@ -139,7 +138,7 @@ pub fn all_sent<F: Frames>(store: &F, invocation: &Invocation, annex: u64) -> [C
     )
 }
 
-/// The numbers of objects have 64 bits. This does nothing; its contract is the fact.
+/// A lemma as a function, which does nothing: the numbers of objects have 64 bits.
 pub fn numbers_fit<F: Frames>(store: &F)
     ensures { length (F.parts store.now).headers < 2 ^ 64 }
 {

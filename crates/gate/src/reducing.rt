@@ -1,4 +1,4 @@
-// Reductions of capabilities.
+// Adding restrictions to capabilities.
 ghost use Rattle.std.specs.Prelude.{◌≡◌, if◌then◌else◌, None, Some};
 ghost use Rattle.model.specs.Order.{reduces};
 ghost use Rattle.gate.specs.Plan.{reduced, reduction};
@@ -7,7 +7,8 @@ use bitflags::Flags;
 use capability::OrderPlan;
 use model::{Access, Capability, ResultCode};
 
-// The access by which a word reduces a capability: read-only, or read-only and weak.
+// Returns the access whose restrictions a word adds: read-only, or read-only and weak. `None` for any other
+// word.
 fn reducing_access(word: u64) -> Option<Access>
     ensures { result ≡ (if reduces word then Some (record { 0 = word }) else None) }
 {
@@ -18,8 +19,8 @@ fn reducing_access(word: u64) -> Option<Access>
     }
 }
 
-// A page, node or space capability with its own restrictions and those of a word. `None` if the word
-// is no access, or if the capability is of another kind.
+// Returns a page, node or space capability with the restrictions of a word added. `None` if the word is no
+// access, or the capability is of another kind.
 fn reduced(capability: Capability, word: u64) -> Option<Capability>
     ensures { result ≡ reduced capability word }
 {
@@ -46,8 +47,8 @@ fn reduced(capability: Capability, word: u64) -> Option<Capability>
     }
 }
 
-/// Plans the order that reduces a page, node or space capability by a word: the reply has the
-/// capability with its own restrictions and those of the word.
+/// Plans the order that adds the restrictions of a word to a page, node or space capability. The reply has
+/// the new capability.
 pub fn plan_reduction(capability: Capability, word: u64) -> OrderPlan
     ensures { result ≡ reduction capability word }
 {

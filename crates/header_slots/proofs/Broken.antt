@@ -1,4 +1,4 @@
--- A header that becomes unsound.
+-- A header that is no longer sound.
 use Rattle.std.proofs.Common.{◌≡◌, ℕ, ◌+◌, ◌-◌, ◌%◌, ◌<◌, ◌⊎◌, None, Some, ap, subst, sym, ◌∙◌, inl, inr, arith}
 use Rattle.std.proofs.lemmas.Bool.{cases_eq}
 use Rattle.header_slots.specs.Laws.{BrokenHeadersAreSeen}
@@ -25,7 +25,7 @@ same_gates slot old new k others gate =
       | inr ne ↦ ap (λ (it : Slot). it.gate) (others k ne)
     ]
 
--- if header s is broken, s - 1 isn't committed either: the gate of s shows that s was published
+-- if only the header of one slot changes, header s - 1 isn't committed afterwards: the gate of s shows that s was published
 not_before : (slot : ℕ) (old new : Slots) (s t : ℕ) → IsCommitted old s → OthersStay slot old new → (new slot).gate ≡ (old slot).gate →
     IsCommitted new t → t + 1 ≡ s → ⊥
 not_before slot old new s t was others gate is e =
@@ -45,7 +45,7 @@ lost_header slot old new s t was others gate broken is =
     let gap : t + 1 ≡ s → ⊥ = not_before slot old new s t was others gate is in
     elim (cases_eq (t % 3) ((s + 1) % 3)) [
       | inl third ↦
-          -- then t - 1 is in the slot of s, and is s
+          -- t - 1 is in the slot of s, so t - 1 is s
           let elsewhere = is_known old s (t - 1) was.pair.positive was.pair.counts was.pair.neighbour neighbour in
           elim (elsewhere (λ e. omega (arith, e, third, above))) [
             | inl here ↦ absurd (omega (arith, here, most, above))
@@ -69,7 +69,7 @@ same_header slot old new s t was others gate how is =
           one_committed new t s is (header_commits_none old new s was (record { others = others'; gate = gate' }))
     ]
 
--- the slot of a header that counts isn't the damaged one
+-- a header that counts isn't in the damaged slot
 elsewhere : (slot : ℕ) (new : Slots) (s : ℕ) → ((new slot).header ≡ None ⊎ (slot ≡ (s + 1) % 3)) → Counts new s → s % 3 ≡ slot → ⊥
 elsewhere slot new s how counts same =
     elim how [

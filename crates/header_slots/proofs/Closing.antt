@@ -1,4 +1,4 @@
--- Gates that are closed one after another.
+-- Gates are closed one after another.
 use Rattle.std.proofs.Common.{◌≡◌, ℕ, ◌+◌, ◌-◌, ◌%◌, ◌<◌, List, None, Some, ap, subst, sym, ◌∙◌, inl, inr, arith}
 use Rattle.std.proofs.lemmas.Bool.{cases_eq}
 use Rattle.std.proofs.lemmas.Option.{same_Some}
@@ -6,7 +6,7 @@ use Rattle.header_slots.specs.Closing.{OldThirdFirst, OtherThirdLast, TearsGateO
 use Rattle.header_slots.specs.Slots.{Counts, IsCommitted, Opens, Slot, Slots}
 use Rattle.header_slots.proofs.Counting.{below_greatest}
 
--- ---- headers stay
+-- ---- writes of gates keep the headers
 
 abbrev HeadersStay : Slots → Slots → Type 0
 HeadersStay old new = (k : ℕ) → ((new k).header ≡ (old k).header) × ((new k).bytes ≡ (old k).bytes)
@@ -27,7 +27,7 @@ both_stay a b c one two k = ((two k).0 ∙ (one k).0, (two k).1 ∙ (one k).1)
 gate_stays : (slot k : ℕ) (old new : Slots) → TearsGateOf slot old new → (k ≡ slot → ⊥) → (new k).gate ≡ (old k).gate
 gate_stays slot k old new torn other = ap (λ (it : Slot). it.gate) (torn.others k other)
 
--- in a slot with a closed gate no header counts
+-- no header counts in a slot whose gate is closed
 closed_out : (x : Slots) (k n : ℕ) → (x k).gate ≡ None → Counts x n → n % 3 ≡ k → ⊥
 closed_out x k n closed it e =
     let lost : Some n ≡ None = sym it.gate ∙ ap (λ (i : ℕ). (x i).gate) e ∙ closed in
@@ -43,7 +43,7 @@ module _ (a x : Slots) (s : ℕ) (was : IsCommitted a s) (headers : HeadersStay 
       let slot : n % 3 ≡ (s - 1) % 3 = omega (arith, e, positive) in
       same_Some n (s - 1) (sym it.header ∙ (headers (n % 3)).0 ∙ ap (λ (k : ℕ). (a k).header) slot ∙ was.pair.neighbour.header)
 
-  -- if the third slot makes no pair, s is committed or none
+  -- if no pair includes the third slot, only s can be committed
   only_pair : ((n : ℕ) → Counts x n → n % 3 ≡ (s + 1) % 3 → (n ≡ s + 1 → ⊥) × (n + 1 ≡ s - 1 → ⊥)) → (t : ℕ) → IsCommitted x t → t ≡ s
   only_pair third t is =
       let positive : 0 < t = is.pair.positive in
@@ -63,12 +63,11 @@ module _ (a x : Slots) (s : ℕ) (was : IsCommitted a s) (headers : HeadersStay 
             ]
       ]
 
-  -- if the gate of the third slot is closed, the slot makes no pair
+  -- if the gate of the third slot is closed, only s can be committed
   third_closed : (x ((s + 1) % 3)).gate ≡ None → (t : ℕ) → IsCommitted x t → t ≡ s
   third_closed closed t is = only_pair (λ n it e. absurd (closed_out x ((s + 1) % 3) n closed it e)) t is
 
-  -- the header in the third slot isn't committed either, if its gate is unchanged and it holds no older header that
-  -- counts
+  -- if the third slot's gate is unchanged, and the slot holds no older header that counts, only s can be committed
   third_stays : ((n : ℕ) → Counts a n → n % 3 ≡ (s + 1) % 3 → s < n) → (x ((s + 1) % 3)).gate ≡ (a ((s + 1) % 3)).gate → (t : ℕ) →
       IsCommitted x t → t ≡ s
   third_stays newer gate t is =
@@ -82,7 +81,7 @@ module _ (a x : Slots) (s : ℕ) (was : IsCommitted a s) (headers : HeadersStay 
             omega (arith, older, newer n counts e)),
       )) t is
 
-  -- once both other gates are closed, no pair counts
+  -- once the gates of s and s - 1 are closed, only s can be committed
   two_closed : (x ((s + 2) % 3)).gate ≡ None → (x (s % 3)).gate ≡ None → (t : ℕ) → IsCommitted x t → t ≡ s
   two_closed before here t is =
       let positive : 0 < t = is.pair.positive in
@@ -101,7 +100,7 @@ module _ (a x : Slots) (s : ℕ) (was : IsCommitted a s) (headers : HeadersStay 
     sym (subst (λ (n : ℕ). Opens x n q) same is).bytes ∙ (headers (s % 3)).1 ∙ bytes,
   )
 
--- while the gate of an older third header is written, the pair stays
+-- while the gate of an older header in the third slot is being written, only s can be committed
 older_torn : (a x : Slots) (s n t : ℕ) → IsCommitted a s → Counts a n → n % 3 ≡ (s + 1) % 3 → n < s → TearsGateOf ((s + 1) % 3) a x →
     IsCommitted x t → t ≡ s
 older_torn a x s n t was it third older torn is =

@@ -22,7 +22,7 @@ counts_after slot old new n others other counts = record {
   gate = ap (λ (it : Slot). it.gate) (others (n % 3) other) ∙ counts.gate;
 }
 
--- outside the third slot only the committed header and its neighbour count
+-- if s and s - 1 count, no other header counts outside the third slot
 pub is_known : (slots : Slots) (s n : ℕ) → 0 < s → Counts slots s → Counts slots (s - 1) → Counts slots n → (n % 3 ≡ (s + 1) % 3 → ⊥) →
     (n ≡ s) ⊎ (n ≡ s - 1)
 is_known slots s n positive counts neighbour it other =
@@ -39,7 +39,7 @@ is_number (Some m) n =
       | inr ne ↦ inr (λ e. ne (same_Some m n e))
     ]
 
--- the greater of two neighbours that count isn't above the greatest pair
+-- if t and t - 1 count, t isn't greater than the greatest pair
 pub below_greatest : (slots : Slots) (s t : ℕ) → 0 < t → Counts slots t → Counts slots (t - 1) → IsGreatestPair slots s → t ≤ s
 below_greatest slots s t positive counts neighbour is =
     let same : t ≡ t - 1 + 1 = omega (arith, positive) in

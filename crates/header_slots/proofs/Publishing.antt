@@ -1,4 +1,4 @@
--- A publish, and crashes during it.
+-- Publishing a header, with crashes during it.
 use Rattle.std.proofs.Common.{◌≡◌, ℕ, ◌+◌, ◌-◌, ◌%◌, ◌<◌, ◌≤◌, ◌⊎◌, List, Some, ◌∷◌, ap, refl, subst, sym, ◌∙◌, inl, inr, arith}
 use Rattle.std.proofs.lemmas.Bool.{cases_eq}
 use Rattle.std.proofs.lemmas.Option.{same_Some}
@@ -7,7 +7,7 @@ use Rattle.header_slots.specs.Publish.{IsOneOf, OthersStay, Runs, TearsGate, Tea
 use Rattle.header_slots.specs.Slots.{Counts, IsCommitted, IsGreatestPair, Opens, Slot, Slots}
 use Rattle.header_slots.proofs.Counting.{counts_after, is_known, is_number, one_committed}
 
--- the pair stays if only the third slot changes
+-- if only the third slot changes, s and s - 1 still count
 both_stay : (old new : Slots) (s : ℕ) → IsGreatestPair old s → OthersStay ((s + 1) % 3) old new → Counts new s × Counts new (s - 1)
 both_stay old new s was others =
     let positive : 0 < s = was.positive in (
@@ -15,7 +15,7 @@ both_stay old new s was others =
       counts_after ((s + 1) % 3) old new (s - 1) others (λ e. omega (arith, e, positive)) was.neighbour,
     )
 
--- the bytes of header s stay too
+-- if only the third slot changes, the bytes of header s are unchanged
 same_bytes : (old new : Slots) (s : ℕ) (a : List ℕ) → Opens old s a → OthersStay ((s + 1) % 3) old new → (new (s % 3)).bytes ≡ a
 same_bytes old new s a was others = ap (λ (it : Slot). it.bytes) (others (s % 3) (λ e. omega (arith, e))) ∙ was.bytes
 
@@ -51,7 +51,7 @@ header_commits_nothing old new s a was torn = record {
   bytes = same_bytes old new s a was torn.others;
 }
 
--- which headers count once the new header is written
+-- which headers count after the new header is written
 module _ (old new : Slots) (s : ℕ) (b : List ℕ) (was : IsCommitted old s) (torn : TearsGate s b old new) where
   -- in the third slot only the new header can count
   is_new : (n : ℕ) → Counts new n → n % 3 ≡ (s + 1) % 3 → n ≡ s + 1
@@ -85,7 +85,7 @@ module _ (old new : Slots) (s : ℕ) (b : List ℕ) (was : IsCommitted old s) (t
             omega (arith, number);
       }
 
-  -- otherwise the old header stays committed
+  -- if the new header's gate doesn't have its number, the old header stays committed
   is_committed_old : ((new ((s + 1) % 3)).gate ≡ Some (s + 1) → ⊥) → IsCommitted new s
   is_committed_old no_gate =
       let both = both_stay old new s was.pair torn.others in
@@ -126,7 +126,7 @@ published_commits old new s a b was is =
 
 -- ---- runs
 
--- what is committed after a run, and which header that is
+-- after a run, header t or a later one that was published is committed, with its bytes
 abbrev Left : ℕ → List ℕ → List (List ℕ) → Slots → Type 0
 Left s a published last = (t : ℕ) × (b : List ℕ) × (s ≤ t) × (b ≡ a ⊎ IsOneOf b published) × Opens last t b
 
@@ -137,7 +137,7 @@ earlier a b x published is =
       | inr later ↦ inr (inr later)
     ]
 
--- the header that the next publish follows is the one that the run left committed
+-- the header that the next publish follows has the bytes of the committed one
 opens_that : (slots : Slots) (t m : ℕ) (b : List ℕ) → Opens slots t b → IsCommitted slots m → Opens slots m b
 opens_that slots t m b opens is = subst (λ (n : ℕ). Opens slots n b) (one_committed slots t m opens.committed is) opens
 

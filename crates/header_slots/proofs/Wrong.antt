@@ -7,7 +7,7 @@ use Rattle.header_slots.specs.Slots.{Counts, IsGreatestPair, Opens, Slot, Slots}
 use Rattle.header_slots.specs.Wrong.{IsGreatestAlone, NeighboursAreNeeded, NextGateIsNeeded, NextGateShowsDamage, OneSyncIsTooFew}
 use Rattle.header_slots.proofs.Counting.{one_each}
 
--- headers 1 and 2 count, and have no bytes; slot 0 is any
+-- slots in which headers 1 and 2 count, with slot 0 arbitrary
 abbrev first_two : Slot → Slots
 first_two third zero = third
 first_two third (suc zero) = record { header = Some 1; gate = Some 1; bytes = [] }
@@ -27,7 +27,7 @@ others_stay a b zero other = absurd (other refl)
 others_stay a b (suc zero) other = refl
 others_stay a b (suc (suc k)) other = refl
 
--- a header that counts is 1 or 2, or lies in slot 0
+-- the headers that count are 1, 2, and perhaps one in slot 0
 which : (third : Slot) (n : ℕ) → Counts (first_two third) n → (n % 3 ≡ 0) ⊎ (n ≡ 1) ⊎ (n ≡ 2)
 which third n is =
     elim (cases_eq (n % 3) 0) [
@@ -39,7 +39,7 @@ which third n is =
           ]
     ]
 
--- in a slot without a header no header counts
+-- if slot 0 has no header, none counts there
 nothing_there : (gate : Option ℕ) (n : ℕ) → Counts (first_two (with_header None gate)) n → n % 3 ≡ 0 → ⊥
 nothing_there gate n is e =
     let lost : Some n ≡ None = sym is.header ∙ ap (λ (k : ℕ). (first_two (with_header None gate) k).header) e in
@@ -61,7 +61,7 @@ pair_of gate = record {
   greatest = λ n low high. most gate (n + 1) high;
 }
 
--- only the third header changes
+-- these two states differ only in the header of slot 0
 torn : (gate header : Option ℕ) → TearsHeader 2 (first_two (with_header None gate)) (first_two (with_header header gate))
 torn gate header = record { others = others_stay (with_header None gate) (with_header header gate); gate = refl }
 
@@ -78,7 +78,7 @@ one_sync_fails law =
       | inr is ↦ not_empty 1 [] is.bytes
     ]
 
--- without the rule, a header 6 would be committed whose gate is left from before an earlier crash
+-- if neighbours weren't needed, a torn header 6 could be committed by a gate that an earlier crash left
 pub neighbours_needed : NeighboursAreNeeded
 neighbours_needed law =
     let alone : IsGreatestAlone (first_two (with_header None (Some 6))) 2 = record {
@@ -90,7 +90,7 @@ neighbours_needed law =
     let wrong : 6 ≤ 2 = after.greatest 6 (record { header = refl; gate = refl }) in
     omega (arith, wrong)
 
--- without the rule, a header 3 would be committed whose gate is left from before header 3 was damaged
+-- if the next gate were ignored, a torn header 3 could be committed by the gate of an earlier header 3
 pub next_gate_needed : NextGateIsNeeded
 next_gate_needed law =
     let after = law (first_two (with_header None (Some 3))) (first_two (with_header (Some 3) (Some 3))) 2 (pair_of (Some 3))
@@ -98,7 +98,7 @@ next_gate_needed law =
     let wrong : 3 ≤ 2 = after.greatest 2 (two_counts (with_header (Some 3) (Some 3))) (record { header = refl; gate = refl }) in
     omega (arith, wrong)
 
--- header 3 is committed, and breaks
+-- if the next gate were ignored, and the committed header 3 broke, header 2 would be committed
 pub next_gate_shows : NextGateShowsDamage
 next_gate_shows law =
     let old : Slots = first_two (with_header (Some 3) (Some 3)) in

@@ -1,9 +1,10 @@
--- What a crash leaves while the gates of an image are closed one after another, before another image is built over it.
+-- What a crash leaves while the gates of an image are closed, one by one, before another image overwrites it. If
+-- header s is committed, the third slot is the one for neither s nor s - 1.
 use Rattle.std.specs.Prelude.{◌≡◌, ◌⊎◌, ℕ, ◌+◌, ◌%◌, ◌<◌, List, None}
 use Rattle.header_slots.specs.Publish.{OthersStay}
 use Rattle.header_slots.specs.Slots.{Counts, Opens, Slots}
 
--- one gate is being written: it may have any number, or none
+-- one gate is being written: it may have any number or none; all else stays
 pub record TearsGateOf (slot : ℕ) (old new : Slots) : Type 0 where
   pub others : OthersStay slot old new
   pub header : (new slot).header ≡ (old slot).header
@@ -21,13 +22,15 @@ LeftByClosing i j k old new =
     ⊎ ((one : Slots) × ClosesGateOf i old one × TearsGateOf j one new)
     ⊎ ((one : Slots) × (two : Slots) × ClosesGateOf i old one × ClosesGateOf j one two × TearsGateOf k two new)
 
--- header s is committed. If the third slot's header counts and is older, its gate is closed first, then s - 1, then s
+-- If header s is committed, and the third slot holds an older header that counts: close that header's gate, then those
+-- of s - 1 and s. A crash leaves s committed, or no header.
 abbrev pub OldThirdFirst : Type 0
 OldThirdFirst = (old new : Slots) (s n t : ℕ) (a b : List ℕ) → Opens old s a → Counts old n →
     n % 3 ≡ (s + 1) % 3 → n < s → LeftByClosing ((s + 1) % 3) ((s + 2) % 3) (s % 3) old new →
     Opens new t b → (t ≡ s) × (b ≡ a)
 
--- if it doesn't count, or is newer, the gate of s - 1 is closed first, then that of s, then that of the third slot
+-- If the header in the third slot doesn't count, or is newer than s: close the gates of s - 1, of s, and of the third
+-- slot. A crash leaves s committed, or no header.
 abbrev pub OtherThirdLast : Type 0
 OtherThirdLast = (old new : Slots) (s t : ℕ) (a b : List ℕ) → Opens old s a →
     ((n : ℕ) → Counts old n → n % 3 ≡ (s + 1) % 3 → s < n) →

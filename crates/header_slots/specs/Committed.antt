@@ -13,13 +13,13 @@ slots_of xs = λ k. record {
   bytes = [];
 }
 
--- header s and its neighbour count
+-- headers s and s - 1 both count
 pub record IsPair (slots : Slots) (s : ℕ) : Type 0 where
   pub positive : 0 < s
   pub counts : Counts slots s
   pub neighbour : Counts slots (s - 1)
 
--- why no header is committed: no pair counts, or a gate waits for the header after the greatest pair
+-- why no header is committed: no pair counts, or the gate after the greatest pair has the next number
 abbrev pub IsRefused : Slots → NotCommitted → Type 0
 IsRefused slots NoPair = (s : ℕ) → IsPair slots s → ⊥
 IsRefused slots NextGate = (s : ℕ) × IsGreatestPair slots s × ((slots ((s + 1) % 3)).gate ≡ Some (s + 1))

@@ -1,4 +1,4 @@
--- What a crash leaves of the header slots while header s + 1 is published after header s.
+-- What a crash leaves in the header slots while header s + 1 is published after header s.
 use Rattle.std.specs.Prelude.{◌≡◌, ◌⊎◌, ℕ, ◌+◌, ◌%◌, List, [], ◌∷◌, Some}
 use Rattle.header_slots.specs.Slots.{IsCommitted, Slots}
 
@@ -6,12 +6,12 @@ use Rattle.header_slots.specs.Slots.{IsCommitted, Slots}
 abbrev pub OthersStay : ℕ → Slots → Slots → Type 0
 OthersStay slot old new = (k : ℕ) → (k ≡ slot → ⊥) → new k ≡ old k
 
--- the header is being written: its sector may hold anything, and so any header or none
+-- header s + 1 is being written: its sector may decode to any header or none
 pub record TearsHeader (s : ℕ) (old new : Slots) : Type 0 where
   pub others : OthersStay ((s + 1) % 3) old new
   pub gate : (new ((s + 1) % 3)).gate ≡ (old ((s + 1) % 3)).gate
 
--- the header is durable, and its gate is being written: that may have any number or none
+-- header s + 1 is durable, and its gate is being written: the gate may have any number or none
 pub record TearsGate (s : ℕ) (row : List ℕ) (old new : Slots) : Type 0 where
   pub others : OthersStay ((s + 1) % 3) old new
   pub header : (new ((s + 1) % 3)).header ≡ Some (s + 1)
@@ -24,8 +24,8 @@ pub record IsPublished (s : ℕ) (row : List ℕ) (old new : Slots) : Type 0 whe
   pub bytes : (new ((s + 1) % 3)).bytes ≡ row
   pub gate : (new ((s + 1) % 3)).gate ≡ Some (s + 1)
 
--- publishes one after another, each whole or cut off by a crash; each follows the header that is committed then.
--- The list has the headers whose gates were written, whole or torn, the last first
+-- Publishes one after another, each completed or cut off by a crash; each follows the header committed at that time.
+-- The list has the headers whose gates were written, even if torn, the last one first.
 pub data Runs : Slots → List (List ℕ) → Slots → Type 0 where
   none : {slots : Slots} → Runs slots [] slots
   cut_at_header : {first old new : Slots} {published : List (List ℕ)} {s : ℕ} →
@@ -33,7 +33,7 @@ pub data Runs : Slots → List (List ℕ) → Slots → Type 0 where
   came_to_gate : {first old new : Slots} {published : List (List ℕ)} {s : ℕ} {bytes : List ℕ} →
       Runs first published old → IsCommitted old s → TearsGate s bytes old new → Runs first (bytes ∷ published) new
 
--- x is one of these headers
+-- x is in this list
 abbrev pub IsOneOf : List ℕ → List (List ℕ) → Type 0
 IsOneOf x [] = ⊥
 IsOneOf x (y ∷ ys) = (x ≡ y) ⊎ IsOneOf x ys

@@ -15,14 +15,15 @@ pub struct SlotNumbers {
 /// Why no header is committed.
 #[derive(Clone, Copy, PartialEq, Eq)]
 pub enum NotCommitted {
-    /// No two headers with neighbouring numbers count.
+    /// No two headers with consecutive numbers count.
     NoPair,
-    /// The gate that follows the greatest pair has the next number: the next header was published, and is damaged.
+    /// The gate after the greatest pair has the next number: the next header was published, and is damaged
+    /// now.
     NextGate,
 }
 
-/// Returns the number of the header in slot `i`, if this header counts: it is sound, lies in its slot, and the gate
-/// there has its number.
+/// Returns the number of the header in slot `i`, if this header counts: it is sound, it is in its slot, and
+/// the gate there has its number.
 pub fn counting_number(slots: &[SlotNumbers], i: usize) -> Option<u64>
     requires slots { length slots.now ≡ 3 }
     requires slot { i < 3 }
@@ -38,7 +39,7 @@ pub fn counting_number(slots: &[SlotNumbers], i: usize) -> Option<u64>
     }
 }
 
-// Returns the number of the header in slot `i`, or 0 unless it and its neighbour count.
+// Returns the number of the header in slot `i`, or 0 unless this header and the one before it count.
 fn pair_at(slots: &[SlotNumbers], i: usize) -> u64
     requires slots { length slots.now ≡ 3 }
     requires slot { i < 3 }
@@ -71,10 +72,10 @@ fn has_next_gate(slots: &[SlotNumbers], s: u64) -> bool
     }
 }
 
-/// Returns the sequence number of the committed header, by the numbers in the three slots.
+/// Returns the sequence number of the committed header, from the numbers in the three slots.
 ///
-/// Returns `NoPair` if no two headers with neighbouring numbers count, and `NextGate` if the gate of the header after
-/// the greatest such pair has the next number.
+/// Returns `NoPair` if no two headers with consecutive numbers count, and `NextGate` if the gate after the
+/// greatest such pair has the next number.
 pub fn committed(slots: &[SlotNumbers]) -> Result<u64, NotCommitted>
     requires { length slots.now ≡ 3 }
     ensures ok { IfOk result (λ s. IsCommitted (slots_of slots.now) s) }

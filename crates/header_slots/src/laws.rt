@@ -1,4 +1,4 @@
-// Laws of three header slots, stated by functions that do nothing.
+// Laws of three header slots, as contracts of functions that do nothing.
 ghost use Rattle.header_slots.specs.Closing.{OldThirdFirst, OtherThirdLast};
 ghost use Rattle.header_slots.specs.Laws.{BrokenHeadersAreSeen, GateCommits, HeaderCommitsNothing, OneIsCommitted};
 ghost use Rattle.header_slots.specs.Laws.{PublishedIsCommitted, RunsCommit};
@@ -18,22 +18,22 @@ pub fn publishing_is_safe()
     ensures runs { RunsCommit }
 {}
 
-/// If a header is no longer sound, or the header in the third slot changes in any way, the same header stays
-/// committed, or none is. The function does nothing: its contract is the law.
+/// If a header is no longer sound, or the header in the slot after the committed one changes in any way, the
+/// same header stays committed, or none is. The function does nothing: its contract is the law.
 pub fn damage_changes_nothing()
     ensures { BrokenHeadersAreSeen }
 {}
 
-/// Before a new image overwrites an old one, all gates are closed, one after another, each with a sync: first the
-/// gates of headers that count, from the least number on, then the others. A crash leaves the same header committed,
-/// or none. The function does nothing: its contract is the law.
+/// Before a new image overwrites an old one, all gates are closed, each with a sync: first those of headers
+/// that count, in rising order, then the others. A crash leaves the same header committed, or none. The
+/// function does nothing: its contract is the law.
 pub fn closing_is_safe()
     ensures older { OldThirdFirst }
     ensures other { OtherThirdLast }
 {}
 
-/// One sync for header and gate together isn't enough. If the rule didn't ask for the neighbouring header, or didn't
-/// look at the next gate, a torn or damaged header could be committed. The function does nothing: its contract is the
+/// One sync for header and gate together isn't enough. If the rule ignored the neighbouring header or the
+/// next gate, a torn or damaged header could be committed. The function does nothing: its contract is the
 /// law, by counterexamples.
 pub fn weaker_rules_fail()
     ensures sync { OneSyncIsTooFew }

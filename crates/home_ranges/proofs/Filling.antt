@@ -21,11 +21,11 @@ all_blank n {xs} is =
     let size : n ≡ length xs - 0 = omega (arith, ap length is, length-replicate {A = ℕ} n 0) in
     is ∙ ap (λ (k : ℕ). replicate {A = ℕ} k 0) size
 
--- the frames of the first n from a number on are in a block
+-- a block contains the frames of n numbers from `first` on
 abbrev pub AreIn : Plan → (ℕ → List ℕ) → ℕ → ℕ → List ℕ → Type 0
 AreIn p frame first n block = (k : ℕ) → k < n → shape_bytes (shape_of p (first + k)) block ≡ frame (first + k)
 
--- the block has zeros after the places of these frames
+-- a block has only zeros after the frames of these numbers
 abbrev pub AreEnded : Plan → ℕ → ℕ → List ℕ → Type 0
 AreEnded p first n block = (at : ℕ) → ((k : ℕ) → k < n → shape_end (shape_of p (first + k)) ≤ at) → IsBlankFrom at block
 
@@ -57,7 +57,7 @@ module _ {p : Plan} (first n : ℕ) {m : ℕ} (old new : List ℕ) (fits : IsPla
 
 module _ {p : Plan} {number first m : ℕ} (block : List ℕ) (start : IsFirstOf p number first) (have : HaveHome p first m) (n : ℕ)
     (most : m ≤ n) where
-  -- a block with the frames of all objects that share a home has each of these frames
+  -- if a block contains the frames of all numbers that share a home, it contains the frame of each
   pub all_in : (frame : ℕ → List ℕ) → AreIn p frame first n block → (a : ℕ) → IsObject p.geometry a → home_place p a ≡ home_place p number →
       shape_bytes (shape_of p a) block ≡ frame a
   all_in frame so_far a is_a same =

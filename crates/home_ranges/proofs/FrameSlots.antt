@@ -1,10 +1,10 @@
--- The slots whose sectors have the frames of objects, and their entries.
+-- The log slots that hold frames, and their directory entries.
 use Rattle.home_ranges.proofs.Names.{ℕ, suc, Bool, Option, Some, None, List, [], length, refl, sym, ap, inl, inr, arith, cases_eq, eq-eqb, ne_eqb, Entry}
 use Rattle.home_ranges.proofs.Names.{entry_at, home_place, slot_in, slot_beside, or_beside, frame_slot_in, Plan, found_slot, same_Some}
 use Rattle.std.proofs.Common.{◌≡◌, ◌<◌, ◌∷◌, ◌∙◌}
 use Rattle.std.specs.Prelude.{if◌then◌else◌}
 
--- ---- the first entry whose home is that of an object
+-- ---- the first entry whose object shares a home with object n
 
 pub beside_here : (p : Plan) (e : Entry) (es : List Entry) (n : ℕ) → home_place p e.object ≡ home_place p n →
     slot_beside p (e ∷ es) n ≡ Some e.slot
@@ -16,7 +16,7 @@ pub beside_behind : (p : Plan) (e : Entry) (es : List Entry) (n : ℕ) → (home
 beside_behind p e es n other = ap (λ (b : Bool). if b then Some e.slot else slot_beside p es n)
     (ne_eqb (home_place p e.object) (home_place p n) other)
 
--- the entry that has such a slot
+-- an entry whose object has the home of n has this slot
 pub record HasBeside (p : Plan) (es : List Entry) (n slot : ℕ) : Type 0 where
   pub index : ℕ
   pub within : index < length es
@@ -32,7 +32,7 @@ found_beside p (e ∷ es) n s is = elim (cases_eq (home_place p e.object) (home_
       record { index = suc rest.index; within = omega (arith, rest.within); home_is = rest.home_is; slot_is = rest.slot_is }
 ]
 
--- ---- the slot of an object, or else that one
+-- ---- an object's own slot or, if it has none, the slot of that entry
 
 frame_slot_by : (p : Plan) (es : List Entry) (n : ℕ) {own : Option ℕ} → slot_in es n ≡ own →
     frame_slot_in p es n ≡ or_beside own (slot_beside p es n)
@@ -44,7 +44,7 @@ own_frame_slot p es n {s} is = frame_slot_by p es n is
 pub beside_frame_slot : (p : Plan) (es : List Entry) (n : ℕ) → slot_in es n ≡ None → frame_slot_in p es n ≡ slot_beside p es n
 beside_frame_slot p es n is = frame_slot_by p es n is
 
--- the entry of a frame slot
+-- a slot that holds the frame of n is that of an entry whose object has the home of n
 pub frame_slot_entry : (p : Plan) (es : List Entry) (n s : ℕ) → frame_slot_in p es n ≡ Some s → HasBeside p es n s
 frame_slot_entry p es n s frame_slot = by (slot_in es n) refl where
   by : (o : Option ℕ) → slot_in es n ≡ o → HasBeside p es n s

@@ -1,4 +1,4 @@
--- Plans that were laid out can be laid out again.
+-- The parts of an existing plan can be laid out again.
 use Rattle.home_ranges.proofs.Names.{ℕ, List, [], length, set, take, drop, map, append_assoc, arith, append-nil, drop_all, drop_more, length-map, length-set}
 use Rattle.home_ranges.proofs.Names.{take_all, take_more_set, Geometry, HomeRange, Plan, IsPlan, Cover, NumberRange, MayBeLaid, numbers_of, placed, range_at}
 use Rattle.std.proofs.Common.{◌≡◌, ◌+◌, ◌<◌, ◌≤◌, ◌∷◌, ◌++◌}
@@ -10,7 +10,7 @@ cover_numbers g n (r ∷ rs) cover = (cover.0, cover_numbers g (n + r.count) rs 
 pub may_be_laid : (p : Plan) → IsPlan p → MayBeLaid p.geometry (map numbers_of p.ranges)
 may_be_laid p fits = search (arith, length-map, cover_numbers)
 
--- ---- the numbers are put one by one
+-- ---- the numbers of ranges are listed one by one
 
 pub record NumbersTo (rs : List HomeRange) (into : List NumberRange) (i : ℕ) : Type 0 where
   pub size : length into ≡ length rs

@@ -1,4 +1,4 @@
--- Parts that are laid out one after the other make a plan.
+-- Parts that are laid out one after the other form a plan.
 use Rattle.home_ranges.proofs.Names.{nat_tests, ℕ, zero, suc, Bool, List, [], length, map, refl, sym, subst, arith, lt-ltb, le-ltb, All, Geometry, Extent}
 use Rattle.home_ranges.proofs.Names.{Version, One, Two, Cover, IsPlan, IsWithin, AreApart, extent_at, extents, half_extent, nodes_length, range_extent}
 use Rattle.home_ranges.proofs.Names.{NumberRange, MayBeLaid, behind, laid, placed, plan_from, sectors_of, cover_within, IfSome, IfNone, Plan, IsOpened}
@@ -42,7 +42,7 @@ follow_within total at (e ∷ es) low high follow zero d lt = grind (arith, nat_
 follow_within total at (e ∷ es) low high follow (suc k) d lt = follow_within total (at + e.length) es (omega (arith, low)) high follow.1 k d
     (omega (arith, lt))
 
--- ---- ranges that are laid, and what lies after them
+-- ---- ranges that are laid out, and the extents after them
 
 laid_follow : (v : Version) (g : Geometry) (at : ℕ) (rs : List NumberRange) (es : List Extent) → Follow (behind v g at rs) es →
     Follow at (map (range_extent v g) (laid v g at rs) ++ es)
@@ -59,7 +59,7 @@ laid_end : (v : Version) (g : Geometry) (at : ℕ) (rs : List NumberRange) (es :
 laid_end v g at [] es = rw (none_laid v g at, none_behind v g at) refl
 laid_end v g at (r ∷ rs) es = rw (cons_laid v g at r rs, cons_behind v g at r rs) (laid_end v g (at + sectors_of v g r) rs es)
 
--- which numbers ranges cover doesn't depend on where they lie
+-- which numbers ranges cover doesn't depend on their sectors
 cover_laid : (v : Version) (g : Geometry) (n at : ℕ) (rs : List NumberRange) → Cover g n (map (placed 0) rs) → Cover g n (laid v g at rs)
 cover_laid v g n at [] c = subst (Cover g n) (sym (none_laid v g at)) c
 cover_laid v g n at (r ∷ rs) c = subst (Cover g n) (sym (cons_laid v g at r rs))
@@ -73,11 +73,11 @@ laid_covers v g n at (r ∷ rs) c =
 
 -- ---- how many sectors the ranges take
 
--- the sectors of all numbers from n on in version 1
+-- how many sectors the numbers from n on take in version 1
 abbrev sectors_from : Geometry → ℕ → ℕ
 sectors_from g n = 2 * (g.nodes - n) + 9 * (g.nodes + g.pages - n - (g.nodes - n))
 
--- in each version a range of nodes takes at most 8 sectors more than in version 1
+-- in each version a range of `count` nodes takes at most 2 count + 8 sectors
 few_more : (v : Version) (count : ℕ) → nodes_length v count ≤ 2 * count + 8
 few_more v count = search arith
 
@@ -105,7 +105,7 @@ module _ (v : Version) (g : Geometry) (rs : List NumberRange) (opened : IsOpened
   follow : Follow 5 (extents (plan_from v g rs))
   follow = laid_follow v g 5 rs halves (refl, (refl, tt))
 
-  -- numbers within the limits take at most as many sectors as a device may have
+  -- if the numbers of objects and slots are within the limits, the total is at most what a device may have
   total_few : (plan_from v g rs).total ≤ 131072
   total_few = let end = behind_few v g 0 5 rs may.cover in let half = opened_half v g opened in omega (
     arith,
@@ -148,7 +148,7 @@ pub not_laid_out : (v : Version) (g : Geometry) (rs : List NumberRange) (r : Opt
 not_laid_out v g rs None none = λ opened may. none (is_plan v g rs opened may)
 not_laid_out v g rs (Some s) none = tt
 
--- ---- version 2 beside version 1
+-- ---- version 2 compared with version 1
 
 -- in version 2 a range takes at most 8 sectors more than in version 1
 second_takes : (is_node : Bool) (count : ℕ) → (if is_node then nodes_length Two count else 9 * count)
@@ -172,7 +172,7 @@ second_total g rs =
     let two = opened_half Two g refl in
     omega (arith, end, one, two)
 
--- ---- the count of each range is at most that of all numbers
+-- ---- no range has more numbers than there are objects
 
 counts_few : (g : Geometry) (n : ℕ) (rs : List NumberRange) → Cover g n (map (placed 0) rs) → All (λ r. r.count ≤ g.nodes + g.pages) rs
 counts_few g n [] c k d lt = absurd (omega (arith, lt))

@@ -1,4 +1,4 @@
--- Ranges are laid one after the other.
+-- Ranges are laid out one after the other.
 use Rattle.home_ranges.proofs.Names.{ℕ, suc, nat_lt, Bool, List, [], length, get_or, set, take, drop, refl, sym, ap, append_assoc, arith, append-nil, drop_all}
 use Rattle.home_ranges.proofs.Names.{drop_more, length-set, take_all, take_more_set, Geometry, HomeRange, Version, nodes_length, NumberRange, behind, laid}
 use Rattle.home_ranges.proofs.Names.{placed, sectors_of}
@@ -34,7 +34,7 @@ few_by v b n few = search arith
 few_sectors : (v : Version) (g : Geometry) (r : NumberRange) → r.count ≤ 8192 → sectors_of v g r ≤ 73728
 few_sectors v g r few = few_by v (nat_lt r.first g.nodes) r.count few
 
--- the first i ranges are laid out, up to the sector `next`, and the others follow from there
+-- the first i ranges are laid out and end before sector `next`; the others follow from there
 pub record LaidTo (v : Version) (g : Geometry) (rs : List NumberRange) (into : List HomeRange) (i next : ℕ) : Type 0 where
   pub size : length into ≡ length rs
   pub rest : laid v g 5 rs ≡ take i into ++ laid v g next (drop i rs)

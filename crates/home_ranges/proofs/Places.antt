@@ -1,4 +1,4 @@
--- Places of numbers in ranges that cover them.
+-- The homes of numbers, in ranges that cover all numbers.
 use Rattle.home_ranges.proofs.Names.{ℕ, zero, suc, Option, Some, None, List, [], length, get_or, sym, ap, subst, inl, inr, arith, true, false, nat_lt, min}
 use Rattle.home_ranges.proofs.Names.{cases_lt, length-map, get_or_append_left, get_or-map, nat_tests, Geometry, Image, Extent, HomeRange, Half, First, Second}
 use Rattle.home_ranges.proofs.Names.{Shape, Version, row, page_shape, shape_end, AreBeside, IsFirstOf, frames_in_block, half_of, range_with, place_in, place_by}
@@ -9,13 +9,13 @@ use Rattle.home_ranges.proofs.Names.{PlacesSpareLog, same_Some, range_at}
 use Rattle.std.proofs.Common.{◌≡◌, ◌⊎◌, ◌+◌, ◌-◌, ◌*◌, ◌/◌, ◌%◌, ◌<◌, ◌≤◌, ◌∷◌, ◌∙◌}
 use Rattle.std.specs.Prelude.{if◌then◌else◌}
 
--- a range has this number, and has only nodes or only pages
+-- range r contains this number, and has only nodes or only pages
 pub record Has (g : Geometry) (r : HomeRange) (number : ℕ) : Type 0 where
   pub low : r.first ≤ number
   pub high : number < r.first + r.count
   pub kind : IsOfOneKind g r
 
--- the range i has the number
+-- range i contains the number, and `range_with` finds it
 pub record IsFound (g : Geometry) (rs : List HomeRange) (number i : ℕ) : Type 0 where
   pub within : i < length rs
   pub has : Has g (range_at rs i) number
@@ -52,14 +52,14 @@ found {p} number fits is = find_in p.geometry 0 p.ranges fits.cover (omega arith
 
 -- ---- in one range
 
--- how the frame of a number in a range lies
+-- the shape of a number's frame, from its range
 abbrev shape_in : Version → Geometry → HomeRange → ℕ → Shape
 shape_in v g r number = if nat_lt number g.nodes then node_shape v ((number - r.first) % (row v).cluster_nodes) else page_shape
 
 abbrev extent_of : ℕ → ℕ → Extent
 extent_of sector length = record { sector = sector; length = length }
 
--- the sectors of a number in a range
+-- the sectors of a number's home, from its range
 abbrev extent_in : Version → Geometry → HomeRange → ℕ → Extent
 extent_in v g r number = extent_of (place_in v g r number) (shape_length (shape_in v g r number))
 
@@ -86,12 +86,12 @@ ranges_apart {p} {i} {j} fits lt within =
 
 -- ---- the laws
 
--- the home of a number begins at its place in its range,
+-- the home of a number begins at its place in its range
 pub place_is : (p : Plan) {number i : ℕ} → IsFound p.geometry p.ranges number i →
     home_place p number ≡ place_in p.version p.geometry (range_at p.ranges i) number
 place_is p {number} at = ap (λ (r : Option HomeRange). place_by p.version p.geometry r number) at.found
 
--- and takes the sectors of the block there
+-- the home of a number takes the sectors of its block
 home_is : (p : Plan) {number i : ℕ} → IsFound p.geometry p.ranges number i →
     home_extent p number ≡ extent_in p.version p.geometry (range_at p.ranges i) number
 home_is p {number} {i} at = grind (arith, nat_tests)
@@ -107,7 +107,7 @@ places_within p a fits is =
     let within = range_within fits at.1.within in
     grind (arith, nat_tests)
 
--- two homes are apart, or a range has both
+-- two homes don't overlap, or one range contains both numbers
 either_range : {p : Plan} {a b : ℕ} → IsPlan p → IsObject p.geometry a → IsObject p.geometry b →
     IsApart (home_extent p a) (home_extent p b) ⊎ ((i : ℕ) × IsFound p.geometry p.ranges a i × IsFound p.geometry p.ranges b i)
 either_range {p} {a} {b} fits is_a is_b =
@@ -128,7 +128,7 @@ either_range {p} {a} {b} fits is_a is_b =
       ]
     ]
 
--- so two homes are apart if they are apart in each range that has both numbers
+-- two homes don't overlap if they don't in each range that contains both numbers
 apart_by : {p : Plan} {a b : ℕ} → IsPlan p → IsObject p.geometry a → IsObject p.geometry b
     → ((i : ℕ) → IsFound p.geometry p.ranges a i → IsFound p.geometry p.ranges b i →
     IsApart (extent_in p.version p.geometry (range_at p.ranges i) a)
@@ -160,9 +160,9 @@ spares_half Second fits is = spares_at 1 fits is (omega arith)
 pub places_spare_log : PlacesSpareLog
 places_spare_log p a generation fits is = spares_half (half_of generation) fits is
 
--- ---- objects that have one home
+-- ---- objects that share a home
 
--- another number of the range that was found
+-- the numbers of range i are not below n, if the ranges cover the numbers from n on
 covered_from : (g : Geometry) (n i : ℕ) (rs : List HomeRange) → Cover g n rs → i < length rs → n ≤ (range_at rs i).first
 covered_from g n i [] c lt = absurd (omega (arith, lt))
 covered_from g n zero (r ∷ rs) c lt = omega (arith, c.0.0)
@@ -189,11 +189,11 @@ found_too {g} n (suc i) {number} (r ∷ rs) c lt has =
 some_sectors : (p : Plan) (n : ℕ) → 1 ≤ place_length p n
 some_sectors p n = grind (arith, nat_tests)
 
--- two extents that begin at the same sector aren't apart
+-- two extents that begin at the same sector overlap
 never_apart : {d e : Extent} → d.sector ≡ e.sector → 1 ≤ d.length → 1 ≤ e.length → IsApart d e → ⊥
 never_apart {d} {e} same some_d some_e apart = grind (arith, nat_tests)
 
--- a range that has both of two numbers
+-- range i contains both numbers, which share a home
 pub record HasBoth (p : Plan) (a b : ℕ) (i : ℕ) : Type 0 where
   pub one : IsFound p.geometry p.ranges a i
   pub other : IsFound p.geometry p.ranges b i
@@ -203,7 +203,7 @@ pub one_range : {p : Plan} {a b : ℕ} → IsPlan p → IsObject p.geometry a �
     (i : ℕ) × HasBoth p a b i
 one_range {p} {a} {b} fits is_a is_b same = grind (arith, nat_tests, either_range, never_apart, some_sectors, place_is)
 
--- the shape of a number is that in its range
+-- the shape of a number is the one computed from its range
 pub shape_is : (p : Plan) {number i : ℕ} → IsFound p.geometry p.ranges number i →
     shape_of p number ≡ shape_in p.version p.geometry (range_at p.ranges i) number
 shape_is p {number} at = ap (λ (r : Option HomeRange). if nat_lt number p.geometry.nodes then node_shape p.version
@@ -214,14 +214,14 @@ pub one_length : (p : Plan) (a b : ℕ) → IsPlan p → IsObject p.geometry a �
     place_length p a ≡ place_length p b
 one_length p a b fits is_a is_b same = grind (arith, nat_tests, one_range, shape_is)
 
--- so the bytes of a home contain the frames of all objects that share it
+-- bytes read from a home contain the frames of all objects that share it
 pub home_held : {p : Plan} {number at n : ℕ} {s : Shape} {bytes : List ℕ} (image : Image) → IsPlan p → IsObject p.geometry number →
     at ≡ home_place p number → s ≡ shape_of p number → n ≡ shape_length s → sectors_from image at n ≡ bytes → HoldsHome p number bytes image
 home_held {p} {number} {at} {n} {s} {bytes} image fits is place shape size held = grind (arith, nat_tests, one_length)
 
 -- ---- the range that was found
 
--- the range that has a number, and so the place of the number
+-- the range that contains a number, and so the number's home
 pub record IsRangeOf (p : Plan) (number : ℕ) (r : HomeRange) : Type 0 where
   pub sector : r.sector ≤ 131072
   pub place : home_place p number ≡ place_in p.version p.geometry r number
@@ -237,7 +237,7 @@ pub no_range : {p : Plan} {number : ℕ} → IsPlan p → IsObject p.geometry nu
 no_range {p} {number} fits is reported =
     let at = found number fits is in let never : None ≡ Some (range_at p.ranges at.0) = reported ∙ at.1.found in cc
 
--- a place of a number, after the headers and before the end
+-- this is the home of the number, after the headers and before the end
 pub record IsPlace (p : Plan) (number place : ℕ) : Type 0 where
   pub value : place ≡ home_place p number
   pub behind : 5 ≤ place
@@ -247,14 +247,14 @@ pub place_lies : {p : Plan} {number place : ℕ} {r : HomeRange} → IsPlan p �
     Some r ≡ range_with p.ranges number → place ≡ place_in p.version p.geometry r number → IsPlace p number place
 place_lies {p} {number} {place} {r} fits is reported made = grind (arith, nat_tests, places_within, range_of)
 
--- ---- who has a home
+-- ---- which numbers share a home
 
--- a frame fills its block alone
+-- a frame fills its block
 abbrev pub IsWhole : Shape → Type 0
 IsWhole s = s.bytes ≡ 512 * s.sectors
 
 module _ {g : Geometry} {r : HomeRange} {a b : ℕ} (has_a : Has g r a) (has_b : Has g r b) where
-  -- in a range, numbers that share a home are in the same block
+  -- two numbers of a range that share a home are in the same block
   one_block : (v : Version) → place_in v g r a ≡ place_in v g r b → (a - r.first) / frames_in_block v g b
       ≡ (b - r.first) / frames_in_block v g b
   one_block v same = grind (arith, nat_tests)
@@ -263,7 +263,7 @@ module _ {g : Geometry} {r : HomeRange} {a b : ℕ} (has_a : Has g r a) (has_b :
       place_in v g r a ≡ place_in v g r b
   one_place v same = grind (arith, nat_tests)
 
-  -- in a block, the frame of a greater number lies after those of lesser numbers
+  -- in a block, the frame of a greater number comes after those of lesser ones
   rise_in : (v : Version) → place_in v g r a ≡ place_in v g r b → a < b → shape_end (shape_in v g r a) ≤ (shape_in v g r b).offset
   rise_in v same lt = grind (arith, nat_tests)
 
@@ -272,13 +272,13 @@ module _ {g : Geometry} {r : HomeRange} {a b : ℕ} (has_a : Has g r a) (has_b :
 
 module _ {p : Plan} {a b : ℕ} (fits : IsPlan p) (is_a : IsObject p.geometry a) (is_b : IsObject p.geometry b)
     (same : home_place p a ≡ home_place p b) where
-  -- of two objects that share a home, the frame of the greater number lies after the other
+  -- if two objects share a home, the frame of the greater number comes after the other
   pub frames_rise : a < b → shape_end (shape_of p a) ≤ (shape_of p b).offset
   frames_rise lt =
       let both = one_range fits is_a is_b same in
       rw (shape_is p both.1.one, shape_is p both.1.other) (rise_in both.1.one.has both.1.other.has p.version both.1.place lt)
 
-  -- no other object shares the home of a frame that fills its block
+  -- if a frame fills its block, no other object shares its home
   pub alone : IsWhole (shape_of p b) → a ≡ b
   alone whole =
       let both = one_range fits is_a is_b same in
@@ -293,7 +293,7 @@ frames_beside {p} {a} {b} fits is_a is_b same differ = elim (cases_lt a b) [
 
 -- ---- the numbers of a block
 
--- a block has 1 or 5 frames; counted from the start of a range, blocks begin at the multiples of this number
+-- a block has 1 or 5 frames
 abbrev IsSize : ℕ → Type 0
 IsSize k = (k ≡ 1) ⊎ (k ≡ 5)
 
@@ -330,7 +330,7 @@ module _ {p : Plan} {number : ℕ} {r : HomeRange} (fits : IsPlan p) (is : IsObj
       let at = found number fits is in
       subst (λ (x : HomeRange). Has p.geometry x number) (same_Some _ _ (sym at.1.found ∙ sym reported)) at.1.has
 
-  -- all numbers that share the home are in the range
+  -- all numbers that share the home are in the same range and block
   in_range : (a : ℕ) → IsObject p.geometry a → home_place p a ≡ home_place p number →
       Has p.geometry r a × ((a - r.first) / k ≡ (number - r.first) / k)
   in_range a is_a same =
@@ -370,7 +370,7 @@ module _ {p : Plan} {number : ℕ} {r : HomeRange} (fits : IsPlan p) (is : IsObj
             omega (arith, first_at, least, at.0.low, here.low, few);
       }
 
-  -- a number shares its home with those after it, up to the end of its block or of its range
+  -- a number shares its home with the numbers after it, up to the end of its block or its range
   pub block_shared : {n : ℕ} → n ≡ min (r.count - (number - r.first)) (k - (number - r.first) % k) → HaveHome p number n
   block_shared {n} count =
       let i : ℕ = number - r.first in
@@ -388,12 +388,12 @@ module _ {p : Plan} {number : ℕ} {r : HomeRange} (fits : IsPlan p) (is : IsObj
             omega (arith, before, count, at.0.high, at.0.low, here.low);
       }
 
--- a number between two that share a home shares it too
+-- if two numbers share a home, so does each number between them
 pub home_between : {p : Plan} {a b n : ℕ} → IsPlan p → IsObject p.geometry a → IsObject p.geometry n → n ≤ b → b ≤ a →
     home_place p a ≡ home_place p n → home_place p b ≡ home_place p n
 home_between {p} {a} {b} {n} fits is_a is_n low high same = grind (arith, nat_tests, one_range, place_is, found_too)
 
--- the bytes that were written to a home, given in two ways
+-- if bytes were written to the sectors of a home, the home contains them
 pub bytes_home : (p : Plan) (number : ℕ) {at n : ℕ} {s : Shape} {bytes : List ℕ} (image : Image) → at ≡ home_place p number →
     s ≡ shape_of p number → n ≡ shape_length s → sectors_from image at n ≡ bytes →
     sectors_from image (home_place p number) (place_length p number) ≡ bytes

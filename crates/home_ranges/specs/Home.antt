@@ -3,12 +3,12 @@ use Rattle.home_ranges.specs.Names.{ℕ, List, nat_lt, Geometry, Version, Image,
 use Rattle.home_ranges.specs.Names.{shape_bytes, Plan, IsBlankFrom, IsObject, row, shape_end}
 use Rattle.std.specs.Prelude.{◌≡◌, ◌+◌, ◌<◌, ◌≤◌, if◌then◌else◌}
 
--- in an image, each object with the home of `number` has the frame there that these bytes have
+-- for each object that shares the home of `number`, the frame in the image is the one in these bytes
 abbrev pub HoldsHome : Plan → ℕ → List ℕ → Image → Type 0
 HoldsHome p number bytes image = (n : ℕ) → IsObject p.geometry n → home_place p n ≡ home_place p number →
     bytes_at image (home_place p n) p n ≡ shape_bytes (shape_of p n) bytes
 
--- the `n` numbers from `number` on have the home of `number`, and no number after them has it
+-- the `n` numbers from `number` on share its home, and no later number does
 pub record HaveHome (p : Plan) (number n : ℕ) : Type 0 where
   pub object : (k : ℕ) → k < n → IsObject p.geometry (number + k)
   pub same : (k : ℕ) → k < n → home_place p (number + k) ≡ home_place p number
@@ -20,15 +20,15 @@ pub record IsFirstOf (p : Plan) (number first : ℕ) : Type 0 where
   pub home : home_place p first ≡ home_place p number
   pub least : (a : ℕ) → IsObject p.geometry a → home_place p a ≡ home_place p number → first ≤ a
 
--- how many frames the block with an object's frame has
+-- how many frames a block of this number's kind has
 abbrev pub frames_in_block : Version → Geometry → ℕ → ℕ
 frames_in_block v g number = if nat_lt number g.nodes then (row v).cluster_nodes else 1
 
--- byte `at` of a block lies after the frames of all objects with the home of `number`
+-- byte `at` of a block lies after the frames of all objects that share the home of `number`
 abbrev pub IsBehindAll : Plan → ℕ → ℕ → Type 0
 IsBehindAll p number at = (n : ℕ) → IsObject p.geometry n → home_place p n ≡ home_place p number → shape_end
     (shape_of p n) ≤ at
 
--- after these frames, the block has only zeros
+-- after the frames of all objects that share the home of `number`, the block has only zeros
 abbrev pub EndsInZeros : Plan → ℕ → List ℕ → Type 0
 EndsInZeros p number bytes = (at : ℕ) → IsBehindAll p number at → IsBlankFrom at bytes

@@ -1,18 +1,18 @@
--- Where the parts of an image lie if its home ranges follow one another.
+-- The layout of an image whose home ranges follow one another.
 use Rattle.home_ranges.specs.Names.{ℕ, List, [], length, map, Geometry, HomeRange, Version, Plan, plan_of, IsGeometry}
 use Rattle.home_ranges.specs.Names.{Cover, range_extent, half_length}
 use Rattle.std.specs.Prelude.{◌+◌, ◌≤◌, ◌∷◌}
 use Rattle.home_ranges.specs.declared.number_range.NumberRange.{NumberRange}
 
--- the range r, with its frames from sector `at` on
+-- range r, with its frames from sector `at` on
 abbrev pub placed : ℕ → NumberRange → HomeRange
 placed at r = record { first = r.first; count = r.count; sector = at }
 
--- how many sectors its frames take, wherever they lie
+-- how many sectors the frames of a range take
 abbrev pub sectors_of : Version → Geometry → NumberRange → ℕ
 sectors_of v g r = (range_extent v g (placed 0 r)).length
 
--- ranges whose frames lie one after the other, from sector `at` on
+-- the ranges, one after the other, from sector `at` on
 unfoldable pub laid : Version → Geometry → ℕ → List NumberRange → List HomeRange
 laid v g at [] = []
 laid v g at (r ∷ rs) = placed at r ∷ laid v g (at + sectors_of v g r) rs
@@ -22,12 +22,12 @@ unfoldable pub behind : Version → Geometry → ℕ → List NumberRange → �
 behind v g at [] = at
 behind v g at (r ∷ rs) = behind v g (at + sectors_of v g r) rs
 
--- the plan with ranges from sector 5 on, after them the halves of the log, and nothing after those
+-- the plan with the ranges from sector 5 on, then the two halves of the log, and nothing else
 abbrev pub plan_from : Version → Geometry → List NumberRange → Plan
 plan_from v g rs = plan_of v g (laid v g 5 rs) (behind v g 5 rs) (behind v g 5 rs + half_length v g)
     (behind v g 5 rs + half_length v g + half_length v g)
 
--- the numbers of a home range
+-- a home range without its sector
 abbrev pub numbers_of : HomeRange → NumberRange
 numbers_of r = record { first = r.first; count = r.count }
 
@@ -35,7 +35,7 @@ numbers_of r = record { first = r.first; count = r.count }
 abbrev pub laid_again : Version → Plan → Plan
 laid_again v p = plan_from v p.geometry (map numbers_of p.ranges)
 
--- what the format requires of geometry and ranges, whatever the version and wherever the ranges lie
+-- what the format requires of geometry and ranges, apart from version and sectors
 pub record MayBeLaid (g : Geometry) (rs : List NumberRange) : Type 0 where
   pub geometry : IsGeometry g
   pub some : 1 ≤ length rs

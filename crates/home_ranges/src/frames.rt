@@ -43,8 +43,8 @@ impl<'a> Home<'a> {
         read_frame(device, at, shape, self.geometry(), number, age, scratch)
     }
 
-    /// Writes all sectors of the home of an object: for a node, these also hold the frames of the other nodes of its
-    /// cluster. All other sectors keep their bytes, and a crash may leave nothing new in them.
+    /// Writes all sectors of the home of an object: for a node, these also hold the frames of the other nodes
+    /// of its cluster. All other sectors keep their bytes, and what a crash may leave in them doesn't change.
     ///
     /// Returns `Failed` exactly if the device failed; then the sectors of the home may hold any bytes.
     #[tactic(auto, using(crate::proofs::Places::bytes_home))]

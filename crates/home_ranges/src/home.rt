@@ -33,7 +33,7 @@ fn node_offset(version: Version, i: u64) -> u64
     row.cluster_sectors * (i / row.cluster_nodes)
 }
 
-// Returns the first sector of the home of a number, from the range that has the number.
+// Returns the first sector of a number's home, from the range that contains the number.
 fn place_in(version: Version, geometry: Geometry, range: HomeRange, number: u64) -> u64
     requires low { range.first ≤ number }
     requires few { number ≤ 8192 }
@@ -50,7 +50,7 @@ fn place_in(version: Version, geometry: Geometry, range: HomeRange, number: u64)
 }
 
 impl<'a> Home<'a> {
-    /// Returns the homes that a superblock gives.
+    /// Returns the homes of a superblock's ranges.
     pub fn new(superblock: &'a Superblock) -> Home<'a>
         ensures { result ≡ superblock.now }
     {
@@ -96,7 +96,7 @@ impl<'a> Home<'a> {
         }
     }
 
-    /// Returns the first number that has the home of an object.
+    /// Returns the first number that shares the home of an object.
     pub fn first(&self, number: u64) -> u64
         requires object { IsObject self.now.geometry number }
         ensures first { IsFirstOf self.now number result }
@@ -109,7 +109,7 @@ impl<'a> Home<'a> {
         }
     }
 
-    /// Returns how many numbers from this one on share its home: 1 to 5 for nodes of one cluster, else 1.
+    /// Returns how many numbers, from this one on, share its home: 1 to 5 for nodes of one cluster, else 1.
     #[tactic(auto, using(crate::proofs::Places::block_shared))]
     pub fn sharers(&self, number: u64) -> u64
         requires object { IsObject self.now.geometry number }

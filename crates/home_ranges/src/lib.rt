@@ -1,5 +1,5 @@
-//! The frames of objects at home: where each lies, reading and writing it over a device, and where the home ranges of
-//! a new image lie.
+//! The frames of objects at home: where each lies, how it is read and written, and where the home ranges of a
+//! new image lie.
 #![tactic(auto)]
 
 mod frames;

@@ -1,4 +1,4 @@
-// The places of the parts of an image.
+// Where the parts of an image lie.
 ghost use Rattle.std.specs.Prelude.{◌≡◌, ◌≤◌, length, map, IsTrue, IfSome, IfNone, ◌↔◌};
 ghost use Rattle.std.specs.List.{All};
 ghost use Rattle.layout.specs.Superblock.{IsPlan};
@@ -25,7 +25,7 @@ const UNUSED: HomeRange = HomeRange {
     sector: 0,
 };
 
-// Lays ranges one after the other from sector 5 on, and returns the sector after the last.
+// Lays out ranges one after the other from sector 5 on, and returns the sector after the last.
 #[tactic(auto, using(crate::proofs::Laying::all_laid, crate::proofs::Laying::end_laid))]
 fn lay_ranges(
     version: Version,

@@ -1,4 +1,4 @@
--- An image denotes its state once the gate is open.
+-- A fresh image denotes its saved state once its gate is open.
 use Rattle.image_writer.proofs.Names.{inl, inr, ℕ, Bool, true, false, List, [], length, Some, Result, refl, ap, arith, OnOk, Frame, Geometry, frame_at}
 use Rattle.image_writer.proofs.Names.{AreKeepable, object_count, Disk, Image, LeavesOnly, leaves_on, leaves_weaker, Agrees, Elsewhere, agrees_is, Entry}
 use Rattle.image_writer.proofs.Names.{CheckpointHeader, IsDirectory, directory_bytes, frame_bytes, is_open, IsHeader, header_bytes, Encodes, HasNoHeader}
@@ -10,15 +10,15 @@ use Rattle.std.proofs.Common.{◌≡◌, ◌⊎◌, ◌^◌, ◌<◌, ◌≤◌,
 use Rattle.std.specs.Prelude.{◌==◌, ◌&&◌}
 use Rattle.image_writer.proofs.SlotFrames.{slot_behind}
 
--- of two headers the first is committed, if it counts and the other doesn't
+-- if the first header counts, and the second doesn't, the first is committed
 first_alone : (first second : Bool) (m n : ℕ) → first ≡ true → second ≡ false → committed_of first m second n ≡ Some 0
 first_alone first second m n is isnt = rw (is, isnt) refl
 
--- the superblock's image has at least five sectors
+-- an image of a valid superblock has at least five sectors
 pub five : (p : Plan) → IsPlan p → 5 ≤ p.total
 five p fits = let within = half_within p 0 fits in omega (arith, within.0, within.1)
 
--- a change of the gate leaves what lies after the headers
+-- a change of the first gate keeps all sectors from 5 on
 behind : (at n : ℕ) (old new : Image) → 5 ≤ at → Elsewhere 2 1 old new → sectors_from new at n ≡ sectors_from old at n
 behind at n old new low change = same_sectors at n old new (λ i lt. change.after (at + i) (omega (arith, low)))
 
@@ -48,9 +48,9 @@ module _ (p : Plan) (h : CheckpointHeader) (es : List Entry) (frames : List Fram
       AreKeepable p.geometry h.age frames → Encodes new size (state_of p h es frames)
   denotes size header directory count whole keepable = search (arith, five, committed, directory_stays, frame_stays)
 
--- ---- while the gate is opened
+-- ---- while the gate is being opened
 
--- a gate that is torn is open over all of the image, or closed
+-- a torn gate is open, and then the whole image is there; or it is closed
 module _ (p : Plan) (h : CheckpointHeader) (es : List Entry) (frames : List Frame) (old c : Image) (is : IsWritten p h es frames old)
     (first : h.sequence ≡ 0)
     (change : Elsewhere 2 1 old c) (size : ℕ) (header : IsHeader p.geometry.log h)
@@ -72,12 +72,12 @@ module _ (p : Plan) (h : CheckpointHeader) (es : List Entry) (frames : List Fram
   opening : HasNoHeader c ⊎ Holds size c (kept_of (state_of p h es frames))
   opening = opening_by (is_open (c 2)) refl
 
--- until the gate is opened
+-- before the gate is opened, a crash leaves the old image or no committed header
 pub not_yet : {old mid : Disk} (saved : SavedFrames) → LeavesOnly old mid (λ c. IsBeforeOrNone old c) →
     LeavesOnly old mid (λ c. IsLeftWriting old saved c)
 not_yet {old} {mid} saved run = search (arith, leaves_weaker)
 
--- a run that opens the gate
+-- while the gate is being opened, a crash leaves the new image or no committed header
 pub opening_run : (p : Plan) (h : CheckpointHeader) (es : List Entry) (frames : List Frame) {old mid new : Disk} →
     IsWritten p h es frames mid.seen → h.sequence ≡ 0 → IsHeader p.geometry.log h → IsDirectory p.geometry es → length es ≡ h.entries
     → p.total ≤ old.sectors → AreKeepable p.geometry h.age frames
@@ -94,7 +94,7 @@ opening_run p h es frames {old} {mid} {new} is first_header header directory cou
 pub no_directory : (g : Geometry) → IsDirectory g []
 no_directory g = search arith
 
--- the new header is within the limits
+-- the first header is within the limits
 pub header_fits : (room age : ℕ) → age ≤ 2 ^ 62 → IsHeader room (first_header age)
 header_fits room age most = record {
   entries = omega arith;
@@ -104,14 +104,14 @@ header_fits room age most = record {
   entries_fit = omega arith;
 }
 
--- ---- what is so where a call succeeds
+-- ---- what holds if a call succeeds
 
--- once all is durable, a crash leaves what a read returns
+-- if a read gives an image with P, and each crash leaves what a read gives, each crash leaves an image with P
 pub durable_is : {T E : Type 0} (result : Result T E) (left P : Image → Type 0) (seen : Image) → OnOk result (P seen) →
     OnOk result ((c : Image) → left c → Agrees c seen) → OnOk result ((c : Image) → left c → P c)
 durable_is {T} {E} result left P seen is only = search (arith, agrees_is)
 
--- once it is durable, the image is complete
+-- after a sync, all parts of the image are written
 pub all_written : (p : Plan) (h : CheckpointHeader) (es : List Entry) (frames : List Frame) (front behind now : Image) → IsPlan p →
     HasOpeningSectors p h front → Elsewhere 5 (p.total - 5) front behind
     → directory_in behind p h.generation (length es) ≡ directory_bytes es →
@@ -131,7 +131,7 @@ all_written p h es frames front behind now fits has change directory placed zero
       zeros = subst (EndInZeros p h.generation es) (sym e) zeros;
     }
 
--- the gate lies before all clusters
+-- opening the gate keeps the zeros of all clusters
 pub still_zeros : (p : Plan) (generation : ℕ) (es : List Entry) (old new : Image) → IsPlan p → Elsewhere 2 1 old new →
     EndInZeros p generation es old → EndInZeros p generation es new
 still_zeros p generation es old new fits change zeros = record {
@@ -146,7 +146,7 @@ still_zeros p generation es old new fits change zeros = record {
 
 -- ---- sectors of the image
 
--- a change of some sectors of an image is a change within the image
+-- a change of sectors within the total is a change within the image
 pub widened : (total at n : ℕ) (old new : Image) → at + n ≤ total → Elsewhere at n old new → Elsewhere 0 total old new
 widened total at n old new inside change = record {
   before = λ i lt. absurd (omega (arith, lt));

@@ -1,4 +1,4 @@
--- Homes are written one after the other.
+-- Homes are written one after another.
 use Rattle.image_writer.proofs.Names.{ℕ, List, length, arith, cases_eq, cases_lt, get_or_read, Cap, Frame, ObjectHeader, Content, frame_at, frames_in}
 use Rattle.image_writer.proofs.Names.{header_at, object_count, Image, Elsewhere, frame_bytes, home_place, place_length, bytes_at, Plan, IsPlan, same_shaped}
 use Rattle.image_writer.proofs.Names.{IsObject, IsFirstOf, one_length, places_within, places_apart, LieAt, slice_index_or, EndAtHome, EndsInZeros, HasZeros}
@@ -6,18 +6,18 @@ use Rattle.image_writer.proofs.Names.{sectors_from, same_sectors, inl, inr, ap, 
 use Rattle.std.proofs.Common.{◌≡◌, ◌+◌, ◌-◌, ◌<◌, ◌∙◌}
 use Rattle.capability.proofs.FrameLists.{frame_in}
 
--- all objects that share the home of a number below n have their frames at home
+-- each object that shares a home with a number below n has its frame at home
 abbrev pub AreHomeTo : Plan → List Frame → ℕ → Image → Type 0
 AreHomeTo p frames n image = (a b : ℕ) → IsObject p.geometry a → b < n → home_place p a ≡ home_place p b →
     bytes_at image (home_place p a) p a ≡ frame_bytes p.geometry a (frame_at frames a)
 
 module _ (old mid new : Image) (p : Plan) (n : ℕ) (fits : IsPlan p) (lt : n < object_count p.geometry)
     (change : Elsewhere (home_place p n) (place_length p n) mid new) where
-  -- a write of a home stays between the headers and the end
+  -- writing a home changes only sectors between the headers and the end
   pub stays_between : Elsewhere 5 (p.total - 5) old mid → Elsewhere 5 (p.total - 5) old new
   stays_between so_far = search (arith, places_within)
 
-  -- all other homes stay
+  -- writing a home changes no other home
   other_stays : (a : ℕ) → IsObject p.geometry a → (home_place p a ≡ home_place p n → ⊥) →
       bytes_at new (home_place p a) p a ≡ bytes_at mid (home_place p a) p a
   other_stays a is differ = search (arith, same_shaped, places_apart)
@@ -28,11 +28,11 @@ module _ (old mid new : Image) (p : Plan) (n : ℕ) (fits : IsPlan p) (lt : n < 
       → AreHomeTo p frames (n + 1) new
   more frames so_far here a b is below same = search (arith, cases_eq, cases_lt, other_stays)
 
-  -- so one more home is complete
+  -- writing the home of n completes the homes of the first n + 1 numbers
   pub one_more : (frames : List Frame) → AreHomeTo p frames n mid → LieAt p frames n (home_place p n) new → AreHomeTo p frames (n + 1) new
   one_more frames so_far here = more frames so_far here.frame
 
-  -- one more home ends in zeros
+  -- after the home of n is written, the homes of the first n + 1 numbers end in zeros
   pub one_more_ends : (frames : List Frame) → IsFirstOf p n n → EndAtHome p n mid → LieAt p frames n (home_place p n) new →
       EndAtHome p (n + 1) new
   one_more_ends frames first so_far here a below = elim (cases_lt a n) [
@@ -50,7 +50,7 @@ module _ (old mid new : Image) (p : Plan) (n : ℕ) (fits : IsPlan p) (lt : n < 
         subst (λ (m : ℕ). HasZeros p m (home_place p m) new) same here.zeros
   ]
 
--- the home of an object that shares it with a lesser number is complete already
+-- if n shares its home with a lesser number, its home is complete already
 pub is_there : (p : Plan) (frames : List Frame) (n first : ℕ) (image : Image) → first < n → home_place p first ≡ home_place p n →
     AreHomeTo p frames n image → AreHomeTo p frames (n + 1) image
 is_there p frames n first image low home so_far a b is below same = elim (cases_lt b n) [
@@ -60,7 +60,7 @@ is_there p frames n first image low home so_far a b is below same = elim (cases_
       so_far a first is low (same ∙ ap (home_place p) at ∙ sym home)
 ]
 
--- and ends in zeros already
+-- if n shares its home with a lesser number, its home ends in zeros already
 pub still_ends : (p : Plan) (n first : ℕ) (image : Image) → IsPlan p → n < object_count p.geometry → first < n →
     home_place p first ≡ home_place p n → EndAtHome p n image → EndAtHome p (n + 1) image
 still_ends p n first image fits lt low home so_far a below = elim (cases_lt a n) [
@@ -76,7 +76,7 @@ still_ends p n first image fits lt low home so_far a below = elim (cases_lt a n)
       subst (λ (m : ℕ). HasZeros p m (home_place p m) image) same there
 ]
 
--- the frame of a number has its header and its content
+-- the frame of a number is its header and its content
 pub frame_there : (hs : List ObjectHeader) (cs : List (Content Cap)) (n : ℕ) (c : Content Cap) → n < length hs → length cs ≡ length hs →
     c ≡ slice_index_or cs n c
     → record { header = header_at hs n; content = c } ≡ frame_at (frames_in hs cs) n

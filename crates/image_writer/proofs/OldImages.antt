@@ -1,10 +1,10 @@
--- What an image holds while its gates are closed.
+-- Which saved frames an image holds while its gates are being closed.
 use Rattle.image_writer.proofs.Names.{nat_tests, ℕ, List, sym, arith, Image, Entry, directory_in, frame_in, sectors_from, Plan, IsPlan, same_sectors}
 use Rattle.image_writer.proofs.Names.{places_within, KeepsImage, half_behind, frames_behind, Holds, SavedFrames, KeptHoldsTheSame, NoneIsHeld}
 use Rattle.std.proofs.Common.{◌≡◌, ◌+◌, ◌<◌, ◌≤◌}
 
 module _ (old new : Image) (kept : KeepsImage old new) where
-  -- nothing changes after the headers
+  -- the sectors from 5 on are unchanged
   behind : (at n : ℕ) → 5 ≤ at → sectors_from new at n ≡ sectors_from old at n
   behind at n low = same_sectors at n old new (λ i lt. kept.elsewhere (at + i) (λ is. omega (arith, low, is))
       (λ is. omega (arith, low, is)))
@@ -19,7 +19,7 @@ module _ (old new : Image) (kept : KeepsImage old new) where
   holds : (size : ℕ) (saved : SavedFrames) → Holds size old saved → Holds size new saved
   holds size saved x2 = grind (arith, nat_tests, same_directory, same_frame)
 
--- the relation is symmetric
+-- `KeepsImage` is symmetric
 back : (old new : Image) → KeepsImage old new → KeepsImage new old
 back old new kept = record { elsewhere = λ i two four. sym (kept.elsewhere i two four); committed = sym kept.committed }
 

@@ -1,4 +1,4 @@
--- Slots of the log are written one after the other, after the homes.
+-- Log slots are written one after another, after the homes.
 use Rattle.image_writer.proofs.Names.{nat_tests, ℕ, Result, Option, Some, None, List, length, ⊎_elim, refl, sym, subst, ap, arith, OnOk, cases_lt, take, Frame}
 use Rattle.image_writer.proofs.Names.{frame_at, object_count, Image, Elsewhere, Entry, IsDirectory, entry_at, frame_bytes, home_place, place_length, shape_of}
 use Rattle.image_writer.proofs.Names.{bytes_at, directory_sector, frame_in, half_sector, frame_slot_in, sectors_from, slot_sector, shape_bytes, shape_end}
@@ -12,7 +12,7 @@ use Rattle.std.proofs.Common.{◌≡◌, ◌+◌, ◌-◌, ◌*◌, ◌<◌, ◌
 shape_inside : (p : Plan) (n : ℕ) → shape_end (shape_of p n) ≤ 512 * place_length p n
 shape_inside p n = grind (arith, nat_tests)
 
--- a filled block has the frames of all that have the home
+-- sectors that contain a filled block contain the frames of all objects that share the home
 pub block_at : (p : Plan) (frames : List Frame) (n at k : ℕ) (block : List ℕ) (image : Image) → IsPlan p → IsObject p.geometry n →
     k ≡ place_length p n → 512 * k ≤ length block → sectors_from image at k ≡ take (512 * k) block → AreFramesOf p frames n block →
     EndsInZeros p n block → LieAt p frames n at image
@@ -36,9 +36,9 @@ block_written {T} {E} result p frames n at k block image fits is size le held fi
 less_by : (a b : ℕ) → a ≤ b → (b ≡ a → ⊥) → a < b
 less_by a b most differ = search arith
 
--- ---- one slot after the other
+-- ---- one slot after another
 
--- the sectors of a slot that a frame takes
+-- no frame's block takes more than the 9 sectors of a slot
 slot_length : (p : Plan) (n : ℕ) → place_length p n ≤ 9
 slot_length p n = few_sectors p n
 
@@ -47,7 +47,7 @@ module _ (p : Plan) (generation : ℕ) (es : List Entry) (i : ℕ) (mid new : Im
   fits : (j : ℕ) → j < length es → (entry_at es j).slot < p.geometry.log
   fits j within = (is.each j (record { object = 0; slot = 0 }) within).slot
 
-  -- a write of a slot leaves the others
+  -- writing a slot changes no earlier one
   other_slot : (j a : ℕ) → j < i → bytes_at new (slot_sector p generation (entry_at es j).slot) p a ≡ bytes_at mid
       (slot_sector p generation (entry_at es j).slot) p a
   other_slot j a before = search (arith, same_shaped, slot_length, cases_lt)
@@ -83,16 +83,16 @@ module _ (p : Plan) (generation : ℕ) (es : List Entry) (i : ℕ) (mid new : Im
         subst (λ (k : ℕ). LieAt p frames (entry_at es k).object (slot_sector p generation (entry_at es k).slot) new) same here
   ]
 
-  -- all changes stay in the half
+  -- writing a slot changes only sectors of the half's slots
   pub stays_in_half : (old : Image) → Elsewhere (half_sector p generation) (9 * p.geometry.log) old mid →
       Elsewhere (half_sector p generation) (9 * p.geometry.log) old new
   stays_in_half old so_far = search (arith, fits, slot_length)
 
--- a slot lies after the headers
+-- each slot lies from sector 5 on
 pub slot_behind : (p : Plan) (generation slot : ℕ) → IsPlan p → 5 ≤ slot_sector p generation slot
 slot_behind p generation slot fits = let within = half_within p generation fits in omega (arith, within.0)
 
--- ---- the directory after them
+-- ---- the directory
 
 frame_stays : (p : Plan) (generation at long : ℕ) (es : List Entry) (mid new : Image) → IsDirectory p.geometry es →
     at ≡ directory_sector p generation → Elsewhere at long mid new → (j a : ℕ) → j < length es →
@@ -118,9 +118,9 @@ slots_stay p generation at long es frames mid new is place change so_far j lt = 
       (so_far j lt).zeros;
 }
 
--- ---- what an image has of a frame
+-- ---- where each frame is
 
--- each frame is in a slot or at home
+-- each frame is in the slot of its own or its cluster's first entry, or at home
 pub all_slotted : (p : Plan) (generation : ℕ) (es : List Entry) (frames : List Frame) (homes new : Image) → IsPlan p →
     Elsewhere (half_sector p generation) (half_extent p.version p.geometry 0).length homes new →
         AreHome p frames (object_count p.geometry) homes
@@ -139,7 +139,7 @@ all_slotted p generation es frames homes new fits change home slots a lt = by (f
       subst (λ (s : ℕ). bytes_at new (slot_sector p generation s) p a ≡ frame_bytes p.geometry a (frame_at frames a)) entry.slot_is
       ((slots entry.index entry.within).frame a lt (sym entry.home_is)))
 
--- each block has zeros after its frames
+-- each block with frames has zeros after them
 pub all_end : (p : Plan) (generation : ℕ) (es : List Entry) (frames : List Frame) (homes new : Image) → IsPlan p →
     Elsewhere (half_sector p generation) (half_extent p.version p.geometry 0).length homes new → EndAtHome p (object_count p.geometry) homes
     → AreInSlots p generation es frames (length es) new → EndInZeros p generation es new
@@ -154,14 +154,14 @@ all_end p generation es frames homes new fits change home slots = record {
   slots = λ j lt. (slots j lt).zeros;
 }
 
--- the slots lie in the half
+-- a change of the slots is a change within the half
 pub slots_in_half : (p : Plan) (generation : ℕ) {old new : Image} → Elsewhere (half_sector p generation) (9 * p.geometry.log) old new →
     Elsewhere (half_sector p generation) (half_extent p.version p.geometry 0).length old new
 slots_in_half p generation change =
     let has = half_has p.version p.geometry in
     record { before = λ i lt. change.before i lt; after = λ i le. change.after i (omega (arith, le, has)) }
 
--- and the directory lies there too
+-- a change of the slots and then of the directory is a change within the half
 pub log_in_half : (p : Plan) (generation n : ℕ) {old mid new : Image} → n ≤ p.geometry.log →
     Elsewhere (half_sector p generation) (9 * p.geometry.log) old mid →
     Elsewhere (half_sector p generation + 9 * p.geometry.log) (directory_length p.version n) mid new →
@@ -174,7 +174,7 @@ log_in_half p generation n few first second =
       after = λ i le. second.after i (omega (arith, le, has, fewer)) ∙ first.after i (omega (arith, le, has));
     }
 
--- the log lies between the headers and the end
+-- a change of the half is a change between the headers and the end
 pub log_between : (p : Plan) (generation : ℕ) (old mid new : Image) → IsPlan p → Elsewhere 5 (p.total - 5) old mid →
     Elsewhere (half_sector p generation) (half_extent p.version p.geometry 0).length mid new → Elsewhere 5 (p.total - 5) old new
 log_between p generation old mid new fits first second = search (arith, half_within, fits)

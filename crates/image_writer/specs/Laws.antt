@@ -1,10 +1,10 @@
--- While the gates of an image are being closed, it holds the same saved frames.
--- Once the last gate is closed, it holds none.
+-- While the gates of an image are being closed, it holds the same saved frames. After the last gate is closed, it
+-- holds none.
 use Rattle.image_writer.specs.Names.{ℕ, Image, HasNoHeader, KeepsImage, Holds, SavedFrames}
 use Rattle.std.specs.Prelude.{◌↔◌}
 
--- if only gates of an image change, and its committed header stays, it holds the same saved frames, or none as
--- before
+-- if only gates change, and the committed header stays the same, the image holds the saved frames that it held before,
+-- if any
 abbrev pub KeptHoldsTheSame : Type 0
 KeptHoldsTheSame = (size : ℕ) (old new : Image) (saved : SavedFrames) → KeepsImage old new →
     (Holds size old saved ↔ Holds size new saved)

@@ -1,4 +1,4 @@
--- What a fresh image saves, and its parts.
+-- The parts of a fresh image, and its saved state.
 use Rattle.image_writer.specs.Names.{ℕ, List, [], length, Frame, Geometry, frame_at, object_count, Disk, Image, Entry}
 use Rattle.image_writer.specs.Names.{CheckpointHeader, directory_bytes, entry_at, frame_bytes, header_bytes, home_place}
 use Rattle.image_writer.specs.Names.{HasNoHeader, SavedState, bytes_at, directory_in, frame_in, slot_sector, Plan}
@@ -6,11 +6,11 @@ use Rattle.image_writer.specs.Names.{IsPlan, superblock_bytes, AreClosed, KeepsI
 use Rattle.std.specs.Prelude.{◌≡◌, ◌⊎◌, ◌<◌}
 use Rattle.image_writer.specs.Homes.{HasZeros, LieAt}
 
--- a saved state with these parts
+-- the saved state with these parts
 abbrev pub state_of : Plan → CheckpointHeader → List Entry → List Frame → SavedState
 state_of p h es frames = record { plan = p; header = h; directory = es; frames = frames }
 
--- the header of a checkpoint of generation 0 whose objects are all home
+-- the header of generation 0 with sequence number 0, whose objects are all home
 abbrev pub first_header : ℕ → CheckpointHeader
 first_header age = record { sequence = 0; generation = 0; entries = 0; age = age }
 
@@ -27,12 +27,12 @@ pub record HasOpeningSectors (p : Plan) (h : CheckpointHeader) (image : Image) :
   pub superblock : image 0 ≡ superblock_bytes p
   pub header : image 1 ≡ header_bytes h
 
--- the frames of the first n numbers lie at home
+-- the frames of the numbers below n are at home
 abbrev pub AreHome : Plan → List Frame → ℕ → Image → Type 0
 AreHome p frames n image = (a : ℕ) → a < n → bytes_at image (home_place p a) p a ≡ frame_bytes p.geometry a
     (frame_at frames a)
 
--- the slots of the first n entries have the frames of all objects that share a home with the entry's object
+-- for each of the first n entries, the slot has the frames of all objects that share the home of the entry's object
 abbrev pub AreInSlots : Plan → ℕ → List Entry → List Frame → ℕ → Image → Type 0
 AreInSlots p generation es frames n image = (j : ℕ) → j < n →
     LieAt p frames (entry_at es j).object (slot_sector p generation (entry_at es j).slot) image
@@ -47,7 +47,7 @@ pub record EndInZeros (p : Plan) (generation : ℕ) (es : List Entry) (image : I
   pub slots : (j : ℕ) → j < length es →
       HasZeros p (entry_at es j).object (slot_sector p generation (entry_at es j).slot) image
 
--- all of an image, under closed gates: each frame lies where the directory says
+-- all parts of an image are written, with both gates closed; each frame is where the directory says
 pub record IsWritten (p : Plan) (h : CheckpointHeader) (es : List Entry) (frames : List Frame) (image : Image) : Type 0
   where
     pub plan : IsPlan p
@@ -58,20 +58,20 @@ pub record IsWritten (p : Plan) (h : CheckpointHeader) (es : List Entry) (frames
         (frame_at frames a)
     pub zeros : EndInZeros p h.generation es image
 
--- ---- what a crash leaves while an image is written
+-- ---- what a crash leaves while an image is being written
 
--- a crash leaves both gates closed
+-- each crash leaves both gates closed
 abbrev pub LeavesClosed : Disk → Type 0
 LeavesClosed disk = (c : Image) → disk.may_leave c → AreClosed c
 
--- c equals an image that a crash may leave, except perhaps in its gates, and has the same committed header
+-- c differs only in gates from an image that a crash now may leave, and has the same committed header
 abbrev pub WasBefore : Disk → Image → Type 0
 WasBefore disk c = (d : Image) × disk.may_leave d × KeepsImage d c
 
--- c is such an image, or has no committed header and so can't be opened
+-- c satisfies `WasBefore`, or no header is committed, so it can't be opened
 abbrev pub IsBeforeOrNone : Disk → Image → Type 0
 IsBeforeOrNone disk c = WasBefore disk c ⊎ HasNoHeader c
 
--- c is such an image, or has no committed header, or holds all of the fresh image
+-- c satisfies `WasBefore`, or no header is committed, or it holds the new saved frames
 abbrev pub IsLeftWriting : Disk → SavedFrames → Image → Type 0
 IsLeftWriting disk saved c = WasBefore disk c ⊎ HasNoHeader c ⊎ Holds disk.sectors c saved

@@ -1,4 +1,4 @@
-// Writing all frames that share a home, into any sectors.
+// Writes all frames that share a home, to any sectors.
 ghost use Rattle.std.specs.Prelude.{◌≡◌, ◌+◌, ◌≤◌, length, OnOk};
 ghost use Rattle.device.specs.Calls.{Counts};
 ghost use Rattle.layout.specs.Homes.{place_length};
@@ -50,8 +50,8 @@ fn fill_block(
     }
 }
 
-/// Writes the frames of all objects that share the home of `number` into the sectors from `at` on, in the form that
-/// they have at home, with zeros after them. Returns `Failed` exactly if the device failed.
+/// Writes the block of a home to the sectors from `at` on: the frames of all objects that share the home of
+/// `number`, and zeros after them. Returns `Failed` exactly if the device failed.
 pub(crate) fn write_shared<D: Device>(
     device: &mut D,
     home: &Home,

@@ -1,4 +1,4 @@
-// The homes of all objects.
+// Writes the homes of all objects.
 ghost use Rattle.std.specs.Prelude.{◌≡◌, ◌-◌, ◌≤◌, length, OnOk};
 ghost use Rattle.device.specs.Calls.{Counts, Elsewhere};
 ghost use Rattle.device.specs.Moments.{LeavesOnly};

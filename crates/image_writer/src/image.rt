@@ -1,4 +1,4 @@
-// Writing an image over the content of a device.
+// Writes an image over the content of a device.
 ghost use Rattle.std.specs.Prelude.{◌≡◌, ◌-◌, ◌^◌, ◌<◌, ◌≤◌, ℕ, [], length, OnOk};
 ghost use Rattle.device.specs.Disk.{Image};
 ghost use Rattle.device.specs.Calls.{Counts, Elsewhere, Only};
@@ -66,8 +66,8 @@ fn write_frames<D: Device>(
     write_log(device, &log, &home, generation, entries, headers, contents)
 }
 
-// Closes the gates of both headers, writes a new image except that its gate stays closed, and makes all this durable.
-// A crash at any moment leaves the old image, or none that opens.
+// Closes both gates, writes all of a new image except that its gate stays closed, and syncs. A crash at any
+// moment leaves the old image, or none that opens.
 fn write_parts<D: Device>(
     device: &mut D,
     superblock: &Superblock,
@@ -107,8 +107,8 @@ fn write_parts<D: Device>(
     device.sync()
 }
 
-/// Writes an image over the content of the device, and allocates nothing. Each frame has the header and the content
-/// of its object. The image holds:
+/// Writes an image over the content of the device. Doesn't allocate. Each frame has the header and the
+/// content of its object. The image holds:
 ///
 /// - one committed checkpoint with this header, whose sequence number is 0, and with this directory
 /// - at home, the frames of all objects
@@ -127,8 +127,9 @@ fn write_parts<D: Device>(
 /// then a crash leaves the old image, the new one, or none that opens. Sectors from the image's total
 /// on never change.
 ///
-/// The device must have at least as many sectors as the superblock says. Header and directory must fit
-/// it and one another, and an image of the header's age may hold each frame.
+/// The device must have at least as many sectors as the superblock says. The header must be within the limits
+/// of the superblock, the directory must be valid and as long as the header says, and an image of the
+/// header's age may hold each frame.
 #[tactic(auto, using(crate::proofs::FreshImages::denotes, crate::proofs::FreshImages::not_yet))]
 pub fn write_saved<D: Device>(
     device: &mut D,
@@ -157,8 +158,8 @@ pub fn write_saved<D: Device>(
         (D.disk device.old).seen (D.disk device.new).seen }
     ensures size { (D.disk device.new).sectors ≡ (D.disk device.old).sectors }
 
-    // A crash at any moment leaves no committed header, or the whole image, or what it could have left before the
-    // call. The last may differ in the gates, but has the same committed header.
+    // A crash at any moment leaves no committed header, or the whole image, or an image that it could have
+    // left before the call. The last may differ in the gates, but the same header is committed.
     ensures any_moment { LeavesOnly (D.disk device.old) (D.disk device.new)
         (λ c. IsLeftWriting (D.disk device.old) (kept_of
         (state_of superblock.now header entries.now (frames_in headers.now contents.now))) c) }
@@ -168,9 +169,9 @@ pub fn write_saved<D: Device>(
     open_gate(device)
 }
 
-/// Writes a new image over the content of the device, in the steps of `write_saved`, and allocates nothing. All
-/// frames are at home, each with the header and the content of its object. The committed checkpoint has this age,
-/// generation 0, sequence number 0 and no entries.
+/// Writes a new image over the content of the device, in the steps of `write_saved`. Doesn't allocate. All
+/// frames are at home, each with the header and the content of its object. The committed checkpoint has this
+/// age, generation 0, sequence number 0 and no entries.
 ///
 /// After `Ok` a read returns what was written, even after a crash.
 ///
@@ -206,8 +207,8 @@ pub fn write_image<D: Device>(
         (D.disk device.old).seen (D.disk device.new).seen }
     ensures size { (D.disk device.new).sectors ≡ (D.disk device.old).sectors }
 
-    // A crash at any moment leaves no committed header, or the new image, or what it could have left before the call.
-    // The last may differ in the gates, but has the same committed header.
+    // A crash at any moment leaves no committed header, or the new image, or an image that it could have left
+    // before the call. The last may differ in the gates, but the same header is committed.
     ensures any_moment { LeavesOnly (D.disk device.old) (D.disk device.new)
         (λ c. IsLeftWriting (D.disk device.old)
         (first_saved superblock.now.geometry age (frames_in headers.now contents.now)) c) }

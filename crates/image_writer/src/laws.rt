@@ -1,10 +1,10 @@
-//! Laws of what a crash during a write of an image leaves. Each is the contract of a function that does
+//! Laws of what a crash leaves while an image is being written. Each is the contract of a function that does
 //! nothing.
 
 ghost use Rattle.image_writer.specs.Laws.{KeptHoldsTheSame, NoneIsHeld};
 
-/// If only the gates of an image changed, and it still has the same committed header, it holds the same saved frames;
-/// if it held none, it holds none.
+/// If only the gates of an image changed, and the committed header is the same, the image holds the saved
+/// frames that it held before, if any.
 pub fn kept_holds_the_same()
     ensures { KeptHoldsTheSame }
 {}

@@ -1,4 +1,4 @@
-//! Writing an image to a device.
+//! Writes images to devices.
 #![tactic(auto)]
 
 mod blocks;

@@ -1,4 +1,4 @@
-// Writing the log of an image: the slots of its directory's entries, and the directory.
+// Writes the log of an image: the slots of its directory's entries, and the directory.
 ghost use Rattle.std.specs.Prelude.{◌≡◌, ◌-◌, ◌*◌, ◌<◌, ◌≤◌, length, OnOk};
 ghost use Rattle.device.specs.Calls.{Counts, Elsewhere};
 ghost use Rattle.device.specs.Moments.{LeavesOnly};

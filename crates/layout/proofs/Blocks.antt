@@ -1,4 +1,4 @@
--- Places in a block.
+-- Where frames lie in a block.
 use Rattle.layout.proofs.Names.{ℕ, List, length, take, drop, inl, inr, sym, ap, refl, arith, true, false, nat_lt, nat_tests, drop_at, take_at, length-append}
 use Rattle.layout.proofs.Names.{length-replicate, length-take-le, length-drop, take-append-drop, take-append-le, drop-append-le, between, between_is}
 use Rattle.layout.proofs.Names.{drop-put_mid, drop-drop, drop-take, take-take, take-put_mid_below, append-nil, take_all, take_rest, append_assoc}
@@ -24,7 +24,7 @@ no_bytes (b ∷ bs) e = absurd (omega (arith, e))
 
 -- ---- the end of a frame
 
--- the bytes of a frame end in zeros
+-- the bytes of a node's frame from 800 on are zeros
 node_last : (f : Frame) (bytes : List ℕ) → bytes ≡ node_frame_bytes f → length bytes ≡ 1024 → drop 800 bytes ≡ zeros 224
 unfolding node_frame_bytes
 node_last f bytes e size =
@@ -59,7 +59,7 @@ is_node n nodes lt = grind (arith, nat_tests)
 is_page : (n nodes : ℕ) → nodes ≤ n → nat_lt n nodes ≡ false
 is_page n nodes le = grind (arith, nat_tests)
 
--- the end that a block lacks
+-- the bytes of a frame that its block leaves out are zeros
 rest_of : (g : Geometry) (n : ℕ) (s : Shape) (f : Frame) (bytes : List ℕ) → IsShapeFor g n s → bytes ≡ frame_bytes g n f →
     length bytes ≡ 512 * frame_length g n → (s.bytes ≤ length bytes) × (drop s.bytes bytes ≡ zeros (length bytes - s.bytes))
     × (length bytes - s.bytes ≡ 1024 - s.bytes)
@@ -83,14 +83,14 @@ rest_of g n s f bytes fits e size = elim (cases_lt n g.nodes) [
       )
 ]
 
--- a frame is its bytes in a block, followed by zeros that the block leaves out
+-- a frame is its bytes in a block, followed by the zeros that the block leaves out
 trimmed : (g : Geometry) (n : ℕ) (s : Shape) (f : Frame) (bytes : List ℕ) → IsShapeFor g n s → bytes ≡ frame_bytes g n f →
     length bytes ≡ 512 * frame_length g n → take s.bytes bytes ++ zeros (1024 - s.bytes) ≡ bytes
 trimmed g n s f bytes fits e size =
     let rest = rest_of g n s f bytes fits e size in
     ap (λ (end : List ℕ). take s.bytes bytes ++ end) (ap zeros (sym rest.2) ∙ sym rest.1) ∙ take-append-drop s.bytes bytes
 
--- a block of 4608 bytes has room for each frame
+-- if a shape fits a number, a block of 4608 bytes can hold the number's frame from the shape's offset on
 pub has_room : (g : Geometry) (n : ℕ) (s : Shape) → IsShapeFor g n s → s.offset + 512 * frame_length g n ≤ 4608
 has_room g n s fits = elim (cases_lt n g.nodes) [
   | inl lt ↦
@@ -103,7 +103,7 @@ has_room g n s fits = elim (cases_lt n g.nodes) [
 
 -- ---- bytes are put into a block
 
--- the bytes after a place of n bytes
+-- the bytes from at + k on, after n bytes at `at` were replaced by ys
 behind_put : (at k n : ℕ) (xs ys : List ℕ) → at ≤ length xs → drop (at + k) (put_mid at n xs ys) ≡ drop k (ys ++ drop (at + n) xs)
 behind_put at k n xs ys low =
     ap (drop (at + k)) (mid_put at n xs ys ∙ append_assoc (take at xs) ys (drop (at + n) xs))
@@ -117,7 +117,7 @@ pub length-piece : (at k : ℕ) (xs : List ℕ) → at + k ≤ length xs → len
 length-piece at k xs le = ap length (piece at k xs) ∙ length-take-le k (drop at xs) (omega (arith, le, length-drop at xs))
 
 module _ (s : Shape) (xs ys : List ℕ) (n : ℕ) where
-  -- the bytes of a place after a frame was put there
+  -- the frame of shape s in a block after bytes were put at its offset: these bytes, and the zeros left out
   pub put_there : s.offset ≤ length xs → s.bytes ≤ length ys → shape_bytes s (put_mid s.offset n xs ys)
       ≡ take s.bytes ys ++ zeros (1024 - s.bytes)
   put_there low few =
@@ -127,7 +127,7 @@ module _ (s : Shape) (xs ys : List ℕ) (n : ℕ) where
       ap (take s.bytes) (ap (λ (m : ℕ). drop m (put_mid s.offset n xs ys)) (sym at) ∙ here)
       ∙ take-append-le s.bytes ys (drop (s.offset + n) xs) few)
 
-  -- other places stay
+  -- putting the bytes of shape s leaves the frame of a shape beside it unchanged
   pub others_stay : (t : Shape) → shape_end s ≤ length xs → n ≡ s.bytes → length ys ≡ n → AreBeside s t →
       shape_bytes t (put_mid s.offset n xs ys) ≡ shape_bytes t xs
   others_stay t le whole size (inl behind) =
@@ -138,7 +138,7 @@ module _ (s : Shape) (xs ys : List ℕ) (n : ℕ) where
       ap (drop t.offset) (take-put_mid_below s.offset n xs ys (shape_end t) before (omega (arith, le)))
       ∙ sym (between_is xs t.offset (shape_end t)))
 
--- the bytes of a place after it was copied from another block
+-- after a frame was copied from another block, it is the one of that block
 pub copied_there : (s : Shape) (from xs ys : List ℕ) (n : ℕ) → shape_end s ≤ length from → s.offset ≤ length xs →
     ys ≡ between s.offset (shape_end s) from → shape_bytes s (put_mid s.offset n xs ys) ≡ shape_bytes s from
 copied_there s from xs ys n le low is =
@@ -146,7 +146,7 @@ copied_there s from xs ys n le low is =
     put_there s xs ys n low (omega (arith, size)) ∙ ap (λ (b : List ℕ). b ++ zeros (1024 - s.bytes))
     (take_all s.bytes ys (omega (arith, size)) ∙ is)
 
--- a frame was put into its place
+-- facts about a block after frame f was put into it
 module _ (g : Geometry) (number : ℕ) (s : Shape) (f : Frame) (xs ys : List ℕ) (n : ℕ) (fits : IsShapeFor g number s)
     (is : ys ≡ frame_bytes g number f)
     (size : length ys ≡ 512 * frame_length g number) (whole : n ≡ length ys) (low : s.offset + n ≤ length xs) where
@@ -215,19 +215,19 @@ page_long f few =
     ) in
     whole
 
--- a page's frame is its block
+-- a page's frame is its whole block
 pub page_whole : (bytes : List ℕ) → length bytes ≡ 4608 → shape_bytes page_shape bytes ≡ bytes
 unfolding zeros
 page_whole bytes size = append-nil (take 4608 bytes) ∙ take_all 4608 bytes (omega (arith, size))
 
--- the front of a block contains the places that end in it
+-- if a frame ends within the first n bytes of a block, these bytes contain it
 pub front_shape : (s : Shape) (n : ℕ) (xs : List ℕ) → shape_end s ≤ n → shape_bytes s (take n xs) ≡ shape_bytes s xs
 front_shape s n xs le =
     ap (λ (b : List ℕ). b ++ zeros (1024 - s.bytes)) (between_is (take n xs) s.offset (shape_end s)
     ∙ ap (drop s.offset) (take-take (shape_end s) n xs le) ∙
     sym (between_is xs s.offset (shape_end s)))
 
--- the zeros at the end of the front of a block
+-- if a block has only zeros from `at` on, so have its first n bytes
 pub front_blank : (at n : ℕ) (xs : List ℕ) → n ≤ length xs → IsBlankFrom at xs → IsBlankFrom at (take n xs)
 front_blank at n xs le blank = elim (cases_lt at n) [
   | inl lt ↦
@@ -262,7 +262,7 @@ header_there image at s {block} {header} le least read is g number =
     ∙ sym (header_before front (zeros (1024 - s.bytes)) long)
     ∙ sym (header_is g number (shape_bytes s block)) ∙ ap (λ (b : List ℕ). (frame_from g number (shape_bytes s b)).header) (sym read)
 
--- a frame that was written is in the image
+-- if a block was written to the image, so was each frame in it
 pub frame_there : {T E : Type 0} (result : Result T E) (image : Image) (at n : ℕ) (s : Shape) (block : List ℕ) {bytes : List ℕ} →
     shape_end s ≤ n → OnOk result (sectors_from image at s.sectors ≡ take n block) → shape_bytes s block ≡ bytes →
     OnOk result (shaped_at image at s ≡ bytes)
@@ -273,7 +273,7 @@ pub zeros_there : {T E : Type 0} (result : Result T E) (image : Image) (at n : �
     OnOk result (HasZerosBeside s (sectors_from image at s.sectors))
 zeros_there {T} {E} result image at n s block written zeros = grind (arith, nat_tests)
 
--- the block of a page
+-- the frame of a page is its whole block
 pub block_page : (g : Geometry) (n : ℕ) (s : Shape) (block : List ℕ) → IsShapeFor g n s → g.nodes ≤ n → length block ≡ 512 * s.sectors →
     shape_bytes s block ≡ block
 block_page g n s block fits le size =

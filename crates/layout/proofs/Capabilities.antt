@@ -1,4 +1,4 @@
--- Capabilities read back from their bytes.
+-- Capabilities are read back from their bytes.
 use Rattle.layout.proofs.Names.{nat_tests, [], ℕ, List, length, get_or, take, drop, sym, ap, subst, append_assoc, arith, le_bytes_8, take_all, drop_all}
 use Rattle.layout.proofs.Names.{append-nil, Access, Cap, Capability, Geometry, tag_of, access_bits, IsAccess, Follows, IsKeptCap, number, short_number, key_of}
 use Rattle.layout.proofs.Names.{height_of, number_of, head_bytes, capability_bytes, head_number, HeadFits, assembled}
@@ -9,7 +9,7 @@ pub small_8 : (a b c d e f g h : ℕ) → a < 256 → b < 256 → c < 256 → d 
     → (i : ℕ) → get_or (a ∷ b ∷ c ∷ d ∷ e ∷ f ∷ g ∷ h ∷ []) i 0 < 256
 small_8 a b c d e f g h pa pb pc pd pe pf pg ph i = grind (arith, nat_tests)
 
--- a tag, an access, a key and a height in one number
+-- tag, access, key and height are the bytes of one number
 fields_number : (t a k h : ℕ) → t < 256 → a < 256 → k < 65536 → h < 256
     → (t ∷ a ∷ []) ++ short_number k ++ h ∷ 0 ∷ 0 ∷ 0 ∷ [] ≡ number (t + 256 * a + 65536 * k + 4294967296 * h)
 unfolding number short_number
@@ -22,13 +22,13 @@ head_is : (k : Capability) → HeadFits k → head_bytes k ≡ number (head_numb
 unfolding head_bytes
 head_is k fits = fields_number (tag_of k) (access_bits k) (key_of k) (height_of k) (tag_fits k) fits.access fits.key fits.height
 
--- a capability as three numbers
+-- the bytes of a capability are those of three numbers
 pub as_numbers : (c : Cap) → HeadFits c.what → capability_bytes c ≡ number (head_number c.what) ++
     (number (number_of c.what) ++ number c.count)
 unfolding capability_bytes
 as_numbers c fits = grind (arith, nat_tests, head_is, append_assoc)
 
--- three numbers are read
+-- if three numbers were read in turn, the bytes are theirs
 pub three_read : (bytes : List ℕ) (a b c : ℕ) → length bytes ≡ 24 → bytes ≡ number a ++ drop 8 bytes →
     drop 8 bytes ≡ number b ++ drop 16 bytes → drop 16 bytes ≡ number c ++ drop 24 bytes
     → bytes ≡ number a ++ (number b ++ number c)
@@ -42,16 +42,16 @@ pub record CapFits (c : Cap) : Type 0 where
   pub object : number_of c.what < 2 ^ 64
   pub count : c.count < 2 ^ 64
 
--- a capability with an encoding fits its bytes
+-- a capability that may be kept fits its bytes
 pub follows_fits : (g : Geometry) (age count : ℕ) (k : Capability) → Follows g age count k → CapFits (record { what = k; count = count })
 follows_fits g age count k f = grind (arith, nat_tests, access_fits)
 
--- a capability is rebuilt from its fields
+-- a capability is assembled again from its own fields
 assembled_again : (k : Capability) (tag bits key height n : ℕ) → tag ≡ tag_of k → bits ≡ access_bits k → key ≡ key_of k →
     height ≡ height_of k → n ≡ number_of k → assembled tag (record { 0 = bits }) key height n ≡ k
 assembled_again k tag bits key height n et eb ek eh en = grind (arith, nat_tests)
 
--- the fields of a head
+-- tag, access, key and height are computed from their number
 head_parts : (t a k h : ℕ) → t < 256 → a < 256 → k < 65536 → h < 256 →
     let n = t + 256 * a + 65536 * k + 4294967296 * h in (n % 256 ≡ t) × (n / 256 % 256 ≡ a) × (n / 65536 % 65536 ≡ k)
     × (n / 4294967296 % 256 ≡ h)
@@ -61,7 +61,7 @@ pub made_again : (k : Capability) (head bits n : ℕ) → HeadFits k → head �
     → assembled (head % 256) (record { 0 = bits }) (head / 65536 % 65536) (head / 4294967296 % 256) n ≡ k
 made_again k head bits n fits eh en eb = grind (arith, nat_tests, head_parts, tag_fits, assembled_again)
 
--- the numbers of a spelling
+-- these three numbers encode the capability
 pub record HasNumbers (c : Cap) (head object count : ℕ) : Type 0 where
   pub head_is : head ≡ head_number c.what
   pub object_is : object ≡ number_of c.what
@@ -82,13 +82,13 @@ spelt_numbers c head object count fits fh fo fc e =
 pub same_cap : (b c : Cap) → b.what ≡ c.what → b.count ≡ c.count → b ≡ c
 same_cap b c w n = ap (λ (k : Capability). record { what = k; count = b.count }) w ∙ ap (λ (m : ℕ). record { what = c.what; count = m }) n
 
--- three numbers are written
+-- if three numbers were written in turn, the bytes are theirs
 pub three_written : (new mid first old : List ℕ) (a b c : ℕ) → length new ≡ 24 → take 24 new ≡ take 16 mid ++ number c →
     take 16 mid ≡ take 8 first ++ number b → take 8 first ≡ take 0 old ++ number a
     → new ≡ number a ++ (number b ++ number c)
 three_written new mid first old a b c len ec eb ea = cc (take_all 24 new (omega arith), append_assoc (number a) (number b) (number c))
 
--- the numbers that were read from bytes which encode no capability
+-- bytes whose three numbers give no valid capability encode none
 pub none_spelt : (g : Geometry) (age : ℕ) (bytes : List ℕ) (head object count bits : ℕ) (what : Capability) → head < 2 ^ 64 →
     object < 2 ^ 64 → count < 2 ^ 64 → bytes ≡ number head ++ (number object ++ number count)
     → bits ≡ head / 256 % 256 → what ≡ assembled (head % 256) (record { 0 = bits }) (head / 65536 % 65536) (head / 4294967296 % 256) object

@@ -8,7 +8,7 @@ use Rattle.layout.proofs.Images.{state, same_plan, same_header, same_directory}
 use Rattle.layout.proofs.Superblocks.{magic, few_versions, second_of, eight_long, eight_ranges, length-ranges, mark_from, plan_stream}
 use Rattle.layout.proofs.Totals.{total_reported}
 
--- the bytes of a superblock have its mark
+-- the bytes of a superblock have its magic, its version, and zeros at the end
 marked : (p : Plan) → IsPlan p → HasMark (superblock_bytes p)
 unfolding number
 marked p is =

@@ -1,4 +1,4 @@
--- Directories read back from their bytes.
+-- Directories are read back from their bytes.
 use Rattle.layout.proofs.Names.{nat_tests, [], ℕ, Bool, true, false, List, length, get_or, set, take, drop, refl, sym, ap, append_assoc, inl, inr, arith}
 use Rattle.layout.proofs.Names.{replicate, cases_lt, false≢true, take_more, take_more_set, take_at, append-nil, length-append, get_or-replicate}
 use Rattle.layout.proofs.Names.{length-replicate, get_or_past, take-add, flat_map-append, All-same, All-push, All-nil, All-tail, All-head, Geometry, Entry}
@@ -82,9 +82,9 @@ entry_written es i e old mid new lt before first second is = grind (arith, nat_t
 abbrev pub RisingBelow : List Entry → ℕ → Type 0
 RisingBelow es i = (k : ℕ) → k + 1 < i → (entry_at es k).object < (entry_at es (k + 1)).object
 
--- ---- slots apart
+-- ---- slots that differ
 
--- `used` marks the slots of the first i entries, which are apart
+-- `used` marks exactly the slots of the first i entries, and these slots differ
 pub record IsUsed (es : List Entry) (used : List Bool) (i : ℕ) : Type 0 where
   pub size : length used ≡ 4096
   pub marks : (k : ℕ) → k < i → get_or used (entry_at es k).slot false ≡ true

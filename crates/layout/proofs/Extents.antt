@@ -1,4 +1,4 @@
--- Sectors that are apart, and ranges that cover all numbers.
+-- Sectors that don't overlap, and ranges that cover all numbers.
 use Rattle.layout.proofs.Names.{nat_tests, [], ℕ, zero, suc, List, length, get_or, set, take, drop, sym, ap, subst, inl, inr, arith, All, between, cases_lt}
 use Rattle.layout.proofs.Names.{get_or-drop, get_or_default, length-drop, length-set, take_rest, take_all, take_more_set, drop_more, Geometry, Extent}
 use Rattle.layout.proofs.Names.{HomeRange, extent_at, IsApart, AreApart, Cover, IsNext}
@@ -46,7 +46,7 @@ two_set into xs n a b len front =
 
 -- ---- ranges
 
--- the ranges before index i end at the number `next`, so all ranges cover the objects if the rest do so from there
+-- the ranges before index i end at number `next`: all ranges cover the objects exactly if the rest cover them from `next` on
 pub record CoveredTo (g : Geometry) (rs : List HomeRange) (i next : ℕ) : Type 0 where
   pub within : next ≤ g.nodes + g.pages
   pub goes_on : Cover g next (drop i rs) → Cover g 0 rs
@@ -55,7 +55,7 @@ pub record CoveredTo (g : Geometry) (rs : List HomeRange) (i next : ℕ) : Type 
 abbrev pub range_at : List HomeRange → ℕ → HomeRange
 range_at rs i = get_or rs i (record { first = 0; count = 0; sector = 0 })
 
--- ranges that cover the objects from n on: n is at most their number
+-- if ranges cover the objects from n on, n is at most the number of objects
 pub cover_within : (g : Geometry) (n : ℕ) (rs : List HomeRange) → Cover g n rs → n ≤ g.nodes + g.pages
 cover_within g n [] c = omega (arith, c)
 cover_within g n (r ∷ rs) c = let rest = cover_within g (n + r.count) rs c.1 in omega arith
@@ -64,7 +64,7 @@ pub not_covered : (g : Geometry) (rs : List HomeRange) (i next : ℕ) → i < le
     (IsNext g (range_at rs i) next → (range_at rs i).count ≤ g.nodes + g.pages - next → ⊥) → Cover g 0 rs → ⊥
 not_covered g rs i next lt was hold c = grind (arith, nat_tests, drop_more, cover_within)
 
--- no range begins after the last number, or counts more than all numbers
+-- no range begins after the last number, or has more numbers than there are objects
 pub ranges_within : (g : Geometry) (n : ℕ) (rs : List HomeRange) → Cover g n rs →
     All (λ r. (r.first ≤ g.nodes + g.pages) × (r.count ≤ g.nodes + g.pages)) rs
 ranges_within g n [] c k d lt = absurd (omega arith)

@@ -14,7 +14,7 @@ use Rattle.layout.proofs.Pages as page
 use Rattle.layout.proofs.Keepables.{node_of_frame, page_of_frame}
 use Rattle.layout.proofs.SlotLists.{slots_bytes-cons, length-capability}
 
--- reading a number that other bytes follow
+-- a number is read back from its bytes, whatever bytes follow
 pub reported : (n : ℕ) (rest bytes : List ℕ) → n < 2 ^ 64 → bytes ≡ number n ++ rest → number_from bytes ≡ n
 reported n rest bytes fits e = sym (number_reported bytes rest n fits e)
 
@@ -64,7 +64,7 @@ header_of r a c o = record { role = r; allocations = a; calls = c; owner = o }
 same_header : (r r' : Role) (a a' c c' o o' : ℕ) → r ≡ r' → a ≡ a' → c ≡ c' → o ≡ o' → header_of r a c o ≡ header_of r' a' c' o'
 same_header r r' a a' c c' o o' er ea ec eo = rw (er, ea, ec, eo) refl
 
--- the meaning of the front of a frame
+-- the first 32 bytes of a frame are read as this number and this header
 pub record FrontTells (first : ℕ) (h : ObjectHeader) (bytes : List ℕ) : Type 0 where
   pub first_is : number_from bytes ≡ first
   pub header_is : header_from bytes ≡ h
@@ -152,7 +152,7 @@ unfolding number_from
 number_front xs ys same = sym (little_from-take 0 8 8 xs (omega arith)) ∙ ap (λ (b : List ℕ). little_number 8 b) same
     ∙ little_from-take 0 8 8 ys (omega arith)
 
--- reading a number doesn't depend on the bytes after it
+-- a number that is read in xs doesn't depend on the bytes after xs
 number_before : (xs ys : List ℕ) (k : ℕ) → k + 8 ≤ length xs → number_from (drop k (xs ++ ys)) ≡ number_from (drop k xs)
 number_before xs ys k room =
     number_front (drop k (xs ++ ys)) (drop k xs)
@@ -175,7 +175,7 @@ header_held f = f.header
 header_by : (b : Bool) (bytes : List ℕ) → header_held (if b then node_from bytes else page_from bytes) ≡ header_from bytes
 header_by b bytes = grind (arith, nat_tests)
 
--- the header of a frame, of whatever number
+-- a frame's header is read from its first 32 bytes, whatever its object's number
 pub header_is : (g : Geometry) (object : ℕ) (bytes : List ℕ) → (frame_from g object bytes).header ≡ header_from bytes
 unfolding frame_from
 header_is g object bytes = header_by (nat_lt object g.nodes) bytes

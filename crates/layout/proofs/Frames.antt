@@ -1,4 +1,4 @@
--- Frames read back from their bytes.
+-- Frames are read back from their bytes.
 use Rattle.layout.proofs.Names.{nat_tests, [], ℕ, zero, suc, List, length, take, drop, refl, sym, ap, subst, append_assoc, arith, replicate, between}
 use Rattle.layout.proofs.Names.{replicate-append-replicate, drop-replicate, drop-drop, take_at, drop_at, take-append-drop, length-append, length-take-le}
 use Rattle.layout.proofs.Names.{length-map, Cap, Frame, ObjectHeader, Geometry, Content, Role, Root, State, void_held, IsCount, AreKeptSlots, role_of}
@@ -14,7 +14,7 @@ use Rattle.layout.proofs.SlotLists.{slots_bytes-nil, slots_bytes-cons, slots_byt
 four : (a b c d z : List ℕ) → (a ++ b ++ c ++ d) ++ z ≡ a ++ (b ++ (c ++ (d ++ z)))
 four a b c d z = simp append_assoc
 
--- the front of a frame as numbers
+-- the first 32 bytes of a frame are those of four numbers
 pub front_stream : (role : ℕ) (h : ObjectHeader) (rest : List ℕ) → front_numbers role h ++ rest
     ≡ stream (role ∷ h.allocations ∷ h.calls ∷ h.owner ∷ []) rest
 unfolding front_numbers
@@ -84,7 +84,7 @@ unfolding node_frame_bytes
 node_written f fronted new caps k before slots all is =
     grind (arith, nat_tests, rest_size, zeros_add, slots_bytes-append, voids_bytes, front_bytes_are, regroup)
 
--- slots that were put into a frame
+-- if slots were put after the front of a frame, and zeros after them, the rest is as before
 pub slots_put : (old mid new : List ℕ) (caps : List Cap) (k : ℕ) → length caps ≤ 32 → length old ≡ 1024 → k ≡ 24 * length caps →
     mid ≡ put_mid 32 k old (slots_bytes caps)
     → new ≡ take (32 + 24 * length caps) mid ++ zeros (1024 - (32 + 24 * length caps)) →
@@ -99,7 +99,7 @@ slots_put old mid new caps k few len size is put =
     front)
     ∙ ap (λ (m : ℕ). take 32 old ++ slots_bytes caps ++ zeros m) less
 
--- ---- its role and its slots decide a content
+-- ---- a content is determined by its role and its slots
 
 state_again : (s : State) → state_in (state_number s) ≡ s
 state_again s = grind (arith, nat_tests)
@@ -126,7 +126,7 @@ role_again r = grind (arith, nat_tests)
 
 -- ---- reading
 
--- the bytes of a frame, part by part
+-- the bytes of a node's frame: front, slots, zeros
 pub record HasParts (f : Frame) (bytes : List ℕ) : Type 0 where
   pub whole : bytes ≡ front_numbers (role_number f.header.role) f.header ++ (slots_bytes (slots_of f.content) ++ zeros 224)
   pub middle : between 32 800 bytes ≡ slots_bytes (slots_of f.content)
@@ -151,7 +151,7 @@ node_parts g age f bytes fits e =
       last = sym (drop-drop 768 32 bytes) ∙ ap (drop 768) behind ∙ drop_at slots (zeros 224) 768 size;
     }
 
--- the values that were read from the bytes of a frame
+-- these values were read from the bytes of frame f
 pub record IsReadOf (f : Frame) (role : ℕ) (h : ObjectHeader) (slots : List Cap) : Type 0 where
   pub role_is : role ≡ role_number (role_of f.content)
   pub header_is : h ≡ f.header
@@ -195,7 +195,7 @@ node_reported g age role h slots f bytes rest fits role_is are front middle is e
     (ap (λ (r : List ℕ). r ++ []) (sym middle ∙ parts.middle)) in
     record { role_is = reported.0; header_is = reported.1; slots_are = same.0 }
 
--- the body that is read is that of the frame
+-- the body that is read from a frame's bytes gives the frame's content
 pub body_reported : (f : Frame) (role : ℕ) (h : ObjectHeader) (slots : List Cap) (age : ℕ) → IsReadOf f role h slots →
     FollowsRole f.content → IsFront age f → IsBody role h.owner slots (content_of (body_in role slots) slots [])
 body_reported f role h slots age read follows front =
@@ -208,7 +208,7 @@ body_reported f role h slots age read follows front =
       unowned = grind (arith, nat_tests);
     })
 
--- the content of a body at a node's number doesn't depend on the words
+-- the content of a node's frame doesn't depend on the words
 same_content : (b : Body) (slots : List Cap) (words : List ℕ) → FollowsRole (content_of b slots []) →
     content_of b slots [] ≡ content_of b slots words
 same_content b slots words f = grind (arith, nat_tests)
@@ -217,7 +217,7 @@ pub any_words : (role owner : ℕ) (b : Body) (slots : List Cap) (words : List �
     IsBody role owner slots (content_of b slots words)
 any_words role owner b slots words is = subst (IsBody role owner slots) (same_content b slots words is.follows) is
 
--- the frame that is read
+-- if the front, slots and zeros that were read form a valid frame, the bytes encode it
 pub node_found : (g : Geometry) (age role : ℕ) (h : ObjectHeader) (slots : List Cap) (c : Content Cap) (bytes : List ℕ) →
     AllFit (front_list role h) → h.role ≡ role_in role
     → IsCount age h.allocations × IsCount age h.calls → AreKeptSlots g age slots → IsBody role h.owner slots c
@@ -245,7 +245,7 @@ front_zeros : (m n : ℕ) → m ≤ n → take m (zeros n) ≡ zeros m
 unfolding zeros
 front_zeros m n le = take-replicate m n 0 le
 
--- the frame of a free number is read
+-- if the bytes after the front are zeros and nobody owns the number, the bytes encode a free number
 pub free_node_found : (g : Geometry) (age : ℕ) (h : ObjectHeader) (bytes : List ℕ) → AllFit (front_list 0 h) → h.role ≡ role_in 0
     → IsCount age h.allocations × IsCount age h.calls → h.owner ≡ 0 → bytes ≡ front_numbers 0 h ++ drop 32 bytes → drop 32 bytes ≡ zeros 992
     → IsNodeFrame g age (record { header = h; content = content.Free }) × (bytes
@@ -257,7 +257,7 @@ free_node_found g age h bytes fits role_is counts unowned front blank =
     front (ap (take 768) blank ∙ front_zeros 768 992 (omega arith) ∙ sym all_void)
     (sym (drop-drop 768 32 bytes) ∙ ap (drop 768) blank ∙ drop_zeros 768 992)
 
--- bytes of a frame with the number of a node whose role's number is 0
+-- these bytes encode a free number below g.nodes
 pub record IsFreeSpelling (age : ℕ) (h : ObjectHeader) (bytes : List ℕ) : Type 0 where
   pub counts : IsCount age h.allocations × IsCount age h.calls
   pub unowned : h.owner ≡ 0

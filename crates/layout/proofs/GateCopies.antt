@@ -20,7 +20,7 @@ copies_most n (x ∷ xs) =
       | inr ne ↦ omega (arith, copies_later n x xs ne, copies_most n xs)
     ]
 
--- two numbers share the places
+-- two numbers that differ have together at most as many copies as the list has items
 pub copies_of_two : (m n : ℕ) (xs : List ℕ) → (m ≡ n → ⊥) → copies m xs + copies n xs ≤ length xs
 copies_of_two m n [] ne = omega arith
 copies_of_two m n (x ∷ xs) ne =
@@ -34,7 +34,7 @@ copies_of_two m n (x ∷ xs) ne =
           ]
     ]
 
--- a number that isn't at any place has no copy
+-- a number that isn't in a list has no copy
 pub copies_none : (n : ℕ) (xs : List ℕ) → ((k : ℕ) → k < length xs → get_or xs k 0 ≡ n → ⊥) → copies n xs ≡ 0
 copies_none n [] none = refl
 copies_none n (x ∷ xs) none =
@@ -48,7 +48,7 @@ pub copies_all : (n count : ℕ) → copies n (replicate count n) ≡ count
 copies_all n zero = refl
 copies_all n (suc count) = omega (arith, copies_here n n (replicate count n) refl, copies_all n count)
 
--- a list with few differences has almost as many copies
+-- lists with k differences have numbers of copies that differ by at most k
 pub copies_stay : (n : ℕ) (xs ys : List ℕ) → length xs ≡ length ys → copies n xs ≤ copies n ys + differences xs ys
 copies_stay n [] [] len = omega arith
 copies_stay n [] (y ∷ ys) len = absurd (omega (arith, len))
@@ -57,7 +57,7 @@ copies_stay n (x ∷ xs) (y ∷ ys) len =
     let rest = copies_stay n xs ys (omega (arith, len)) in
     grind (arith, nat_tests)
 
--- if no place holds a number with many copies, no number has many
+-- if no item occurs 33 times in a list, no number does
 pub no_majority : (xs : List ℕ) (i : ℕ) → length xs ≤ i → ((k : ℕ) → k < i → 0 < get_or xs k 0 → 33 ≤ copies (get_or xs k 0) xs → ⊥) →
     (n : ℕ) → 0 < n → 33 ≤ copies n xs → ⊥
 no_majority xs i past none n some most =

@@ -1,4 +1,4 @@
--- The halves of the log among the extents of a plan.
+-- The halves of the log, as extents of a plan.
 use Rattle.layout.proofs.Names.{[], ℕ, length, Bool, subst, inl, inr, arith, ⊎_elim, nat_tests, length-map, get_or-append_right, Extent, Half, First, Second}
 use Rattle.layout.proofs.Names.{half_of, Plan, IsPlan, IsWithin, IsApart, IsInside, extent_at, extents, half_extent, half_start, half_sector}
 use Rattle.layout.proofs.Names.{directory_length}
@@ -18,7 +18,7 @@ apart_turned d e apart = ⊎_elim (λ le. inr le) (λ le. inl le) apart
 pub within_inside : (total : ℕ) (d outer : Extent) → IsInside d outer → IsWithin total outer → IsWithin total d
 within_inside total d outer inside within = (omega (arith, inside.starts, within.0), omega (arith, inside.ends, within.1))
 
--- the extents are those of the ranges and of the two halves
+-- a plan has two extents more than ranges: those of the halves
 pub many : (p : Plan) → length (extents p) ≡ length p.ranges + 2
 many p = grind (arith, nat_tests, length-append, length-map)
 
@@ -56,7 +56,7 @@ same_parity a b same = even_same a b (same_test (a % 2 == 0) (b % 2 == 0) same)
 pub half_within : (p : Plan) (generation : ℕ) → IsPlan p → IsWithin p.total (half_extent p.version p.geometry (half_sector p generation))
 half_within p generation fits = within_by p (half_of generation) fits
 
--- behind the opening sectors; and its slots and its directory before the end
+-- each half begins at sector 5 or later; its slots and its directory end before the total
 pub half_lies : (p : Plan) (generation : ℕ) → IsPlan p → (5 ≤ half_sector p generation)
     × (half_sector p generation + 9 * p.geometry.log + directory_length p.version p.geometry.log ≤ p.total)
 half_lies p generation fits =
@@ -64,7 +64,7 @@ half_lies p generation fits =
     let has = half_has p.version p.geometry in
     (within.0, omega (arith, within.1, has))
 
--- the half of a generation is apart from that of the next one
+-- the halves of generations with different remainders mod 2 don't overlap
 pub half_apart : (p : Plan) (a b : ℕ) → IsPlan p → (a % 2 ≡ b % 2 → ⊥) →
     IsApart (half_extent p.version p.geometry (half_sector p a)) (half_extent p.version p.geometry (half_sector p b))
 half_apart p a b fits differ = apart_by p (half_of a) (half_of b) fits (λ same. differ (same_parity a b same))

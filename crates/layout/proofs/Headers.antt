@@ -1,4 +1,4 @@
--- Headers of checkpoints read back from their bytes.
+-- Headers of checkpoints are read back from their bytes.
 use Rattle.layout.proofs.Names.{nat_tests, [], ℕ, Bool, cond, List, drop, refl, sym, ap, append_assoc, arith, codes, CheckpointHeader, number, zeros}
 use Rattle.layout.proofs.Names.{header_bytes, IsHeader}
 use Rattle.std.proofs.Common.{◌≡◌, ◌^◌, ◌<◌, ◌≤◌, ◌∷◌, ◌++◌, ◌∙◌}
@@ -15,14 +15,14 @@ magic_is = refl
 pub six : (m a b c d z : List ℕ) → m ++ a ++ b ++ c ++ d ++ z ≡ m ++ (a ++ (b ++ (c ++ (d ++ z))))
 six m a b c d z = simp append_assoc
 
--- a header as numbers
+-- the bytes of a header are those of five numbers, then zeros
 pub header_stream : (h : CheckpointHeader) → header_bytes h ≡ stream (0x4441_4548_534f_5245 ∷ fields h) (zeros 472)
 unfolding header_bytes
 header_stream h =
     ap (λ (m : List ℕ). m ++ number h.sequence ++ number h.generation ++ number h.entries ++ number h.age ++ zeros 472) magic_is
     ∙ six (number 0x4441_4548_534f_5245) (number h.sequence) (number h.generation) (number h.entries) (number h.age) (zeros 472)
 
--- five numbers are read
+-- if five numbers were read in turn, the bytes are theirs
 pub five_read : (bytes : List ℕ) (m a b c d : ℕ) → bytes ≡ number m ++ drop 8 bytes → drop 8 bytes ≡ number a ++ drop 16 bytes →
     drop 16 bytes ≡ number b ++ drop 24 bytes
     → drop 24 bytes ≡ number c ++ drop 32 bytes → drop 32 bytes ≡ number d ++ drop 40 bytes →
@@ -47,7 +47,7 @@ header_fits room h is = (
   ),
 )
 
--- the conditions on the numbers in a header's bytes
+-- the first number is the magic, the next four are the fields of h, and the rest is zeros
 pub record HasFields (h : CheckpointHeader) (m : ℕ) (found : CheckpointHeader) (rest : List ℕ) : Type 0 where
   pub magic_is : m ≡ 0x4441_4548_534f_5245
   pub header_is : found ≡ h

@@ -35,7 +35,7 @@ pub same_directory : (image : Image) (p : Plan) (h : CheckpointHeader) (ds es : 
     HasDirectory image p h es → ds ≡ es
 same_directory image p h ds es hd he = grind (arith, nat_tests, one_directory, directory_fits)
 
--- two saved states that may differ only in their frames have the same frames
+-- an image has at most one list of frames for a superblock, header and directory
 same_frames : (image : Image) (p : Plan) (h : CheckpointHeader) (es : List Entry) (fs gs : List Frame)
     → length fs ≡ p.geometry.nodes + p.geometry.pages → length gs ≡ p.geometry.nodes + p.geometry.pages
     → ((o : ℕ) → o < p.geometry.nodes + p.geometry.pages → IsFrameOf p.geometry h.age o (frame_in image p h.generation es o)

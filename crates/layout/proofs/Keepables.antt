@@ -1,4 +1,4 @@
--- A frame that the reader of its kind accepts is one that can be kept.
+-- A frame that its reader accepts may be kept.
 use Rattle.layout.proofs.Names.{nat_tests, [], ℕ, Bool, List, length, refl, sym, ap, arith, map, replicate, IsTrue, All, lt-ltb, le-ltb, length-append}
 use Rattle.layout.proofs.Names.{length-map, length-replicate, All-from_recursion, All-cons, All-append, All-map, All-replicate, All-weaker, Cap, Frame}
 use Rattle.layout.proofs.Names.{Geometry, Content, Root, State, void_held, IsKeptCap, AreKeptSlots, AreKeptWords, MayBeKept, IsKept, IsKeepable, role_of}
@@ -41,7 +41,7 @@ root_slots_kept g age r words key annex space =
       each = All-append P (root_slots r) (replicate 24 void_held) front (voids_kept g age 24);
     }
 
--- the conditions on a root's fields that follow from its slots
+-- a root's fields may be kept if its slots may
 record RootIs (g : Geometry) (age : ℕ) (r : Root Cap) : Type 0 where
   pub words : AreKeptWords 4 r.words
   pub annex : r.annex < 2 ^ 64
@@ -113,7 +113,7 @@ keepable_node g age n f lt is = grind (arith, nat_tests, front_of, slots_kept, f
 pub keepable_page : (g : Geometry) (age n : ℕ) (f : Frame) → g.nodes ≤ n → IsKeepable g age n f → IsPageFrame age f
 keepable_page g age n f le is = record { front = front_of g age f is.kept; holds = holds_page g age n f.content le is.kind is.kept.content }
 
--- ---- their bytes
+-- ---- the bytes of frames
 
 node_bytes : (g : Geometry) (n : ℕ) (f : Frame) → n < g.nodes → frame_bytes g n f ≡ node_frame_bytes f
 node_bytes g n f lt = ap (λ (b : Bool). if b then node_frame_bytes f else page_frame_bytes f) (lt-ltb n g.nodes lt)

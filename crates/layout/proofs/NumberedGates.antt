@@ -25,7 +25,7 @@ numbers_read bytes into size read =
     get_or_default into k d 0 lt ∙ read k lt ∙ sym (number_there bytes k inside)
     ∙ sym (get_or_default (gate_numbers bytes) k d 0 (omega (arith, inside, length_numbers bytes))))
 
--- counting one more place
+-- the copies among the first i + 1 numbers: those among the first i, and one if the next is n
 one_more : (n : ℕ) (xs : List ℕ) (i : ℕ) → i < length xs → copies n (take (i + 1) xs) ≡ copies n (take i xs) + copies n (get_or xs i 0 ∷ [])
 one_more n xs i lt = ap (λ (ys : List ℕ). copies n ys) (take_more xs i 0 lt) ∙ copies_push n (get_or xs i 0) (take i xs)
 
@@ -97,7 +97,7 @@ closed_has_none n is =
 
 -- ---- bursts
 
--- a number as the sum of its eight bytes, weighted
+-- a number as the weighted sum of its eight bytes
 number_of : (row : List ℕ) (at : ℕ) → little_number 8 (drop at row)
     ≡ get_or row (at + 0) 0 + 256 * (get_or row (at + 1) 0 + 256 * (get_or row (at + 2) 0 + 256 * (get_or row (at + 3) 0
     + 256 * (get_or row (at + 4) 0 + 256 * (get_or row (at + 5) 0 + 256 * (get_or row (at + 6) 0 + 256 * get_or row (at + 7) 0))))))
@@ -139,7 +139,7 @@ same_number x y k same =
           ∙ sym (get_or_past (gate_numbers y) k 0 (omega (arith, length_numbers y, past)))
     ]
 
--- a burst touches two numbers at most
+-- a burst changes at most two of a gate's numbers
 two_differ : (i : ℕ) (x y : List ℕ) → IsRow x → IsRow y → DifferInBurst i x y → differences (gate_numbers x) (gate_numbers y) ≤ 2
 two_differ i x y rx ry burst =
     few_differ 2 (i / 64) (gate_numbers x) (gate_numbers y) (length_numbers x ∙ sym (length_numbers y))
@@ -148,7 +148,7 @@ two_differ i x y rx ry burst =
     (λ k ge. same_number x y k (λ j small. same_byte x y (8 * k + j) (are_bytes x rx.bytes) (are_bytes y ry.bytes) (λ b few.
     burst.after (8 * (8 * k + j) + b) (omega (arith, ge, small, few)))))
 
--- so a burst changes the copies of a number by at most two
+-- facts about two rows that differ in a burst: the copies of a number differ by at most two
 module _ (i : ℕ) (x y : List ℕ) (rx : IsRow x) (ry : IsRow y) (burst : DifferInBurst i x y) where
   sizes : length (gate_numbers x) ≡ length (gate_numbers y)
   sizes = length_numbers x ∙ sym (length_numbers y)

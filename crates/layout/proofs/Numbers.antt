@@ -23,7 +23,7 @@ IsBytes bytes = (i : ℕ) → get_or bytes i 0 < 256
 as_le : (xs : List ℕ) → little_number 8 xs ≡ from_le_bytes w64 xs
 as_le xs = omega arith
 
--- eight bytes are the encoding of the number that they encode
+-- the bytes of the number that eight bytes encode are these eight bytes
 pub number_back : (xs : List ℕ) → length xs ≡ 8 → IsBytes xs → number (little_number 8 xs) ≡ xs
 unfolding number
 number_back xs l small = le_bytes_8 xs (little_number 8 xs) l small (as_le xs)
@@ -38,7 +38,7 @@ IsBytes-front bytes at small room i =
 front_rest : (xs front rest : List ℕ) → front ≡ take 8 xs → drop 8 xs ≡ rest → xs ≡ front ++ rest
 front_rest xs front rest e r = sym (take-append-drop 8 xs) ∙ ap (λ (t : List ℕ). take 8 xs ++ t) r ∙ ap (λ (t : List ℕ). t ++ rest) (sym e)
 
--- the bytes from a place on begin with the encoding of the number read there
+-- if n was read at `at`, the bytes from there on are those of n, and more
 pub number_read : (bytes : List ℕ) (at n : ℕ) → at + 8 ≤ length bytes → IsBytes bytes → n ≡ little_number 8 (drop at bytes)
     → drop at bytes ≡ number n ++ drop (at + 8) bytes
 number_read bytes at n room small is =
@@ -52,7 +52,7 @@ pub number_splits : (m n : ℕ) (x y : List ℕ) → m < 2 ^ 64 → n < 2 ^ 64 �
 unfolding number
 number_splits m n x y fits fits' e = grind (arith, nat_tests, take_at, drop_at, from_le_bytes-to_le_bytes_8)
 
--- any is 0 exactly if the first i bytes are
+-- `any` is 0 exactly if the first i bytes are
 pub record IsSum (bytes : List ℕ) (i any : ℕ) : Type 0 where
   pub zero_bytes : any ≡ 0 → (k : ℕ) → k < i → get_or bytes k 0 ≡ 0
   pub zero_sum : ((k : ℕ) → k < i → get_or bytes k 0 ≡ 0) → any ≡ 0
@@ -70,7 +70,7 @@ pub zeros_sum : (bytes : List ℕ) (any : ℕ) → IsSum bytes (length bytes) an
 unfolding zeros
 zeros_sum bytes any s e = grind (arith, nat_tests, get_or-replicate)
 
--- the bytes after a number was written at a place
+-- after n was written at `at`, the bytes are the old ones before it, those of n, and the old ones after it
 pub written : (bytes buf : List ℕ) (at n : ℕ) → at + 8 ≤ length bytes → buf ≡ number n ++ drop 8 (between at (length bytes) bytes)
     → put_mid at (length bytes - at) bytes buf ≡ (take at bytes ++ number n) ++ drop (at + 8) bytes
 written bytes buf at n room is =
@@ -92,7 +92,7 @@ pub ends_zeros : (bytes : List ℕ) (i any : ℕ) → i ≡ length bytes → IsS
     IsTrue (nat_eq any 0) ↔ (bytes ≡ zeros (length bytes))
 ends_zeros bytes i any e s = grind (arith, nat_tests, sum_zeros, zeros_sum)
 
--- numbers one after the other, and what follows them
+-- the bytes of some numbers, one after the other, and then other bytes
 abbrev pub stream : List ℕ → List ℕ → List ℕ
 stream [] rest = rest
 stream (n ∷ ns) rest = number n ++ stream ns rest
@@ -112,7 +112,7 @@ stream_splits (m ∷ ms) (n ∷ ns) x y fits fits' len e =
     let others = stream_splits ms ns x y fits.1 fits'.1 (omega (arith, len)) first.1 in
     (ap (λ (k : ℕ). k ∷ ms) first.0 ∙ ap (λ (ks : List ℕ). n ∷ ks) others.0, others.1)
 
--- bytes that were written up to a place, over bytes that were filled before
+-- the bytes before `at` are `front`, and those from `at` on are as in `filled`
 pub record IsWritten (filled front now : List ℕ) (at : ℕ) : Type 0 where
   pub before : take at now ≡ front
   pub after : drop at now ≡ drop at filled
@@ -125,7 +125,7 @@ pub written_more : (filled front old new : List ℕ) (at n : ℕ) → IsWritten 
     IsWritten filled (front ++ number n) new (at + 8)
 written_more filled front old new at n was before after = grind (arith, nat_tests, drop-drop 8 at old, drop-drop 8 at filled)
 
--- after all is written, the rest is as it was filled
+-- if the bytes before `at` are written, the bytes are `front` followed by `filled` from `at` on
 pub written_all : (filled front now : List ℕ) (at : ℕ) → IsWritten filled front now at → now ≡ front ++ drop at filled
 written_all filled front now at was = grind (arith, nat_tests, take-append-drop)
 
@@ -137,7 +137,7 @@ pub all_blank : (bytes : List ℕ) (n : ℕ) → length bytes ≡ n → ((k d : 
 unfolding zeros
 all_blank bytes n len all = grind (arith, nat_tests, same_lists, length-replicate, get_or-replicate)
 
--- reading the number from bytes that begin with its encoding
+-- a number is read back from bytes that begin with its encoding
 pub number_reported : (bytes rest : List ℕ) (n : ℕ) → n < 2 ^ 64 → bytes ≡ number n ++ rest → n ≡ number_from bytes
 unfolding number number_from
 number_reported bytes rest n fits e = sym (ap (little_number 8) e ∙ little_number-reads_back 8 n rest fits)

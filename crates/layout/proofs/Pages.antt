@@ -1,4 +1,4 @@
--- Frames of pages read back from their bytes.
+-- Frames of pages are read back from their bytes.
 use Rattle.layout.proofs.Names.{nat_tests, [], ℕ, suc, List, length, take, drop, refl, sym, ap, subst, append_assoc, arith, IsTrue, All, flat_map}
 use Rattle.layout.proofs.Names.{length-replicate, drop-drop, take_at, drop_at, take_all, take-append-drop, append-nil, length-drop, drop-take}
 use Rattle.layout.proofs.Names.{drop_all, take-add, flat_map-append, All-replicate, Cap, Frame, ObjectHeader, Content, IsCount, AreKeptWords, role_of}
@@ -31,7 +31,7 @@ all_fit (w ∷ ws) all = (all 0 0 (omega arith), all_fit ws (λ k d lt. all (suc
 
 -- ---- reading words
 
--- the first i words that were read are those of the first bytes
+-- the first i words that were read are encoded by the first 8 i bytes
 words_taken : (bytes words : List ℕ) → IsBytes bytes → length bytes ≡ 4096 → length words ≡ 512 → IsRead little_number 8 bytes words
     → (i : ℕ) → i ≤ 512 → take (8 * i) bytes ≡ words_bytes (take i words)
 words_taken bytes words small size count read zero le = sym words_bytes-nil
@@ -51,7 +51,7 @@ word_fits : (bytes words : List ℕ) → IsBytes bytes → IsRead little_number 
     get_or words k d < 2 ^ 64
 word_fits bytes words small read k d lt = grind (arith, nat_tests, get_or-drop, get_or_default)
 
--- 512 words that were read of their bytes
+-- 512 words that were read may be kept, and the bytes are theirs
 pub words_read : (bytes words : List ℕ) → IsBytes bytes → length bytes ≡ 4096 → length words ≡ 512 → IsRead little_number 8 bytes words
     → AreKeptWords 512 words × (bytes ≡ words_bytes words)
 words_read bytes words small size count read = (
@@ -120,7 +120,7 @@ page_kind : (role owner : ℕ) (last : List ℕ) (c : Content Cap) → role ≡ 
     HoldsPage c → (IsTrue (is_free c) → owner ≡ 0) → (role ≡ 1) ⊎ ((role ≡ 0) × (owner ≡ 0) × (last ≡ zeros 4096))
 page_kind role owner last c r l h unowned = grind (arith, nat_tests, zero_words_bytes)
 
--- the bytes of a frame with the number of a page
+-- these bytes encode a frame with the number of a page
 pub record IsPageSpelling (age role : ℕ) (h : ObjectHeader) (bytes : List ℕ) : Type 0 where
   pub counts : IsCount age h.allocations × IsCount age h.calls
   pub gap : take 480 (drop 32 bytes) ≡ zeros 480
@@ -141,7 +141,7 @@ page_spelling age role h f bytes rest fits role_is front is e =
           (λ t. ap (λ (x : ObjectHeader). x.owner) same ∙ is.front.unowned t);
     }
 
--- the content with a role's number and 512 words
+-- c is the content with this role, owner and words
 record IsPageContent (role owner : ℕ) (words : List ℕ) (c : Content Cap) : Type 0 where
   pub role_is : role ≡ role_number (role_of c)
   pub words_are : words ≡ page_words c

@@ -1,10 +1,10 @@
--- The root, and what it detects.
+-- The root sums, and which changes they detect.
 use Rattle.layout.proofs.Names.{ℕ, List, [], zero, suc, ap, sym, refl, inl, inr, arith, add-mul, mul-add, mul_assoc, mul_comm, pow-suc, cases_lt, Sums}
 use Rattle.layout.proofs.Names.{same_sums, Unit, directory_sums, root_of, seals_total, units_total, weighed, OneOldSectorIsSeen, OneOldUnitIsSeen}
 use Rattle.layout.proofs.Names.{UnitsHaveNoOrder, unit_of}
 use Rattle.std.proofs.Common.{◌≡◌, ◌+◌, ◌-◌, ◌*◌, ◌/◌, ◌%◌, ◌^◌, ◌<◌, ◌≤◌, ◌∷◌, ◌++◌, ◌∙◌}
 
--- ---- one unit more or less
+-- ---- the sums with one unit more or less
 
 sum_more : (t x : ℕ) → (t % 2 ^ 64 + x) % 2 ^ 64 ≡ (x + t) % 2 ^ 64
 sum_more t x = omega arith
@@ -43,7 +43,7 @@ unit_less number seal root result us a b c is was =
     (sum_less result.b (w * seal.b) (units_total (λ s. s.b) us) b (ap (λ (s : Sums). s.b) same))
     (sum_less result.c (w * seal.c) (units_total (λ s. s.c) us) c (ap (λ (s : Sums). s.c) same))
 
--- ---- what 2^k divides
+-- ---- divisibility by 2^k
 
 product : (u d : ℕ) → (2 * u + 1) * d ≡ 2 * (u * d) + d
 product u d = add-mul (2 * u) 1 d ∙ ap (λ (x : ℕ). x + 1 * d) (mul_assoc 2 u d) ∙ omega arith
@@ -63,7 +63,7 @@ half_of u d q is =
     ap (λ (x : ℕ). (2 * u + 1) * x) even ∙ mul_left_comm (2 * u + 1) 2 e in
     (e, even, omega (arith, is, double))
 
--- an odd factor has no share in a power of 2
+-- if an odd number times d is a multiple of 2^k, d is a multiple of 2^k
 odd_factor : (k u d m : ℕ) → (2 * u + 1) * d ≡ 2 ^ k * m → (e : ℕ) × (d ≡ 2 ^ k * e)
 odd_factor zero u d m is = (d, omega arith)
 odd_factor (suc k) u d m is =
@@ -75,9 +75,9 @@ odd_factor (suc k) u d m is =
 none_between : (d e : ℕ) → 0 < d → d < 2 ^ 60 → d ≡ 2 ^ 64 * e → ⊥
 none_between d e some small is = omega (arith, some, small, is)
 
--- ---- one other seal
+-- ---- one unit with a different seal
 
--- equal sums differ by a multiple
+-- numbers that are equal modulo 2^64 after adding t differ by a multiple of 2^64
 multiple : (t x y : ℕ) → x ≤ y → (x + t) % 2 ^ 64 ≡ (y + t) % 2 ^ 64 → y ≡ x + 2 ^ 64 * ((y + t) / 2 ^ 64 - (x + t) / 2 ^ 64)
 multiple t x y le e = omega (arith, le, e)
 
@@ -102,7 +102,7 @@ same_part t u a b fa fb e =
           ]
     ]
 
--- the place of a unit doesn't matter
+-- the sums don't depend on where in the list a unit is
 total_moved : (part : Sums → ℕ) (before after : List Unit) (u : Unit) → units_total part (before ++ u ∷ after)
     ≡ units_total part (u ∷ before ++ after)
 total_moved part [] after u = refl

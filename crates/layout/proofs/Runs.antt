@@ -6,7 +6,7 @@ use Rattle.layout.proofs.Sectors.{whole_sectors}
 pub sectors_are_of : (n : ℕ) (bytes : List ℕ) → length bytes ≡ 512 * n → sectors_of bytes ≡ n
 sectors_are_of n bytes size = omega (arith, size)
 
--- the bytes of n sectors
+-- if each 512 bytes are a sector of the image, all bytes are those of the n sectors
 pub run_is : (image : Image) (at n : ℕ) (bytes : List ℕ) → length bytes ≡ 512 * n →
     ((i : ℕ) → i < length bytes / 512 → take 512 (drop (512 * i) bytes) ≡ image (at + i)) → sectors_from image at n ≡ bytes
 run_is image at n bytes size same = grind (

@@ -1,4 +1,4 @@
--- Each image has header slots.
+-- Each image has header slots: their numbers can be determined.
 use Rattle.std.proofs.Common.{◌≡◌, ℕ, ◌+◌, ◌-◌, ◌*◌, ◌<◌, ◌≤◌, ◌^◌, ◌⊎◌, ◌++◌, ◌∷◌, List, [], length, get_or, drop, map, zero, suc, ap, refl}
 use Rattle.std.proofs.Common.{subst, sym, ◌∙◌, inl, inr, arith}
 use Rattle.std.proofs.lemmas.Bool.{cases_eq, cases_lt}
@@ -62,7 +62,7 @@ behind n k rest =
     ap (λ (m : ℕ). drop m (number n ++ rest)) next ∙ sym (drop-drop (8 * k) 8 (number n ++ rest))
     ∙ ap (drop (8 * k)) (drop_at (number n) rest 8 (length-number n))
 
--- a number is read at its place
+-- the k-th number is read back from the bytes of numbers
 word_there : (ns rest : List ℕ) (k : ℕ) → AreWords ns → k < length ns → little_number 8 (drop (8 * k) (words_bytes ns ++ rest))
     ≡ get_or ns k 0
 unfolding words_bytes
@@ -91,7 +91,7 @@ sector_known ns bytes count fits e =
     ∙ ap (λ (l : List ℕ). little_number 8 (drop (8 * k) l)) whole ∙ word_there ns (blank ++ seal) k fits there
     ∙ sym (get_or_default ns k d 0 there))
 
--- the bytes of a header determine it
+-- a header is read back from its bytes
 pub header_known : (h : SealedHeader) (bytes : List ℕ) → AreWords (header_numbers h) → bytes ≡ sealed_header_bytes h →
     sealed_header_from (eleven bytes) ≡ h
 unfolding sealed_header_bytes
@@ -118,7 +118,7 @@ sound_or_not bytes =
 
 -- ---- gates
 
--- a number with a majority among the first i, or none
+-- either a number other than 0 has a majority among the first i, or none does
 majority_or_not : (xs : List ℕ) (i : ℕ) →
     ((n : ℕ) × (0 < n) × (33 ≤ copies n xs)) ⊎ ((k : ℕ) → k < i → 0 < get_or xs k 0 → 33 ≤ copies (get_or xs k 0) xs → ⊥)
 majority_or_not xs zero = inr (λ k lt some most. omega (arith, lt))

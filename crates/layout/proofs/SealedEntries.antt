@@ -22,7 +22,7 @@ numbers_fit (e ∷ es) fit =
     All-cons (λ (n : ℕ). n < 2 ^ 64) e.object (e.slot ∷ entry_numbers es) first.0
     (All-cons (λ (n : ℕ). n < 2 ^ 64) e.slot (entry_numbers es) first.1 (numbers_fit es (All-tail Fits e es fit)))
 
--- one more entry is written
+-- if i entries were written, and then the next, i + 1 are written
 pub entry_put : (es : List Entry) (i : ℕ) (e : Entry) (old : List ℕ) → i < length es → length old ≡ 2 * length es →
     take (2 * i) old ≡ entry_numbers (take i es) → e ≡ get_or es i e → take (2 * (i + 1))
     (set (set old (2 * i) e.object) (2 * i + 1) e.slot) ≡ entry_numbers (take (i + 1) es)
@@ -37,7 +37,7 @@ entry_put es i e old lt size before is =
     ∙ ap (λ (t : List ℕ). (t ++ e.object ∷ []) ++ e.slot ∷ []) before
     ∙ sym (numbers_push (take i es) e) ∙ ap entry_numbers (sym more)
 
--- one more entry is read
+-- if i entries were read, and then the next, i + 1 are read
 pub entry_taken : (ns : List ℕ) (into : List Entry) (i : ℕ) → i < length into → length ns ≡ 2 * length into →
     take (2 * i) ns ≡ entry_numbers (take i into) → take (2 * (i + 1)) ns ≡ entry_numbers
     (take (i + 1) (set into i (entry_of (get_or ns (2 * i) 0) (get_or ns (2 * i + 1) 0))))

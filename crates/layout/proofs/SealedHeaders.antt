@@ -7,14 +7,14 @@ use Rattle.std.specs.Prelude.{◌==◌, if◌then◌else◌}
 use Rattle.model.specs.declared.object.Role.TheVariants as role
 use Rattle.layout.proofs.SealedSectors.{listed, listing}
 
--- numbers with the magic are those of a header
+-- if eleven numbers begin with the magic, the header that they decode to has these numbers
 pub header_read : (ns : List ℕ) → length ns ≡ 11 → get_or ns 0 0 ≡ 0x4441_4548_534f_5245 → ns ≡ header_numbers (sealed_header_from ns)
 header_read ns len magic = listing 11 0 ns len ∙ ap (λ (m : ℕ). m ∷ listed 1 10 ns) magic
 
 pub header_magic : (h : SealedHeader) (ns : List ℕ) → ns ≡ header_numbers h → get_or ns 0 0 ≡ 0x4441_4548_534f_5245
 header_magic h ns e = ap (λ (xs : List ℕ). get_or xs 0 0) e
 
--- numbers that begin with the number of their role are those of a page's header
+-- if the first of seven numbers is that of the role in the page header that they decode to, the header has these numbers
 pub page_read : (ns : List ℕ) → length ns ≡ 7 → role_number (page_header_from ns).object.role ≡ get_or ns 0 0 →
     ns ≡ page_header_numbers (page_header_from ns)
 page_read ns len is = listing 7 0 ns len ∙ ap (λ (m : ℕ). m ∷ listed 1 6 ns) (sym is)
@@ -30,7 +30,7 @@ page_back age h is =
       words = h.words;
     }) (role_back h.object.role h.object.owner is.role)
 
--- so the header that was read is the one that the numbers encode
+-- a page header is read back from its numbers
 pub page_found : (age : ℕ) (h : PageHeader) (ns : List ℕ) → IsPageHeader age h → ns ≡ page_header_numbers h →
     (page_header_from ns ≡ h) × (role_number (page_header_from ns).object.role ≡ get_or ns 0 0)
 page_found age h ns is e =

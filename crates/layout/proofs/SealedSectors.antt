@@ -9,7 +9,7 @@ use Rattle.layout.proofs.Numbers.{length-zeros, IsBytes, AllFit, drop_filled, le
 
 -- ---- seals
 
--- a sealed row is the sealing of its body
+-- a sealed row is its body followed by the body's seal
 pub sealed_is : (row body : List ℕ) → IsSealed row → body_of row ≡ body → row ≡ with_seal body
 unfolding with_seal
 sealed_is row body is e =
@@ -20,7 +20,7 @@ pub length_sealed : (body : List ℕ) → length (with_seal body) ≡ length bod
 unfolding with_seal
 length_sealed body = omega (arith, length-append body (sums_bytes (sums_of body)), length_sums (sums_of body))
 
--- the body of a sealing is the row that was sealed
+-- a body followed by its seal has this body
 pub sealed_body : (row body : List ℕ) → row ≡ with_seal body → body_of row ≡ body
 unfolding with_seal
 sealed_body row body e =
@@ -58,7 +58,7 @@ unfolding words_bytes
 length_words [] = refl
 length_words (n ∷ ns) = omega (arith, length-append (number n) (words_bytes ns), length-number n, length_words ns)
 
--- the first i numbers that were read are those of the first bytes
+-- the first i numbers that were read are encoded by the first 8 i bytes
 words_taken : (bytes ns : List ℕ) → IsBytes bytes → length bytes ≡ 8 * length ns → IsRead little_number 8 bytes ns → (i : ℕ) →
     i ≤ length ns → take (8 * i) bytes ≡ words_bytes (take i ns)
 words_taken bytes ns small size read zero le = sym no_words
@@ -110,7 +110,7 @@ zeros_apart : (m n : ℕ) → zeros (m + n) ≡ zeros m ++ zeros n
 unfolding zeros
 zeros_apart m n = sym (replicate-append-replicate m n 0)
 
--- zeros over which numbers were written have the body of their sector
+-- numbers written over zeros form the body of their sector
 pub body_written : (ns row : List ℕ) → length ns ≤ 61 → row ≡ words_bytes ns ++ zeros (512 - 8 * length ns) → body_of row ≡ body_with ns
 body_written ns row few e =
     let end : 512 - 8 * length ns ≡ 488 - 8 * length ns + 24 = omega (arith, few) in
@@ -128,7 +128,7 @@ sector_written ns filled put row few blank written is same =
     let rest : drop (8 * length ns) filled ≡ zeros (512 - 8 * length ns) = drop_filled filled 512 (8 * length ns) blank in
     sealed_is row (body_with ns) is (same ∙ body_written ns put few (written ∙ ap (λ (z : List ℕ). words_bytes ns ++ z) rest))
 
--- a row with numbers, zeros after them and a seal
+-- a row with numbers, zeros and a seal is the sector of these numbers
 pub sector_found : (row ns : List ℕ) (n : ℕ) → length row ≡ 512 → length ns ≡ n → n ≤ 61 → take (8 * n) row ≡ words_bytes ns
     → take (488 - 8 * n) (drop (8 * n) row) ≡ zeros (length (take (488 - 8 * n) (drop (8 * n) row))) → IsSealed row → row ≡ sector_bytes ns
 unfolding sector_bytes
@@ -142,7 +142,7 @@ sector_found row ns n size count few front blank is =
     ∙ ap (λ (t : List ℕ). words_bytes ns ++ t) (blank ∙ ap zeros end) in
     sealed_is row (body_with ns) is body
 
--- the bytes of a sector, which is sealed and has zeros, determine its numbers
+-- the row is sealed, and has zeros between its n numbers and the seal
 pub record IsSectorOf (row found ns : List ℕ) (n : ℕ) : Type 0 where
   pub seal : IsSealed row
   pub blank : take (488 - 8 * n) (drop (8 * n) row) ≡ zeros (length (take (488 - 8 * n) (drop (8 * n) row)))
@@ -178,7 +178,7 @@ sector_front ns =
     ap (take (8 * length ns)) (append_assoc (words_bytes ns) (zeros (488 - 8 * length ns)) seal)
     ∙ take_at (words_bytes ns) (zeros (488 - 8 * length ns) ++ seal) (8 * length ns) (length_words ns)
 
--- given bytes are those of one list of numbers
+-- lists of numbers of one length with the same sector are equal
 pub one_sector : (ms ns : List ℕ) → length ms ≡ length ns → length ns ≤ 61 → AreWords ms → AreWords ns → sector_bytes ms ≡ sector_bytes ns →
     ms ≡ ns
 one_sector ms ns len few fm fn e =
@@ -192,7 +192,7 @@ sector_sealed row ns e = sealed_seal row (body_with ns) e
 
 -- ---- lists of known length
 
--- n numbers from a place on
+-- the n numbers from index `at` on
 abbrev pub listed : ℕ → ℕ → List ℕ → List ℕ
 listed at zero ns = []
 listed at (suc n) ns = get_or ns at 0 ∷ listed (suc at) n ns
@@ -202,7 +202,7 @@ listing zero at ns len = drop_all at ns (omega (arith, len))
 listing (suc n) at ns len =
     drop-cons ns at 0 (omega (arith, len)) ∙ ap (λ (t : List ℕ). get_or ns at 0 ∷ t) (listing n (suc at) ns (omega (arith, len)))
 
--- the seal that was read from a sector
+-- the sums read at the end of a sector are its seal
 pub seal_read : (row : List ℕ) (s : Sums) → length row ≡ 512 → drop 488 row ≡ sums_bytes s ++ drop (488 + 24) row →
     seal_of row ≡ sums_bytes s
 seal_read row s size read =

@@ -1,4 +1,4 @@
--- The slots of an image: they exist, and its sectors determine them.
+-- The header slots of an image exist, and its sectors determine them.
 use Rattle.std.proofs.Common.{◌≡◌, ℕ, ◌%◌, ◌⊎◌, ◌↔◌, List, Option, None, Some, ap, refl, subst, sym, ◌∙◌, inl, inr}
 use Rattle.std.proofs.Math.Path.{fun_ext}
 use Rattle.std.proofs.lemmas.Option.{same_Some}
@@ -12,9 +12,9 @@ use Rattle.layout.proofs.NumberedGates.{one_number as one_gate_number}
 use Rattle.layout.specs.sealed.Opening.{AreSlots, Commits, IsSound, gate_sector, header_sector}
 use Rattle.layout.proofs.SealedDeciding.{eleven, header_known, number_or_not, one_number, sound_or_not}
 
--- ---- what is decided is an option
+-- ---- numbers that are unique, if they exist
 
--- the only number with property P, if there is one
+-- `Some n` if n is the only number with property P; `None` if no number has it
 abbrev pub IsThe : (ℕ → Type 0) → Option ℕ → Type 0
 IsThe P it = (s : ℕ) → (it ≡ Some s) ↔ P s
 
@@ -55,7 +55,7 @@ are_slots image = record {
   bytes = λ k. refl;
 }
 
--- equal header sectors hold the same header
+-- equal header sectors contain the same header
 pub same_header : (c d : Image) (a b : Slots) (k : ℕ) → AreSlots c a → AreSlots d b → c (header_sector k) ≡ d (header_sector k) →
     (a k).header ≡ (b k).header
 same_header c d a b k ia ib e =
@@ -63,7 +63,7 @@ same_header c d a b k ia ib e =
     (λ s is. (ib.header k s).1 (subst (λ (bytes : List ℕ). IsSound bytes s) e ((ia.header k s).0 is)))
     (λ s is. (ia.header k s).1 (subst (λ (bytes : List ℕ). IsSound bytes s) (sym e) ((ib.header k s).0 is)))
 
--- equal gate sectors hold the same gate
+-- equal gate sectors contain the same gate
 pub same_gate : (c d : Image) (a b : Slots) (k : ℕ) → AreSlots c a → AreSlots d b → c (gate_sector k) ≡ d (gate_sector k) →
     (a k).gate ≡ (b k).gate
 same_gate c d a b k ia ib e =
@@ -91,7 +91,7 @@ same_slot c d a b k ia ib header gate =
 pub one_slots : (c : Image) (a b : Slots) → AreSlots c a → AreSlots c b → a ≡ b
 one_slots c a b ia ib = fun_ext (λ k. same_slot c c a b k ia ib refl refl)
 
--- ---- what is committed
+-- ---- which header is committed
 
 pub opens_in : (image : Image) (h : SealedHeader) → Commits image h → Opens (slots_in image) h.header.sequence (sealed_header_bytes h)
 opens_in image h is =

@@ -19,7 +19,7 @@ one_page_header age g h ig ih fg fh e =
     sym (page_back age g ig) ∙ ap page_header_from (one_sector (page_header_numbers g) (page_header_numbers h) refl (omega arith) fg fh e)
     ∙ page_back age h ih
 
--- entries are determined by their numbers
+-- lists of entries with the same numbers are equal
 one_list : (ds es : List Entry) → entry_numbers ds ≡ entry_numbers es → ds ≡ es
 one_list [] [] e = refl
 one_list [] (x ∷ es) e = absurd (omega (arith, ap length e))
@@ -36,7 +36,7 @@ one_directory_sector ds es len few fd fe e =
     one_list ds es (one_sector (entry_numbers ds) (entry_numbers es) lens (omega (arith, length_numbers es, few)) (numbers_fit ds fd)
     (numbers_fit es fe) e)
 
--- ranges are determined by their numbers
+-- lists of ranges with the same numbers are equal
 one_ranges : (qs rs : List HomeRange) → range_numbers qs ≡ range_numbers rs → qs ≡ rs
 one_ranges [] [] e = refl
 one_ranges [] (r ∷ rs) e = absurd (omega (arith, ap length e))

@@ -20,7 +20,7 @@ pub length_ranges : (rs : List HomeRange) → length (range_numbers rs) ≡ 3 * 
 length_ranges [] = refl
 length_ranges (r ∷ rs) = omega (arith, length_ranges rs)
 
--- one more range is written
+-- if i ranges were written, and then the next, i + 1 are written
 pub range_put : (rs : List HomeRange) (i : ℕ) (r : HomeRange) (old : List ℕ) → i < length rs → length old ≡ 3 * length rs
     → take (3 * i) old ≡ range_numbers (take i rs) → r ≡ get_or rs i r
     → take (3 * (i + 1)) (set (set (set old (3 * i) r.first) (3 * i + 1) r.count) (3 * i + 2) r.sector) ≡ range_numbers (take (i + 1) rs)
@@ -38,7 +38,7 @@ range_put rs i r old lt size before is =
     ∙ ap (λ (t : List ℕ). ((t ++ r.first ∷ []) ++ r.count ∷ []) ++ r.sector ∷ []) before
     ∙ sym (ranges_push (take i rs) r) ∙ ap range_numbers (sym more)
 
--- one more range is read
+-- if i ranges were read, and then the next, i + 1 are read
 pub range_taken : (ns : List ℕ) (into : List HomeRange) (i : ℕ) → i < length into → length ns ≡ 3 * length into →
     take (3 * i) ns ≡ range_numbers (take i into) → take (3 * (i + 1)) ns ≡ range_numbers
     (take (i + 1) (set into i (range_of (get_or ns (3 * i) 0) (get_or ns (3 * i + 1) 0) (get_or ns (3 * i + 2) 0))))
@@ -77,7 +77,7 @@ row_put row rs copied old put size front is =
     put_behind whole put 8 ∙ ap (λ (t : List ℕ). t ++ put) (take_at copied (drop 8 old) 8 eight) ∙ ap (λ (t : List ℕ). t ++ put) front
     ∙ ap (λ (t : List ℕ). front_numbers row ++ t) is
 
--- the first n numbers, and the others
+-- the numbers from an index on are the first n of them, and then the rest
 front_listed : (n at : ℕ) (ns : List ℕ) → at + n ≤ length ns → drop at ns ≡ listed at n ns ++ drop (at + n) ns
 front_listed zero at ns room = ap (λ (m : ℕ). drop m ns) (omega arith)
 front_listed (suc n) at ns room =
@@ -85,7 +85,7 @@ front_listed (suc n) at ns room =
     ∙ ap (λ (t : List ℕ). get_or ns at 0 ∷ t)
     (front_listed n (suc at) ns (omega (arith, room)) ∙ ap (λ (m : ℕ). listed (suc at) n ns ++ drop m ns) (omega arith))
 
--- numbers with the magic and the version are those of a superblock
+-- if 32 numbers have the magic and version 3, the row and the ranges that they decode to have these numbers
 pub row_read : (ns : List ℕ) (rs : List HomeRange) → length ns ≡ 32 → get_or ns 0 0 ≡ 0x5450_4b43_534f_5245 → get_or ns 1 0 % 2 ^ 32 ≡ 3
     → drop 8 ns ≡ range_numbers rs → ns ≡ superblock_numbers (row_from ns) rs
 row_read ns rs len magic version ranges =
@@ -106,7 +106,7 @@ row_version row rs ns e = let second : get_or ns 1 0 ≡ 3 + 2 ^ 32 * row.used =
 pub used_small : (n : ℕ) → n < 2 ^ 64 → n / 2 ^ 32 < 2 ^ 32
 used_small n small = omega (arith, small)
 
--- the row that the numbers of a row are
+-- a row is read back from its numbers
 pub row_back : (row : SuperblockRow) (rs : List HomeRange) → row_from (superblock_numbers row rs) ≡ row
 row_back row rs =
     let used : (3 + 2 ^ 32 * row.used) / 2 ^ 32 ≡ row.used = omega arith in

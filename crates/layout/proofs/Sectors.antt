@@ -7,7 +7,7 @@ no_bytes : (bytes : List ℕ) → length bytes ≡ 0 → [] ≡ bytes
 no_bytes [] e = refl
 no_bytes (b ∷ bs) e = absurd (omega (arith, e))
 
--- each piece of 512 bytes is a sector
+-- if each piece of 512 bytes is a sector, all bytes are those of the n sectors
 sectors_are : (image : Image) (at n : ℕ) (bytes : List ℕ) → length bytes ≡ 512 * n →
     ((i : ℕ) → i < n → take 512 (drop (512 * i) bytes) ≡ image (at + i)) → sectors_from image at n ≡ bytes
 unfolding sectors_from
@@ -28,7 +28,7 @@ pub whole_sectors : (image : Image) (at : ℕ) (bytes : List ℕ) → length byt
     sectors_from image at (length bytes / 512) ≡ bytes
 whole_sectors image at bytes whole same = sectors_are image at (length bytes / 512) bytes (omega arith) same
 
--- the bytes of one sector
+-- the bytes of one sector are the sector
 pub one_from : (image : Image) (at : ℕ) → sectors_from image at 1 ≡ image at
 unfolding sectors_from
 one_from image at = append-nil (image at)

@@ -31,7 +31,7 @@ pub length-slots : (cs : List Cap) → length (slots_bytes cs) ≡ 24 * length c
 length-slots [] = ap length slots_bytes-nil
 length-slots (c ∷ cs) = grind (arith, nat_tests, slots_bytes-cons, length-append, length-capability, length-slots cs)
 
--- one more capability was written
+-- if i capabilities were written, and then the next, i + 1 are written
 pub slot_written : (caps : List Cap) (into buf : List ℕ) (i k : ℕ) (d : Cap) → i < length caps → length into ≡ 24 * length caps → k ≡ 24
     → take (24 * i) into ≡ slots_bytes (take i caps) → buf ≡ capability_bytes (get_or caps i d)
     → take (24 * (i + 1)) (put_mid (24 * i) k into buf) ≡ slots_bytes (take (i + 1) caps)
@@ -41,7 +41,7 @@ slot_written caps into buf i k d lt len _ before is =
     ∙ ap (λ (r : List ℕ). r ++ buf) before ∙ ap (λ (r : List ℕ). slots_bytes (take i caps) ++ r) is
     ∙ sym (slots_bytes-push (take i caps) (get_or caps i d)) ∙ ap slots_bytes (sym (take_more caps i d lt))
 
--- the first i capabilities that were read are those of the first bytes
+-- the first i capabilities that were read may be kept, and are encoded by the first 24 i bytes
 pub record AreRead (g : Geometry) (age : ℕ) (bytes : List ℕ) (into : List Cap) (i : ℕ) : Type 0 where
   pub bytes_are : take (24 * i) bytes ≡ slots_bytes (take i into)
   pub each : All (IsKeptCap g age) (take i into)
@@ -70,7 +70,7 @@ none_read g age bytes into len = record { bytes_are = sym slots_bytes-nil; each 
 pub piece_is : (bytes : List ℕ) (at : ℕ) → between at (at + 24) bytes ≡ take 24 (drop at bytes)
 piece_is bytes at = let size : at + 24 - at ≡ 24 = omega arith in ap (λ (n : ℕ). take n (drop at bytes)) size
 
--- a piece of capabilities' bytes
+-- bytes 24 i to 24 i + 23 of a list of capabilities encode its i-th
 piece_of : (cs : List Cap) (i : ℕ) (d : Cap) → i < length cs → take 24 (drop (24 * i) (slots_bytes cs)) ≡ capability_bytes (get_or cs i d)
 piece_of cs i d lt =
     let c : Cap = get_or cs i d in

@@ -1,10 +1,10 @@
--- The slots that a directory gives.
+-- The slots that a directory assigns.
 use Rattle.layout.proofs.Names.{nat_tests, [], ℕ, zero, suc, Bool, Some, None, List, length, refl, sym, ap, subst, inl, inr, arith, cases_eq, eq-eqb, ne_eqb}
 use Rattle.layout.proofs.Names.{same_Some, Entry, entry_at, AreRising, slot_in}
 use Rattle.std.proofs.Common.{◌≡◌, ◌+◌, ◌<◌, ◌∷◌, ◌∙◌}
 use Rattle.std.specs.Prelude.{if◌then◌else◌}
 
--- the entry that gives an object its slot
+-- an entry of the directory assigns this slot to this object
 pub record HasSlot (es : List Entry) (object slot : ℕ) : Type 0 where
   pub index : ℕ
   pub within : index < length es
@@ -31,13 +31,13 @@ rising_behind e es rising i lt =
     let next : suc i + 1 ≡ suc (i + 1) = omega arith in
     subst (λ (k : ℕ). (entry_at (e ∷ es) (suc i)).object < (entry_at (e ∷ es) k).object) next (rising (suc i) (omega (arith, lt)))
 
--- the first object is the least
+-- in a directory the first object is less than all others
 rising_above : (es : List Entry) (e : Entry) (i : ℕ) → AreRising (e ∷ es) → i < length es → e.object < (entry_at es i).object
 rising_above es e zero rising lt = rising 0 (omega (arith, lt))
 rising_above es e (suc i) rising lt =
     grind (arith, nat_tests, rising_behind e es rising i (omega (arith, lt)), rising_above es e i rising (omega (arith, lt)))
 
--- each entry of a directory gives its object the slot in it
+-- a directory assigns to the object of each entry that entry's slot
 pub own_slot : (es : List Entry) (i : ℕ) → AreRising es → i < length es → slot_in es (entry_at es i).object ≡ Some (entry_at es i).slot
 own_slot [] i rising lt = absurd (omega (arith, lt))
 own_slot (e ∷ es) zero rising lt = slot_here e es e.object refl
@@ -55,11 +55,11 @@ rising_to (e ∷ es) (suc i) zero rising lt within = absurd (omega (arith, lt))
 rising_to (e ∷ es) (suc i) (suc j) rising lt within = rising_to es i j (rising_behind e es rising) (omega (arith, lt))
     (omega (arith, within))
 
--- two entries have two objects
+-- two entries of a directory have different objects
 pub two_objects : (es : List Entry) (i j : ℕ) → AreRising es → i < j → j < length es → (entry_at es i).object ≡ (entry_at es j).object → ⊥
 two_objects es i j rising lt within same = omega (arith, rising_to es i j rising lt within, same)
 
--- an object that no entry names has no slot
+-- an object without an entry has no slot
 pub no_slot : (es : List Entry) (n : ℕ) → ((i : ℕ) → i < length es → (entry_at es i).object ≡ n → ⊥) → slot_in es n ≡ None
 no_slot [] n none = refl
 no_slot (e ∷ es) n none = slot_behind e es n (none 0 (omega arith)) ∙ no_slot es n (λ i lt. none (suc i) (omega (arith, lt)))

@@ -16,13 +16,13 @@ unfolding frames_read
 read_at image p generation es n lt = get_or-map-range_with_len (frame_read image p generation es) 0 (count_of p) n n blank_frame lt
     (omega arith)
 
--- two images have the same frames if the bytes of these are the same
+-- two images have the same frames if the bytes of their frames are the same
 pub read_same : (new old : Image) (p : Plan) (a b : ℕ) (ds es : List Entry) →
     ((n : ℕ) → n < count_of p → frame_in new p a ds n ≡ frame_in old p b es n) → frames_read new p a ds ≡ frames_read old p b es
 unfolding frames_read
 read_same new old p a b ds es same = grind (arith, nat_tests, same_lists, length-map-range_with_len, get_or-map-range_with_len)
 
--- a frame that is encoded stays so if its bytes stay
+-- if bytes that encode a frame are unchanged, they still encode it
 pub spelt_same : (new old : Image) (p : Plan) (age a b : ℕ) (ds es : List Entry) (n : ℕ) → frame_in new p a ds n ≡ frame_in old p b es n →
     IsSpelt old p age b es n → IsSpelt new p age a ds n
 spelt_same new old p age a b ds es n same is = grind (arith, nat_tests)
@@ -33,7 +33,7 @@ pub spelt_read : (image : Image) (p : Plan) (age generation : ℕ) (es : List En
     → IsSpelt image p age generation es n × (frame_read image p generation es n ≡ f)
 spelt_read image p age generation es n f is = grind (arith, nat_tests, frame_again p.geometry age n (frame_in image p generation es n) f is)
 
--- a frame that is encoded at one age, and may be kept at another, is encoded at that age
+-- if the bytes of object n encode a frame at one age, and the frame may be kept at another, they encode it at that age too
 pub spelt_at : (image : Image) (p : Plan) (first second generation : ℕ) (es : List Entry) (n : ℕ) → IsSpelt image p first generation es n →
     IsKeepable p.geometry second n (frame_read image p generation es n)
     → IsSpelt image p second generation es n

@@ -1,4 +1,4 @@
--- Superblocks read back from their bytes.
+-- Superblocks are read back from their bytes.
 use Rattle.layout.proofs.Names.{extents, nat_tests, [], ℕ, zero, suc, List, length, get_or, set, take, drop, refl, sym, ap, subst, append_assoc, arith, All}
 use Rattle.layout.proofs.Names.{between, replicate, codes, map, IfSome, IfNone, w32, from_le_bytes, le_bytes_8, from_le_bytes-to_le_bytes_4, same_lists}
 use Rattle.layout.proofs.Names.{take_more, take_more_set, take_all, take_at, drop_at, drop-drop, append-nil, length-append, length-replicate, get_or-replicate}
@@ -133,7 +133,7 @@ pub length-half : (n : ℕ) → length (half_number n) ≡ 4
 unfolding half_number
 length-half n = refl
 
--- the first four bytes of a number
+-- the first four bytes of a number are those of its lower half
 front_half : (n : ℕ) (rest : List ℕ) → n < 2 ^ 64 → take 4 (number n ++ rest) ≡ half_number (n % 4294967296)
 front_half n rest fits =
     let parts : n ≡ n % 4294967296 + 4294967296 * (n / 4294967296) = omega arith in
@@ -153,7 +153,7 @@ few_versions v = grind (arith, nat_tests)
 one_version : (v w : Version) → version_number v ≡ version_number w → v ≡ w
 one_version v w e = grind (arith, nat_tests)
 
--- the version for a second number
+-- if the lower half of the second number is a version's number, the bytes hold this version
 pub version_reported : (bytes : List ℕ) (second : ℕ) (v : Version) → drop 8 bytes ≡ number second ++ drop 16 bytes → second < 2 ^ 64 →
     second % 4294967296 ≡ version_number v
     → take 4 (drop 8 bytes) ≡ half_number (version_number v)
@@ -179,7 +179,7 @@ pub version_from : (bytes : List ℕ) (second : ℕ) (v : Version) → drop 8 by
     → second % 4294967296 ≡ version_number v
 version_from bytes second v next fits is = grind (arith, nat_tests, half_reported, few_versions, front_half)
 
--- ---- what an answered version says of a sector
+-- ---- what a version found in a sector implies
 
 module _ (bytes : List ℕ) (m second : ℕ) (first : bytes ≡ number m ++ drop 8 bytes) (next : drop 8 bytes ≡ number second ++ drop 16 bytes)
     (fits : second < 2 ^ 64) where
@@ -199,7 +199,7 @@ module _ (bytes : List ℕ) (m second : ℕ) (first : bytes ≡ number m ++ drop
       mark.version.1)
   unmarked (Some v) reported = reported
 
--- the bytes of a sector that has the magic begin with the magic's number
+-- a sector with the right magic and version begins with the magic's bytes
 pub magic_read : (bytes : List ℕ) → HasMark bytes → bytes ≡ number magic ++ drop 8 bytes
 magic_read bytes mark = sym (take-append-drop 8 bytes) ∙ ap (λ (m : List ℕ). m ++ drop 8 bytes) (mark.magic ∙ magic_is)
 
@@ -208,7 +208,7 @@ magic_read bytes mark = sym (take-append-drop 8 bytes) ∙ ap (λ (m : List ℕ)
 abbrev pub numbers_of : Plan → List ℕ
 numbers_of p = p.geometry.nodes ∷ p.geometry.pages ∷ p.geometry.log ∷ p.half_0 ∷ p.half_1 ∷ p.total ∷ []
 
--- the version and the number of ranges in one number
+-- the version, and the number of ranges times 2^32
 abbrev pub second_of : Plan → ℕ
 second_of p = version_number p.version + 4294967296 * length p.ranges
 
@@ -280,7 +280,7 @@ plan_fits p is =
           (All-replicate RangeFits (8 - length p.ranges) unused (omega arith));
     }
 
--- the values that were read from the bytes of a superblock
+-- these values were read from the bytes of superblock p
 pub record IsPlanRead (p : Plan) (v : Version) (second : ℕ) (g : Geometry) (all : List HomeRange) (half_0 half_1 total : ℕ) : Type 0 where
   pub used_is : second / 4294967296 ≡ length p.ranges
   pub few : length p.ranges ≤ 8
@@ -320,7 +320,7 @@ plan_reported p v bytes m second g all half_0 half_1 total fits ranges_fit eight
       plan_is = grind (arith, nat_tests, same_plan);
     }
 
--- the ranges in use are those of the superblock, and the others are unused
+-- of eight ranges that were read, those in use are the superblock's
 pub used_are : (p : Plan) (v : Version) (second : ℕ) (g : Geometry) (all : List HomeRange) (half_0 half_1 total : ℕ) →
     IsPlanRead p v second g all half_0 half_1 total → take (second / 4294967296) all ≡ p.ranges
 used_are p v second g all half_0 half_1 total read = grind (arith, nat_tests, take_at)
@@ -357,7 +357,7 @@ pub plan_found : (v : Version) (bytes : List ℕ) (second : ℕ) (g : Geometry) 
 plan_found v bytes second g all half_0 half_1 total used read version u few eight others blank =
     grind (arith, nat_tests, length-take-le, all_from, plan_stream)
 
--- eight numbers are read, then the ranges after them
+-- if eight numbers were read, then the ranges, the bytes are theirs
 pub eight_read : (bytes : List ℕ) (m s a b c d e f : ℕ) (all : List HomeRange) → bytes ≡ number m ++ drop 8 bytes →
     drop 8 bytes ≡ number s ++ drop 16 bytes → drop 16 bytes ≡ number a ++ drop 24 bytes
     → drop 24 bytes ≡ number b ++ drop 32 bytes → drop 32 bytes ≡ number c ++ drop 40 bytes → drop 40 bytes ≡ number d ++ drop 48 bytes →

@@ -1,10 +1,10 @@
--- The total of sectors in the bytes of a superblock.
+-- The total of sectors in a superblock's bytes.
 use Rattle.layout.proofs.Names.{drop, ap, arith, number, zeros, Plan, IsPlan, superblock_bytes, ranges_bytes, total_in}
 use Rattle.std.proofs.Common.{◌≡◌, ◌++◌}
 use Rattle.layout.proofs.FrameReaders.{reported}
 use Rattle.layout.proofs.Superblocks.{eight_ranges, plan_stream}
 
--- the bytes of a superblock have its total
+-- the total is read back from the bytes of a superblock
 pub total_reported : (p : Plan) → IsPlan p → total_in (superblock_bytes p) ≡ p.total
 unfolding number
 total_reported p is =

@@ -5,7 +5,7 @@ use Rattle.layout.specs.Names.{ℕ, List, replicate, little_bytes, little_number
 unfoldable pub number : ℕ → List ℕ
 number n = little_bytes 8 n
 
--- the number in the first eight bytes
+-- the number that the first eight bytes encode
 unfoldable pub number_from : List ℕ → ℕ
 number_from bytes = little_number 8 bytes
 

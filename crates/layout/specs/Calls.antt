@@ -1,4 +1,4 @@
--- What holds of a device before and after calls that only read, and before and after a write.
+-- What calls that only read, and what writes, may do to a device.
 use Rattle.layout.specs.Names.{ℕ, Disk, Agrees, Elsewhere, Narrows, Tears, IsTorn, Elapses, LeavesOnly, Peeks}
 use Rattle.std.specs.Prelude.{◌≡◌}
 
@@ -11,7 +11,7 @@ pub record ReadsOnly (old new : Disk) : Type 0 where
   pub any_moment : Peeks old new
   pub time : Elapses old new
 
--- only the n sectors from `at` on were touched; a crash may leave any bytes in them
+-- only the n sectors from `at` on may change; a crash may leave any bytes in them
 pub record WritesAt (at n : ℕ) (old new : Disk) : Type 0 where
   pub size : new.sectors ≡ old.sectors
   pub elsewhere : Elsewhere at n old.seen new.seen

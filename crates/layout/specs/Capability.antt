@@ -4,7 +4,7 @@ use Rattle.layout.specs.Names.{Resume, Bank, Discrim, named, tag_of, access_bits
 use Rattle.std.specs.Prelude.{◌+◌, ◌*◌, ◌<◌, ◌==◌, if◌then◌else◌, ◌∷◌, ◌++◌}
 use Rattle.layout.specs.Bytes.{number, short_number}
 
--- the fields of a capability; a field that it lacks is 0
+-- the key, the height and the number of a capability; 0 if it has none
 abbrev pub key_of : Capability → ℕ
 key_of (Start p key) = key
 key_of _ = 0

@@ -30,12 +30,12 @@ AreRising es = (i : ℕ) → i + 1 < length es → (entry_at es i).object < (ent
 abbrev pub HaveOwnSlots : List Entry → Type 0
 HaveOwnSlots es = (i j : ℕ) → i < j → j < length es → (entry_at es i).slot ≡ (entry_at es j).slot → ⊥
 
--- what a directory requires
+-- a valid directory: its entries are valid, their objects rise, and their slots differ
 pub record IsDirectory (g : Geometry) (es : List Entry) : Type 0 where
   pub each : All (IsEntry g) es
   pub rising : AreRising es
   pub apart : HaveOwnSlots es
 
--- the numbers of each entry fit their bytes
+-- the object and slot of each entry are below 2^64
 abbrev pub AllFitting : List Entry → Type 0
 AllFitting es = All (λ e. (e.object < 2 ^ 64) × (e.slot < 2 ^ 64)) es

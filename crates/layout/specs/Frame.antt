@@ -27,7 +27,7 @@ abbrev pub root_slots : Root Cap → List Cap
 root_slots r = number_cap r.annex ∷ number_cap (state_number r.state) ∷ map number_cap r.words ++ number_cap r.key ∷
     r.space ∷ []
 
--- the 32 capabilities that a node's frame has for a content, by its role
+-- the 32 capabilities in a node's frame: its slots or registers, the fields of a root or bank, or void
 abbrev pub slots_of : Content Cap → List Cap
 slots_of content.Free = replicate 32 void_held
 slots_of (content.Page words) = replicate 32 void_held
@@ -122,7 +122,7 @@ root_from slots = record {
   space = cap_at slots 7;
 }
 
--- the body that a role's number and 32 slots decode to
+-- the body of the role with this number, from 32 slots; free if no role has it
 abbrev pub body_in : ℕ → List Cap → Body
 body_in n slots =
     if n == 2 then body.Node else
@@ -130,13 +130,13 @@ body_in n slots =
     if n == 4 then body.Annex else
     if n == 5 then body.Bank (number_held (cap_at slots 0)) else body.Free
 
--- the body that a role's number decodes to in the frame of a page's number
+-- the body of the role with this number, in a page's frame: a page or free
 abbrev pub page_body_in : ℕ → Body
 page_body_in n = if n == 1 then body.Page else body.Free
 
 -- ---- what the readers of both kinds of frames require: together, exactly the frames that can be kept
 
--- what a role requires of its 32 slots
+-- what the content of each role must satisfy in a node's frame
 abbrev pub FollowsRole : Content Cap → Type 0
 FollowsRole content.Free = Unit {0}
 FollowsRole (content.Page words) = ⊥
@@ -145,14 +145,14 @@ FollowsRole (content.Root root) = (length root.words ≡ 4) × (root.key < 2 ^ 1
 FollowsRole (content.Annex registers) = slice_index_or registers 0 void_held ≡ void_held
 FollowsRole (content.Bank limit) = Unit {0}
 
--- a role's number and 32 slots encode this content
+-- role number, owner and slots encode this content
 pub record IsBody (n owner : ℕ) (slots : List Cap) (c : Content Cap) : Type 0 where
   pub role_is : n ≡ role_number (role_of c)
   pub slots_are : slots ≡ slots_of c
   pub follows : FollowsRole c
   pub unowned : IsTrue (is_free c) → owner ≡ 0
 
--- a role's number and 512 words encode a page, or a free number
+-- role number, owner and words encode a page, or a free number
 abbrev pub IsPageBody : ℕ → ℕ → List ℕ → Type 0
 IsPageBody n owner words = (n ≡ 1) ⊎ ((n ≡ 0) × (owner ≡ 0) × (words ≡ zero_words))
 
@@ -162,7 +162,7 @@ HoldsPage content.Free = Unit {0}
 HoldsPage (content.Page words) = AreKeptWords 512 words
 HoldsPage _ = ⊥
 
--- what every frame requires
+-- what every frame must satisfy
 pub record IsFront (age : ℕ) (f : Frame) : Type 0 where
   pub role : f.header.role ≡ role_of f.content
   pub allocations : IsCount age f.header.allocations
@@ -170,13 +170,13 @@ pub record IsFront (age : ℕ) (f : Frame) : Type 0 where
   pub owner : f.header.owner < 2 ^ 64
   pub unowned : IsTrue (is_free f.content) → f.header.owner ≡ 0
 
--- what a frame with the number of a node requires
+-- a frame that may be kept at the number of a node
 pub record IsNodeFrame (g : Geometry) (age : ℕ) (f : Frame) : Type 0 where
   pub front : IsFront age f
   pub slots : AreKeptSlots g age (slots_of f.content)
   pub follows : FollowsRole f.content
 
--- what a frame with the number of a page requires
+-- a frame that may be kept at the number of a page
 pub record IsPageFrame (age : ℕ) (f : Frame) : Type 0 where
   pub front : IsFront age f
   pub holds : HoldsPage f.content

@@ -1,4 +1,4 @@
--- Decoding a frame from any bytes; bytes that encode a frame give that frame.
+-- The frame that bytes decode to, whether or not they encode one.
 use Rattle.layout.specs.Names.{ℕ, zero, suc, nat_lt, List, [], drop, Cap, Frame, ObjectHeader, Geometry}
 use Rattle.std.specs.Prelude.{◌/◌, ◌%◌, if◌then◌else◌, ◌∷◌}
 use Rattle.layout.specs.Bytes.{number_from}
@@ -36,7 +36,7 @@ header_from bytes = record {
   owner = number_from (drop 24 bytes);
 }
 
--- the frame that the bytes of a node's number decode to, and those of a page's
+-- the frame that 1024 bytes of a node decode to, and that 4608 bytes of a page decode to
 abbrev pub node_from : List ℕ → Frame
 node_from bytes = record {
   header = header_from bytes;

@@ -9,17 +9,17 @@ use Rattle.layout.specs.declared.shape.Shape.{Shape}
 use Rattle.layout.specs.declared.open_fault.OpenFault.{OpenFault}
 use Rattle.layout.specs.declared.open_fault.OpenFault.TheVariants.{Failed, NoMemory, Bad}
 
--- the number of an object: nodes have the first numbers, pages the next
+-- n is the number of an object: nodes come first, then pages
 abbrev pub IsObject : Geometry → ℕ → Type 0
 IsObject g number = number < g.nodes + g.pages
 
--- why bytes are refused: the device failed, or they encode no frame of this number
+-- why bytes may be refused: the device failed, or they encode no frame for this number
 abbrev pub IsRefused : Geometry → ℕ → ℕ → List ℕ → OpenFault → Type 0
 IsRefused g age number bytes Failed = ⊤
 IsRefused g age number bytes NoMemory = ⊥
 IsRefused g age number bytes (Bad reason) = (reason ≡ BadFrame) × ((f : Frame) → IsFrameOf g age number bytes f → ⊥)
 
--- the header of the frame of this shape at this sector, whatever its object's number
+-- the header of the frame with this shape at this sector; it doesn't depend on the object's number
 abbrev pub IsHeaderAt : Image → ℕ → Shape → ObjectHeader → Type 0
 IsHeaderAt image at shape header = (g : Geometry) (number : ℕ) →
     header ≡ (frame_from g number (shaped_at image at shape)).header

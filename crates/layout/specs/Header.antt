@@ -8,7 +8,7 @@ unfoldable pub header_bytes : CheckpointHeader → List ℕ
 header_bytes h = codes "EROSHEAD" ++ number h.sequence ++ number h.generation ++ number h.entries ++ number h.age ++
     zeros 472
 
--- what a header needs on a device whose log half has `room` slots
+-- the limits of a header's fields, if a log half has `room` slots
 pub record IsHeader (room : ℕ) (h : CheckpointHeader) : Type 0 where
   pub entries : h.entries ≤ room
   pub age : h.age ≤ 2 ^ 62

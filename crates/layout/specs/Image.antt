@@ -1,4 +1,4 @@
--- What the sectors of a device denote, as far as frames go.
+-- What the sectors of a device denote: superblock, header, directory and frames.
 use Rattle.layout.specs.Names.{ℕ, zero, suc, nat_lt, Bool, Option, Some, None, List, [], length, take, drop, Frame}
 use Rattle.layout.specs.Names.{frame_at, Image}
 use Rattle.std.specs.Prelude.{◌≡◌, ◌⊎◌, ◌+◌, ◌*◌, ◌%◌, ◌<◌, ◌≤◌, ◌==◌, ◌&&◌, if◌then◌else◌, ◌∷◌, ◌++◌}
@@ -73,12 +73,12 @@ abbrev pub directory_in : Image → Plan → ℕ → ℕ → List ℕ
 directory_in image p generation n = take (16 * n)
     (sectors_from image (directory_sector p generation) (directory_length p.version n))
 
--- the slot that a directory gives an object
+-- the slot of the entry for an object, if there is one
 abbrev pub slot_in : List Entry → ℕ → Option ℕ
 slot_in [] object = None
 slot_in (e ∷ es) object = if e.object == object then Some e.slot else slot_in es object
 
--- the slot of the first entry that shares a home with an object: the least entry of its cluster, or its own
+-- the slot of the first entry whose object has the same home as this one; in a cluster that is the least entry
 abbrev pub slot_beside : Plan → List Entry → ℕ → Option ℕ
 slot_beside p [] object = None
 slot_beside p (e ∷ es) object = if home_place p e.object == home_place p object then Some e.slot else slot_beside p es
@@ -88,7 +88,7 @@ abbrev pub or_beside : Option ℕ → Option ℕ → Option ℕ
 or_beside (Some slot) beside = Some slot
 or_beside None beside = beside
 
--- the slot whose sectors have the frame of an object: its own, else its cluster's
+-- the slot that has an object's frame: that of its own entry, else that of its cluster's least entry
 abbrev pub frame_slot_in : Plan → List Entry → ℕ → Option ℕ
 frame_slot_in p es object = or_beside (slot_in es object) (slot_beside p es object)
 
@@ -96,7 +96,7 @@ abbrev pub sector_or : Option ℕ → (ℕ → ℕ) → ℕ → ℕ
 sector_or None in_log home = home
 sector_or (Some slot) in_log home = in_log slot
 
--- the first sector of an object's frame: in its log slot, or at home if it has none
+-- the first sector of an object's frame: in its slot, or at home if it has none
 abbrev pub frame_sector : Plan → ℕ → List Entry → ℕ → ℕ
 frame_sector p generation es object = sector_or (frame_slot_in p es object) (slot_sector p generation)
     (home_place p object)
@@ -131,17 +131,17 @@ HasBadGeometry image = (p : Plan) → IsPlan p → image 0 ≡ superblock_bytes 
 abbrev pub HasNoHeader : Image → Type 0
 HasNoHeader image = committed_slot image ≡ None
 
--- 5: the sector of the committed header encodes no header
+-- 5: the bytes of the committed header encode no valid header
 abbrev pub HasBadHeader : Image → Plan → Type 0
 HasBadHeader image p = (h : CheckpointHeader) → IsHeader p.geometry.log h →
     committed_bytes image ≡ Some (header_bytes h) → ⊥
 
--- 6: the sectors of the directory encode no directory
+-- 6: the bytes of the directory encode no valid directory
 abbrev pub HasBadDirectory : Image → Plan → CheckpointHeader → Type 0
 HasBadDirectory image p h = (es : List Entry) → IsDirectory p.geometry es → length es ≡ h.entries →
     directory_in image p h.generation h.entries ≡ directory_bytes es → ⊥
 
--- 7: the bytes of some object's frame encode no frame of it
+-- 7: the bytes of some object's frame encode no valid frame for its number
 abbrev pub HasBadFrame : Image → Plan → CheckpointHeader → List Entry → Type 0
 HasBadFrame image p h es =
     (object : ℕ) × (object < p.geometry.nodes + p.geometry.pages)
@@ -174,7 +174,7 @@ pub record SavedState : Type 0 where
   pub directory : List Entry
   pub frames : List Frame
 
--- an image encodes a saved state if none of reasons 1 to 7 holds
+-- the sectors of an image encode the saved state s: its superblock, header, directory and frames
 pub record Encodes (image : Image) (size : ℕ) (s : SavedState) : Type 0 where
   pub plan : HasPlan image size s.plan
   pub header : HasHeader image s.plan s.header
@@ -184,7 +184,7 @@ pub record Encodes (image : Image) (size : ℕ) (s : SavedState) : Type 0 where
       IsFrameOf s.plan.geometry s.header.age object (frame_in image s.plan s.header.generation s.directory object)
       (frame_at s.frames object)
 
--- the least reason that holds, if it is one of the first seven
+-- this reason holds, and no smaller one; reasons 8 to 10 need more than the sectors
 abbrev pub IsBadBy : Image → ℕ → BadImage → Type 0
 IsBadBy image size bad.Small = IsTooSmall image size
 IsBadBy image size bad.NotASuperblock = (IsTooSmall image size → ⊥) × IsNoSuperblock image

@@ -6,7 +6,7 @@ use Rattle.layout.specs.declared.version.Version.{Version}
 use Rattle.layout.specs.Bytes.{zeros}
 use Rattle.layout.specs.Version.{row}
 
--- a node's frame lies in its cluster at the place of its rank
+-- a node's frame lies in its cluster in the order of its rank
 abbrev pub node_shape : Version → ℕ → Shape
 node_shape v rank = record {
   sectors = (row v).cluster_sectors;
@@ -14,7 +14,7 @@ node_shape v rank = record {
   bytes = (row v).node_bytes;
 }
 
--- a page's frame is a block of its own
+-- a page's frame fills its block
 abbrev pub page_shape : Shape
 page_shape = record { sectors = 9; offset = 0; bytes = 4608 }
 
@@ -26,11 +26,11 @@ shape_length s = s.sectors
 abbrev pub shape_end : Shape → ℕ
 shape_end s = s.offset + s.bytes
 
--- a frame's bytes, from its block; a packed node frame has no zeros at its end, so they are added
+-- a frame's bytes, from its block, with zeros added to 1024 bytes for a packed node frame
 abbrev pub shape_bytes : Shape → List ℕ → List ℕ
 shape_bytes s block = between s.offset (shape_end s) block ++ zeros (1024 - s.bytes)
 
--- the frame of a number may have this shape
+-- frames of this number may have this shape
 pub record IsShapeFor (g : Geometry) (number : ℕ) (s : Shape) : Type 0 where
   pub inside : shape_end s ≤ 512 * s.sectors
   pub few : s.sectors ≤ 9
@@ -38,7 +38,7 @@ pub record IsShapeFor (g : Geometry) (number : ℕ) (s : Shape) : Type 0 where
   pub node : number < g.nodes → (s.bytes ≤ 1024) × (s.sectors ≤ 8)
   pub page : g.nodes ≤ number → s ≡ page_shape
 
--- two frames share no byte of a block
+-- frames of these shapes share no byte of a block
 abbrev pub AreBeside : Shape → Shape → Type 0
 AreBeside s t = (shape_end s ≤ t.offset) ⊎ (shape_end t ≤ s.offset)
 

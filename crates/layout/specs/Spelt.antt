@@ -12,7 +12,7 @@ use Rattle.layout.specs.Superblock.{Plan}
 abbrev pub count_of : Plan → ℕ
 count_of p = p.geometry.nodes + p.geometry.pages
 
--- the frame that the bytes of an object decode to, at the place that the directory gives
+-- the frame that an object's bytes decode to, in the slot that the directory gives or at home
 abbrev pub frame_read : Image → Plan → ℕ → List Entry → ℕ → Frame
 frame_read image p generation es object = frame_from p.geometry object (frame_in image p generation es object)
 
@@ -28,6 +28,6 @@ IsSpelt image p age generation es object = IsFrameOf p.geometry age object (fram
 abbrev pub AreSpelt : Image → Plan → ℕ → ℕ → List Entry → Type 0
 AreSpelt image p age generation es = (object : ℕ) → object < count_of p → IsSpelt image p age generation es object
 
--- the saved state that an image has if this header is committed in it with this directory
+-- the saved state of an image with this committed header and this directory
 abbrev pub state_in : Image → Plan → CheckpointHeader → List Entry → SavedState
 state_in image p h es = record { plan = p; header = h; directory = es; frames = frames_read image p h.generation es }

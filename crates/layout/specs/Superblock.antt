@@ -1,4 +1,4 @@
--- The superblock: how much a device holds, and where.
+-- The superblock: how many objects a device holds, and where its parts lie.
 use Rattle.layout.specs.Names.{ℕ, nat_lt, List, [], length, map, take, drop, replicate, slice_index_or, codes, All}
 use Rattle.layout.specs.Names.{flat_map, Geometry}
 use Rattle.std.specs.Prelude.{◌≡◌, ◌⊎◌, ◌+◌, ◌-◌, ◌*◌, ◌/◌, ◌%◌, ◌<◌, ◌≤◌, ◌^◌, if◌then◌else◌, ◌∷◌, ◌++◌}
@@ -12,11 +12,11 @@ use Rattle.layout.specs.declared.version.Version.{Version}
 use Rattle.layout.specs.Bytes.{number, half_number, zeros}
 use Rattle.layout.specs.Version.{IsOpened, aligned, directory_length, row}
 
--- the number for its version in a superblock
+-- the number of a version in a superblock
 abbrev pub version_number : Version → ℕ
 version_number v = (row v).number
 
--- what a superblock says
+-- the fields of a superblock
 pub record Plan : Type 0 where
   pub version : Version
   pub geometry : Geometry
@@ -49,7 +49,7 @@ pub record HasMark (bytes : List ℕ) : Type 0 where
   pub version : (v : Version) × (take 4 (drop 8 bytes) ≡ half_number (version_number v)) × IsOpened v
   pub blank : drop 256 bytes ≡ zeros 256
 
--- how much a device may hold
+-- the limits of the numbers of nodes, pages and log slots
 pub record IsGeometry (g : Geometry) : Type 0 where
   pub least_nodes : 16 ≤ g.nodes
   pub most_nodes : g.nodes ≤ 4096
@@ -58,11 +58,11 @@ pub record IsGeometry (g : Geometry) : Type 0 where
   pub least_log : 16 ≤ g.log
   pub most_log : g.log ≤ 4096
 
--- a range is of nodes alone or of pages alone
+-- a range has only nodes or only pages
 abbrev pub IsOfOneKind : Geometry → HomeRange → Type 0
 IsOfOneKind g r = (r.first + r.count ≤ g.nodes) ⊎ (g.nodes ≤ r.first)
 
--- the range begins at number n, is not empty, and is of one kind
+-- the range begins at number n, isn't empty, and has only nodes or only pages
 abbrev pub IsNext : Geometry → HomeRange → ℕ → Type 0
 IsNext g r n = (r.first ≡ n) × (0 < r.count) × IsOfOneKind g r
 
@@ -94,11 +94,11 @@ abbrev pub extents : Plan → List Extent
 extents p = map (range_extent p.version p.geometry) p.ranges
     ++ half_extent p.version p.geometry p.half_0 ∷ half_extent p.version p.geometry p.half_1 ∷ []
 
--- sectors after the headers of versions 1 and 2, and before the end
+-- the extent lies from sector 5 on, after the headers of versions 1 and 2, and before the end
 abbrev pub IsWithin : ℕ → Extent → Type 0
 IsWithin total e = (5 ≤ e.sector) × (e.sector + e.length ≤ total)
 
--- a range or a half may begin there: after the headers of the version, and at a multiple
+-- a range or half may begin at this sector: after the headers of its version, at a multiple of its alignment
 abbrev pub MayBegin : Version → Extent → Type 0
 MayBegin v e = ((row v).first_home ≤ e.sector) × (e.sector % (row v).alignment ≡ 0)
 
@@ -117,7 +117,7 @@ extent_at es i = slice_index_or es i (record { sector = 0; length = 0 })
 abbrev pub AreApart : List Extent → Type 0
 AreApart es = (i j : ℕ) → i < j → j < length es → IsApart (extent_at es i) (extent_at es j)
 
--- what a superblock needs; programs do not open version 3 yet
+-- a valid superblock; programs do not open version 3 yet
 pub record IsPlan (p : Plan) : Type 0 where
   pub unsealed : IsOpened p.version
   pub geometry : IsGeometry p.geometry
@@ -129,7 +129,7 @@ pub record IsPlan (p : Plan) : Type 0 where
   pub begin : All (MayBegin p.version) (extents p)
   pub apart : AreApart (extents p)
 
--- why a sector is refused as a superblock
+-- why a sector is refused as a superblock: its magic or version, or anything else
 abbrev pub IsPlanRefused : List ℕ → BadImage → Type 0
 IsPlanRefused bytes NotASuperblock = HasMark bytes → ⊥
 IsPlanRefused bytes BadGeometry = HasMark bytes × ((p : Plan) → IsPlan p → bytes ≡ superblock_bytes p → ⊥)

@@ -54,6 +54,6 @@ IsOpened v = (row v).sealed ≡ false
 unfoldable pub directory_length : Version → ℕ → ℕ
 directory_length v n = (n + (row v).sector_entries - 1) / (row v).sector_entries
 
--- the least multiple from a number on at which a range or a half may begin
+-- the least multiple of the version's alignment that isn't below n
 abbrev pub aligned : Version → ℕ → ℕ
 aligned v n = (row v).alignment * ((n + (row v).alignment - 1) / (row v).alignment)

@@ -4,7 +4,7 @@ ghost use Rattle.layout.specs.Reason.{reason_number};
 
 use thiserror::Error;
 
-/// A reason to refuse an image: the least of those that hold.
+/// A reason to refuse an image. If several hold, it is the least.
 #[derive(Clone, Copy, Debug, Error)]
 pub enum BadImage {
     #[error("the device is smaller than the image")]

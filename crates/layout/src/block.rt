@@ -28,7 +28,7 @@ pub fn unpack_node(block: &[u8], shape: Shape, node: &mut [u8])
     blank_from(node, size);
 }
 
-/// Copies the frame in a place of a block to the same place of another. All other bytes stay.
+/// Copies the frame of this shape from one block to another. No other byte changes.
 pub fn copy_frame(from: &[u8], shape: Shape, to: &mut [u8])
     requires from { shape_end shape ≤ length from.now }
     requires to { shape_end shape ≤ length to.old }
@@ -54,8 +54,8 @@ fn frame_size(geometry: Geometry, number: u64) -> usize
     }
 }
 
-/// Writes the frame of an object into its place in a block. The bytes before this place stay. If all bytes after it
-/// are zeros, they stay zeros; otherwise they may change.
+/// Writes the frame of an object into a block, at the offset of its shape. The bytes before the frame stay.
+/// If all bytes after it are zeros, they stay zeros; otherwise they may change.
 pub fn put_frame(
     geometry: Geometry,
     number: u64,

@@ -1,4 +1,4 @@
-// The body of a frame: what comes after its header. A scratch buffer for bodies.
+// The body of a frame: what comes after its header. Also a scratch buffer for bodies.
 ghost use Rattle.std.specs.Prelude.{◌≡◌, IfOk, replicate};
 ghost use Rattle.model.specs.Frame.{content_behind, void_held};
 ghost use Rattle.layout.specs.Frame.{content_of};

@@ -13,7 +13,7 @@ pub fn number_at(bytes: &[u8], at: usize) -> u64
     LittleEndian::read_u64(&bytes[at..])
 }
 
-/// Writes `n` little-endian into the eight bytes from `at` on. The others stay.
+/// Writes `n` little-endian into the eight bytes from `at` on. No other byte changes.
 pub fn put_number(bytes: &mut [u8], at: usize, n: u64)
     requires { at + 8 ≤ length bytes.old }
     ensures before { take (at + 8) bytes.new ≡ take at bytes.old ++ number n }
@@ -59,7 +59,7 @@ pub fn blank(bytes: &mut [u8])
     bytes.fill(0);
 }
 
-/// Sets the first `end` bytes to 0. The others stay.
+/// Sets the first `end` bytes to 0. No other byte changes.
 pub fn blank_front(bytes: &mut [u8], end: usize)
     requires { end ≤ length bytes.old }
     ensures before { take end bytes.new ≡ zeros end }
@@ -68,7 +68,7 @@ pub fn blank_front(bytes: &mut [u8], end: usize)
     blank(&mut bytes[..end]);
 }
 
-/// Sets the bytes from `at` on to 0. The others stay.
+/// Sets the bytes from `at` on to 0. No other byte changes.
 pub fn blank_from(bytes: &mut [u8], at: usize)
     requires { at ≤ length bytes.old }
     ensures { bytes.new ≡ take at bytes.old ++ zeros (length bytes.old - at) }

@@ -57,8 +57,8 @@ fn numbers_of(cap: Cap) -> Numbers
     }
 }
 
-// Whether an image of this geometry and age may hold a capability: its object is of its kind, and its count at most
-// the age. A capability that names no object must have count 0.
+// Whether an image of this geometry and age may hold a capability: its number is one for its kind of object,
+// and its count is at most the age. A capability that names no object must have count 0.
 fn is_capability(geometry: Geometry, age: u64, cap: Cap) -> bool
     ensures { IsTrue result ↔ IsKeptCap geometry age cap }
 {
@@ -99,8 +99,8 @@ fn read_as(what: Capability, numbers: Numbers, geometry: Geometry, age: u64) -> 
     Reading { what, is_spelt }
 }
 
-// Returns the capability with the tag in `numbers`, made from the fields that its kind has, and whether `numbers` are
-// its valid encoding.
+// Returns the capability with the tag in `numbers`, made from the fields that its kind has. Also returns
+// whether `numbers` are its valid encoding.
 #[inline(always)]
 fn assembled(
     access: Access,
@@ -152,8 +152,8 @@ pub fn encode_capability(cap: Cap, into: &mut [u8])
     put_number(into, 16, numbers.count);
 }
 
-/// Reads a capability from its 24 bytes. Its object must be of its kind on a device of this geometry,
-/// and its count at most the age.
+/// Reads a capability from its 24 bytes. Its number must be one for its kind of object on a device of this
+/// geometry, and its count at most the age.
 ///
 /// Returns `BadFrame` if the bytes encode no such capability.
 #[inline(always)]

@@ -95,8 +95,8 @@ fn read_entries(bytes: &[u8], into: &mut [Entry])
     }
 }
 
-/// Reads a directory of `into.len()` entries, 16 bytes for each. The numbers of the objects must rise
-/// and be on the device. No slot may come twice or lie outside a log half.
+/// Reads a directory of `into.len()` entries, 16 bytes for each. The numbers of the objects must rise and
+/// exist on the device. No slot may come twice or lie outside a log half.
 ///
 /// Returns `BadDirectory` if the bytes encode no such directory; then `into` may hold any entries.
 #[tactic(auto, using(crate::proofs::Directories::directory_fits, crate::proofs::Directories::one_directory))]

@@ -1,4 +1,4 @@
-// The frame of an object: its number says whether it has a node's frame or a page's.
+// The frame of an object. Its number says whether it is a node's frame or a page's.
 ghost use Rattle.std.specs.Prelude.{◌≡◌, ◌+◌, ◌*◌, ◌<◌, length, IfOk, IfErr};
 ghost use Rattle.model.specs.declared.frame.Frame.{Frame};
 ghost use Rattle.layout.specs.Frame.{frame_bytes, frame_length, frame_of, IsFrameOf};

@@ -1,5 +1,5 @@
-// Reading and writing the frames of objects, and whole sectors, of any device. The caller says where
-// a frame lies. The contracts say what each call does to the device, and when it fails.
+// Reads and writes the frames of objects, and whole sectors, of any device. The caller says where a frame
+// lies. The contracts say what each call does to the device, and when it fails.
 mod frames;
 mod sectors;
 

@@ -2,7 +2,7 @@
 ghost use Rattle.layout.specs.Laws.{SpellOneCapability, SpellOneGate, SpellOneHeader, SpellOneDirectory, SpellOneFrame};
 ghost use Rattle.layout.specs.Laws.{SpellOneSuperblock, SpeltIsRead, DenoteOneState};
 
-/// Given bytes encode at most one value of each structure. The function does nothing: its contract is the law.
+/// A lemma as a function, which does nothing: given bytes encode at most one value of each structure.
 #[tactic(auto, using(crate::proofs::Capabilities::one_capability, crate::proofs::Superblocks::one_plan))]
 pub fn spell_one_value()
     ensures capability { SpellOneCapability }
@@ -13,12 +13,12 @@ pub fn spell_one_value()
     ensures superblock { SpellOneSuperblock }
 {}
 
-/// If bytes encode a frame, `decode_frame` returns that frame. The function does nothing: its contract is the law.
+/// A lemma as a function, which does nothing: if bytes encode a frame, `decode_frame` returns that frame.
 pub fn what_is_spelt_is_read()
     ensures { SpeltIsRead }
 {}
 
-/// An image denotes at most one saved state. The function does nothing: its contract is the law.
+/// A lemma as a function, which does nothing: an image denotes at most one saved state.
 pub fn denote_one_state()
     ensures { DenoteOneState }
 {}

@@ -108,7 +108,7 @@ fn body_in(role: u64, slots: &[Cap]) -> Body
     }
 }
 
-// Whether 32 slots are those of this root, and its space is one that a process may have.
+// Whether 32 slots are those of this root, and its space is void, a page or a space.
 #[tactic(auto, using(crate::proofs::Frames::root_tail))]
 fn is_root(root: &Root<Cap>, slots: &[Cap]) -> bool
     requires { length slots.now ≡ 32 }

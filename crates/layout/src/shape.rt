@@ -1,4 +1,4 @@
-// The places of frames in their blocks.
+// Where frames lie in their blocks.
 
 /// Where the frame of an object lies in its block. A block is a run of sectors: a cluster, or the frame
 /// of a page alone.

@@ -186,7 +186,7 @@ impl Superblock {
         })
     }
 
-    /// Returns another superblock with the same parts.
+    /// Returns a copy.
     pub fn copy(&self) -> Self
         ensures { result ≡ self.now }
     {
@@ -389,7 +389,7 @@ fn read_plan(version: Version, bytes: &[u8]) -> Option<Superblock>
 /// Reads the 512 bytes of a superblock's sector.
 ///
 /// Returns `NotASuperblock` for another magic, a version that programs do not open, or a byte after the
-/// ranges that isn't 0. Returns `BadGeometry` if the bytes spell no superblock for another reason.
+/// ranges that isn't 0. Returns `BadGeometry` if the bytes encode no superblock for another reason.
 pub fn decode_superblock(bytes: &[u8]) -> Result<Superblock, BadImage>
     requires { length bytes.now ≡ 512 }
     ensures found { IfOk result (λ s. bytes.now ≡ superblock_bytes s) }

@@ -8,7 +8,7 @@ ghost use Rattle.layout.specs.Superblock.{version_number};
 pub enum Version {
     One,
     Two,
-    /// Programs do not open it yet.
+    /// Programs do not open version 3 yet.
     Three,
 }
 
@@ -33,7 +33,8 @@ pub struct Row {
     pub node_bytes: u64,
     /// How many entries a sector of a directory has.
     pub sector_entries: u64,
-    /// The sequence number of the first header. So much more a sequence number may be than in version 1.
+    /// The sequence number of the first header. The limit of sequence numbers is higher by this than in
+    /// version 1.
     pub first_sequence: u64,
     /// Whether all structures are sealed.
     pub sealed: bool,

@@ -16,13 +16,13 @@ use Rattle.migrator.proofs.PlacesApart.{frame_slot_fits}
 use Rattle.migrator.proofs.Kept.{stored_stays, kept_on}
 use Rattle.migrator.proofs.Putting.{put_is, later_half, other_parity, half_spares, none_spares, homes_spare}
 
--- ---- what is kept through a directory and a header that are written
+-- ---- what stays when a directory and a header are written
 
 -- the sectors of a header and its gate
 abbrev pub header_extent : CheckpointHeader → Extent
 header_extent h = record { sector = header_sector h; length = 2 }
 
--- all that is kept lies after the headers
+-- all frames that the books name lie after the headers
 pub headers_spare : {size : ℕ} {image : Image} {b : Books} (h : CheckpointHeader) → IsIntact size image b → SparesKept b (header_extent h)
 headers_spare {size} {image} {b} h kept = grind (arith, nat_tests, frames_behind, homes_behind, places_within, half_within)
 
@@ -41,13 +41,13 @@ module _ {size : ℕ} {b : Books} {next : CheckpointHeader} {old new : Image} (k
   pub state_saves : saved_state new b ≡ saved_state old b
   state_saves = state_stays (headers_spare next between_kept).frames only.header ∙ state_stays spares.frames only.directory
 
--- ---- a directory and the slots of its half
+-- ---- the directory and the slots of one half
 
 pub slots_apart_directory : (p : Plan) (generation : ℕ) {s : ℕ} (m n : ℕ) → s < p.geometry.log → m ≤ p.geometry.log →
     IsApart (place_extent p generation s n) (directory_extent p generation m)
 slots_apart_directory p generation {s} m n lt le = grind (arith, nat_tests)
 
--- the frames that a directory names lie apart from the directory
+-- the frames of a directory's entries don't overlap the directory
 pub directory_spares : {p : Plan} (generation m : ℕ) {es : List Entry} → IsPlan p → IsDirectory p.geometry es → m ≤ p.geometry.log →
     SparesFrames p generation es (directory_extent p generation m)
 directory_spares {p} generation m {es} fits is few n lt =
@@ -62,15 +62,15 @@ pub next_fits : {room age : ℕ} (b : Books) → IsHeader room b.header → b.he
 next_fits {age} b is later most few small = let more = one_more (b.header.entries == 0) in
     search (arith, is.generation, is.sequence, later, few, small)
 
--- ---- the frames that are saved next
+-- ---- the frames that the commit saves
 
--- the frozen frames' places are a directory
+-- the objects with frozen frames, and their slots, are a directory
 pub frozen_fits : {size : ℕ} {image : Image} {b : Books} → IsIntact size image b → IsDirectory b.plan.geometry (entries_of b.frozen)
 frozen_fits {b} kept =
     entries_directory kept.frozen.table kept.frozen.count kept.frozen.few
     (omega (arith, kept.plan.geometry.most_nodes, kept.plan.geometry.most_pages)) kept.plan.geometry.most_log
 
--- all that was put is whole
+-- each object with a slot has a valid frame in it
 module _ {size : ℕ} {image : Image} {b : Books} (k : ℕ) (kept : IsIntact size image b) (running : b.frozen_size ≡ Some k)
     (stable : k ≤ whole_count b.frozen) where
   pub was : IsRunning b (Some k)
@@ -102,9 +102,9 @@ module _ {size : ℕ} {image : Image} {b : Books} (k : ℕ) (kept : IsIntact siz
   abbrev frozen_puts : List Put
   frozen_puts = puts_in image b.plan (frozen_generation b) b.frozen
 
-  -- each object without a place, in a cluster that has one, has its home frame there
+  -- if an object has no slot, but its cluster has one, that slot contains the object's home frame
   module _ (complete : AreComplete image b.plan (frozen_generation b) (entries_of b.frozen)) where
-    -- an object without a place has its home frame, as before
+    -- the frame that the commit saves for an object without a slot is the saved one
     home_frame : {n : ℕ} → n < count_of b.plan → slot_of (place_at b.frozen n) ≡ None →
         frame_in image b.plan (b.header.generation + 1) (entries_of b.frozen) n ≡ frame_in image b.plan b.header.generation b.directory n
     home_frame {n} lt none = grind (arith, nat_tests, slot_entries, at_home, beside_frame_slot, none_saved, in_frame_slot)
@@ -113,7 +113,7 @@ module _ {size : ℕ} {image : Image} {b : Books} (k : ℕ) (kept : IsIntact siz
         ≡ put_or (put_at frozen_puts n) (frame_at saved_frames n)
     frame_next n lt = grind (arith, nat_tests, home_frame, read_at, put_is, slot_frame_in, whole_at)
 
-    -- the frames that are saved next are the saved ones, with the frozen ones instead where there are some
+    -- the frames that the commit saves: the frozen one of each object that has one, else the saved one
     pub frames_next : frames_read image b.plan (b.header.generation + 1) (entries_of b.frozen) ≡ overlaid frozen_puts saved_frames
     unfolding frames_read overlaid
     frames_next = search (arith, length_read, maps_same, frame_next)
@@ -172,7 +172,7 @@ module _ (disk : Disk) {b : Books} (k : ℕ) (kept : IsIntact disk.sectors disk.
     generation_is : working_generation b ≡ frozen_generation b + 1
     generation_is = ap (generation_after b.header.generation) running
 
-    -- all frames that are kept lie apart from the directory
+    -- no frame that the books name overlaps the directory
     spares_kept : SparesKept b extent
     spares_kept = record {
       frames = spares_now.frames;

@@ -1,4 +1,4 @@
--- Clusters: those completed before a commit, and one that the device failed to write.
+-- Clusters: completed before a commit, and kept in memory if the device failed to write one.
 use Rattle.migrator.proofs.Names.{Holds, nat_tests, IsDurable, seen_by, stored_on, frame_at, read_at, place_length, ℕ, Option, Some, None, List, refl, sym, ap}
 use Rattle.migrator.proofs.Names.{subst, arith, Image, Disk, IsTorn, AreKeepable, Entry, Extent, CheckpointHeader, entry_at, half_sector, count_of, IsInside}
 use Rattle.migrator.proofs.Names.{half_extent, found_slot, own_slot, Whole, place_at, slot_of, entries_of, AreComplete, Keeps, Unwritten, mended, IfUnwritten}
@@ -28,7 +28,7 @@ module _ {old new : Disk} {b : Books} {was now : Option Unwritten} {k : ℕ} (ke
   abbrev after : Image
   after = mended new.seen now
 
-  -- the slots of the half
+  -- the log slots of the half
   abbrev extent : Extent
   extent = record { sector = half_sector b.plan (frozen_generation b); length = 9 * b.plan.geometry.log }
 
@@ -89,12 +89,12 @@ module _ {old new : Disk} {b : Books} {was now : Option Unwritten} {k : ℕ} (ke
         let own = own_slot (entries_of b.frozen) is.index (frozen_fits kept).rising is.within in
         search (is, running, sym (slot_entries b.frozen entry.object) ∙ own)
 
--- the kept frames don't depend on the unwritten cluster
+-- what `IsIntact` says doesn't depend on the unwritten cluster
 pub kept_with : {size : ℕ} {image : Image} {b : Books} {o : Option Unwritten} → IsIntact size image b →
     IsIntact size image (record b { unwritten = o })
 kept_with kept = search
 
--- after all slots are complete, nothing is unwritten, and no frame changes
+-- after all slots were completed, no cluster is unwritten, and no frame has changed
 pub record IsCompleted (old : Disk) (image : Image) (b : Books) (k : ℕ) (mid : Disk) : Type 0 where
   pub kept : IsIntact mid.sectors mid.seen b
   pub size : mid.sectors ≡ old.sectors
@@ -119,7 +119,7 @@ ready {old} {mid} {b} {was} {now} {k} kept running keeps none =
           (goes.any_moment sound);
     }
 
--- ---- said of the header and the entries that are committed
+-- ---- the same facts about the header and the entries of the commit
 
 pub keeps_at : (b : Books) {old mid : Disk} {was now : Option Unwritten} {h : CheckpointHeader} {es : List Entry} {age : ℕ} →
     h ≡ next_header age b → es ≡ entries_of b.frozen → Keeps b.plan h.generation es old was mid now →
@@ -131,15 +131,15 @@ pub complete_at : (b : Books) (image : Image) {h : CheckpointHeader} {es : List 
     (entries_of b.frozen)
 complete_at b image {h} {es} {age} header entries complete = grind (arith, nat_tests)
 
--- the frames that are to be saved may be saved
+-- the frames that the commit saves may be kept
 pub keepable_at : {age : ℕ} {old : Disk} {image : Image} {b : Books} {k : ℕ} {mid : Disk} → IsCompleted old image b k mid →
     AreKeepable b.plan.geometry age (next_saved puts age (frozen_of image b k) (stored_in image b).saved).frames
     → AreKeepable b.plan.geometry age (next_saved puts age (frozen_of mid.seen b k) (stored_in mid.seen b).saved).frames
 keepable_at {age} {old} {image} {b} {k} {mid} is keepable = grind (arith, nat_tests)
 
--- ---- a cluster is put together
+-- ---- a cluster is assembled
 
--- the home frames were gathered, and the entry's own frame was copied over its place
+-- if the home frames were gathered, and then the entry's own frame copied to its place, the cluster is filled
 pub filled : (image : Image) {p : Plan} (generation : ℕ) (e : Entry) (old new : List ℕ) → IsPlan p → IsObject p.geometry e.object →
     IsGathered image p generation [] e.object old → shape_bytes (shape_of p e.object) new ≡ slot_bytes image p generation e.slot e.object
     → ((s : Shape) → AreBeside (shape_of p e.object) s → shape_bytes s new ≡ shape_bytes s old) → IsFilled image p generation e new
@@ -149,7 +149,7 @@ filled image {p} generation e old new fits is gathered copied others = record {
       others (shape_of p n) (frames_beside fits is is_n (sym same) (λ e. differ (sym e))) ∙ gathered n is_n same;
 }
 
--- a block that changes only before its end keeps the zeros there
+-- a block that is changed only before `end` keeps the zeros after it
 blank_on : (end at : ℕ) (old new : List ℕ) → end ≤ at → length new ≡ length old → drop end new ≡ drop end old → IsBlankFrom at old →
     IsBlankFrom at new
 blank_on end at old new low size same blank =
@@ -157,13 +157,13 @@ blank_on end at old new low size same blank =
     ap (λ (k : ℕ). drop k new) (sym sum) ∙ sym (drop-drop (at - end) end new) ∙ ap (drop (at - end)) same ∙ drop-drop (at - end) end old ∙
     ap (λ (k : ℕ). drop k old) sum ∙ blank ∙ ap (λ (k : ℕ). zeros (k - at)) (sym size)
 
--- the bytes after the frames stay zeros
+-- zeros after all frames stay if the block is changed only before the end of one
 pub ends_on : (p : Plan) (n : ℕ) (old new : List ℕ) → IsObject p.geometry n → length new ≡ length old →
     drop (shape_end (shape_of p n)) new ≡ drop (shape_end (shape_of p n)) old → EndsInZeros p n old → EndsInZeros p n new
 ends_on p n old new is size same ends at behind = blank_on (shape_end (shape_of p n)) at old new (behind n is refl) size same
     (ends at behind)
 
--- ---- it is written into the slot of its entry
+-- ---- the cluster is written into the slot of its entry
 
 half_of_slot : (p : Plan) (generation : ℕ) {slot : ℕ} → slot < p.geometry.log →
     IsInside (record { sector = slot_sector p generation slot; length = 8 }) (half_extent p.version p.geometry (half_sector p generation))
@@ -171,7 +171,7 @@ half_of_slot p generation low =
     let has = half_has p.version p.geometry in
     record { starts = omega arith; ends = omega (arith, has, low) }
 
--- the cluster that a slot then holds
+-- a slot contains the cluster that was written to it
 cluster_read : (image : Image) (u : Unwritten) → length u.bytes ≡ 4096 → sectors_from (mended image (Some u)) u.sector 8 ≡ u.bytes
 cluster_read image u size =
     let eight : sectors_of u.bytes ≡ 8 = omega (arith, size) in
@@ -180,7 +180,7 @@ cluster_read image u size =
     let few : u.sector + j - u.sector ≡ j = omega arith in
     sym (mended_here image u (omega arith) (omega (arith, lt, size)) ∙ ap (image_of u.bytes) few)))
 
--- the zeros of a cluster are in the slot that it was written into
+-- if the cluster that was written ends in zeros, so does the slot
 pub zeros_written : (p : Plan) (n : ℕ) (old new : Image) (u : Unwritten) {now : Option Unwritten} → length u.bytes ≡ 4096 →
     mended new now ≡ mended old (Some u) → now ≡ None → EndsInZeros p n u.bytes → EndsInZeros p n (sectors_from new u.sector 8)
 zeros_written p n old new u {now} size seen none zeros = grind (arith, nat_tests, cluster_read)
@@ -196,32 +196,32 @@ module _ {p : Plan} (generation : ℕ) {es : List Entry} (i : ℕ) (fits : IsPla
     abbrev e : Entry
     e = entry_at es i
 
-    -- an object without an entry that shares the home isn't the entry's object
+    -- an object without an entry isn't the entry's object
     other_object : (n : ℕ) → slot_in es n ≡ None → n ≡ e.object → ⊥
     other_object n none same = let never : None ≡ Some e.slot = sym none ∙ ap (slot_in es) same ∙ own_slot es i is.rising within in cc
 
-    -- an entry whose frame fills its block alone has a home of its own
+    -- an entry whose frame fills its block is complete
     pub own_complete : (image : Image) → IsWhole (shape_of p e.object) → IsComplete image p generation es i
     own_complete image own = grind (arith, nat_tests, other_object, alone)
 
-    -- an entry that follows another of the same cluster has nothing to complete
+    -- an entry that follows another of the same cluster is complete
     pub later_complete : (image : Image) → (0 < i) × (home_place p (entry_at es (i - 1)).object ≡ home_place p e.object) →
         IsComplete image p generation es i
     later_complete image follows first n is_n same none = absurd (first (i - 1) (omega (arith, follows.0)) follows.1)
 
-    -- the sectors of the slot that a cluster takes
+    -- the sectors of the entry's slot
     abbrev sectors : Extent
     sectors = record { sector = slot_sector p generation e.slot; length = 8 }
 
     slot_low : e.slot < p.geometry.log
     slot_low = (is.each i (record { object = 0; slot = 0 }) within).slot
 
-    -- these sectors lie apart from the other slots
+    -- these sectors don't overlap the slots of other entries
     others_apart : {j : ℕ} (n : ℕ) → j < length es → (j ≡ i → ⊥) → IsApart (place_extent p generation (entry_at es j).slot n) sectors
     others_apart {j} n lt other = grind (arith, nat_tests)
 
     module _ {image new : Image} (change : Elsewhere (slot_sector p generation e.slot) 8 image new) where
-      -- the other slots and the homes keep their bytes
+      -- other slots, and homes, don't change
       pub slot_stays : {j : ℕ} (n : ℕ) → j < length es → (j ≡ i → ⊥) → slot_bytes new p generation (entry_at es j).slot n
           ≡ slot_bytes image p generation (entry_at es j).slot n
       slot_stays {j} n lt other = bytes_stay p n (others_apart n lt other) change
@@ -229,11 +229,11 @@ module _ {p : Plan} (generation : ℕ) {es : List Entry} (i : ℕ) (fits : IsPla
       pub homes_stay : {n : ℕ} → IsObject p.geometry n → bytes_at new (home_place p n) p n ≡ bytes_at image (home_place p n) p n
       homes_stay {n} is_n = bytes_stay p n (home_apart generation fits is_n (half_of_slot p generation slot_low)) change
 
-      -- clusters that are complete stay complete
+      -- complete slots stay complete
       pub complete_stays : {j : ℕ} → j < i → IsComplete image p generation es j → IsComplete new p generation es j
       complete_stays {j} less was = grind (arith, nat_tests, slot_stays, homes_stay)
 
--- ---- the outcome for one entry's cluster
+-- ---- the result for one entry's cluster
 
 module _ {p : Plan} (generation : ℕ) {es : List Entry} (i : ℕ) (fits : IsPlan p) (is : IsDirectory p.geometry es) (within : i < length es)
     (long : place_length p (entry_at es i).object ≡ 8) (bytes : List ℕ) (size : length bytes ≡ 4096) where
@@ -274,7 +274,7 @@ module _ {p : Plan} (generation : ℕ) {es : List Entry} (i : ℕ) (fits : IsPla
         ∙ sym (ap (λ (image : Image). bytes_at image (home_place p n) p n) there
         ∙ homes_stay generation i fits is within (mended_elsewhere u) is_n)
 
--- a frame that doesn't fill its block alone lies in a cluster of 8 sectors
+-- the block of a frame that doesn't fill it is a cluster of 8 sectors
 cluster_length : (p : Plan) (n : ℕ) → (IsWhole (shape_of p n) → ⊥) → place_length p n ≡ 8
 cluster_length p n other = grind (arith, nat_tests)
 
@@ -286,9 +286,9 @@ pub long_of : (p : Plan) (n : ℕ) {s : Shape} {test : Bool} → s ≡ shape_of 
 long_of p n {s} {test} is fails holds = cluster_length p n (λ whole.
     let never : false ≡ true = sym fails ∙ holds (subst IsWhole (sym is) whole) in cc)
 
--- ---- one after the other
+-- ---- one entry after another
 
--- the device isn't called
+-- without a call no sector changes
 pub touches_none : {at n : ℕ} {disk : Disk} → OnlyNow disk → Touches at n disk disk
 touches_none {at} {n} {disk} only_now = grind (arith, nat_tests)
 
@@ -297,12 +297,12 @@ slots_hold : (p : Plan) (generation : ℕ) {slot : ℕ} → slot < p.geometry.lo
     (record { sector = half_sector p generation; length = 9 * p.geometry.log })
 slots_hold p generation low = record { starts = omega arith; ends = omega (arith, low) }
 
--- after a write nothing is unwritten, or the same as before
+-- after a write no cluster is unwritten, or the same one as before
 pub either_of : {T E : Type 0} {o p : Option Unwritten} (result : Result T E) → OnOk result (p ≡ None) → OnErr result (p ≡ o) →
     (p ≡ None) ⊎ (p ≡ o)
 either_of {T} {E} {o} {p} result none same = grind (arith, nat_tests)
 
--- an unwritten cluster belongs to sectors of the device
+-- an unwritten cluster belongs in sectors of the device
 pub unwritten_inside : {p : Plan} (generation : ℕ) {es : List Entry} {o : Option Unwritten} {u : Unwritten} → IsPlan p →
     IsDirectory p.geometry es → IfUnwritten p generation es o → o ≡ Some u → u.sector + 8 ≤ p.total
 unwritten_inside {p} generation {es} {o} {u} fits is has some =
@@ -311,7 +311,7 @@ unwritten_inside {p} generation {es} {o} {u} fits is has some =
     let within = halves_within p generation fits in
     omega (arith, here.sector_is, slot.ends, within.1)
 
--- a cluster that the device failed to write before is written
+-- writing an unwritten cluster keeps the frames of all entries
 pub keeps_written : {p : Plan} {generation : ℕ} {es : List Entry} {old new : Disk} {was now : Option Unwritten} → OnlyNow old →
     IsDirectory p.geometry es → IfUnwritten p generation es was → mended new.seen now ≡ mended old.seen was
     → ((u : Unwritten) → was ≡ Some u → Touches u.sector 8 old new) → (was ≡ None → new ≡ old) → (now ≡ None) ⊎ (now ≡ was) →
@@ -333,7 +333,7 @@ keeps_written {p} {generation} {es} {old} {new} {was} only_now is fits seen touc
       touches_within (let inside = slots_hold p generation (is.each fits.index (record { object = 0; slot = 0 }) fits.within).slot in
       record { starts = omega (arith, inside.starts, fits.sector_is); ends = omega (arith, inside.ends, fits.sector_is) }) (touches u some)
 
--- completing the slot of one more entry
+-- after the slots of i entries and of the next were completed, those of i + 1 are
 pub keeps_more : {p : Plan} {generation : ℕ} {es : List Entry} {i : ℕ} {old mid new : Disk} {was now : Option Unwritten} → IsPlan p →
     IsDirectory p.geometry es → i < length es
     → Keeps p generation es old was mid None → KeepsOne p generation es i mid new now → Keeps p generation es old was new now
@@ -352,24 +352,24 @@ keeps_more {p} {generation} {es} {i} {old} {mid} {new} {was} {now} fits is withi
       slot_stays,
     )
 
--- after the last entry all are complete
+-- if each entry is complete, all are
 pub all_complete : (image : Image) (p : Plan) (generation : ℕ) (es : List Entry) →
     ((i : ℕ) → i < length es → IsComplete image p generation es i) → AreComplete image p generation es
 all_complete image p generation es each n s is_n none beside = search (arith, found_first p es n s beside)
 
--- ---- where nothing is unwritten
+-- ---- no cluster is unwritten
 
--- if no checkpoint is frozen, nothing is unwritten
+-- if no checkpoint is frozen, no cluster is unwritten
 pub none_idle : (b : Books) (o : Option Unwritten) → MayHaveUnwritten b o → b.frozen_size ≡ None → o ≡ None
 none_idle b o has idle = grind (arith, nat_tests)
 
--- books with nothing unwritten
+-- books with no unwritten cluster are valid
 pub without : (b : Books) {o : Option Unwritten} → o ≡ None → MayHaveUnwritten b o
 without b none = subst (MayHaveUnwritten b) (sym none) tt
 
--- ---- what is put leaves it
+-- ---- a write of a frame keeps the unwritten cluster
 
--- an object keeps its slot, while the frame there is torn
+-- marking an object's frame as torn keeps the unwritten cluster
 held_torn : (b : Books) (o : Option Unwritten) {n : ℕ} (q : Place) → n < length b.frozen → slot_of q ≡ Some (slot_for b.frozen n) →
     MayHaveUnwritten b o → MayHaveUnwritten (record b { frozen = set b.frozen n q }) o
 held_torn b o {n} q lt is has = grind (arith, nat_tests, object, set_here, slot_kept, set_there)
@@ -378,7 +378,7 @@ pub held_after : (b : Books) {o p : Option Unwritten} {n : ℕ} (q : Place) → 
     MayHaveUnwritten b o → (p ≡ None) ⊎ (p ≡ o) → MayHaveUnwritten (record b { frozen = set b.frozen n q; unwritten = p }) p
 held_after b {o} {p} {n} q lt is has either = grind (arith, nat_tests, without, held_torn)
 
--- the slot is that of an entry
+-- an unwritten cluster belongs to the slot of an entry
 pub entry_of : (b : Books) (o : Option Unwritten) → MayHaveUnwritten b o → IfUnwritten b.plan (frozen_generation b) (entries_of b.frozen) o
 entry_of b None has = tt
 entry_of b (Some u) has =
@@ -390,7 +390,7 @@ entry_of b (Some u) has =
       ap (place_length b.plan) entry.object_is ∙ has.sectors,
     )
 
--- ---- what a read of the device itself gives
+-- ---- reads of the device that don't touch the unwritten cluster
 
 shape_fits : (p : Plan) (n : ℕ) → IsShapeFor p.geometry n (shape_of p n)
 shape_fits p n = grind (arith, nat_tests)
@@ -412,13 +412,13 @@ module _ {disk : Disk} {b : Books} (is : IsDurable disk b) where
       let slot = half_of_slot b.plan (frozen_generation b) {slot = has.slot} (omega (arith, low, is.kept.frozen.few)) in
       record { starts = omega (arith, slot.starts, has.sector_is); ends = omega (arith, slot.ends, has.sector_is) }
 
-  -- sectors apart from the unwritten cluster, also after a write
+  -- sectors that don't overlap the unwritten cluster are read from the device, also after a write
   raw : (new : Image) {at : ℕ} (n : ℕ) →
       ((u : Unwritten) → b.unwritten ≡ Some u → IsApart (record { sector = at; length = place_length b.plan n }) (cluster_extent u))
       → bytes_at (mended new b.unwritten) at b.plan n ≡ bytes_at new at b.plan n
   raw new {at} n apart = grind (arith, nat_tests, apart_bytes)
 
-  -- the saved frames
+  -- a saved frame is read from the device
   saved_raw : {n : ℕ} → n < count_of b.plan
       → frame_in (seen_by disk.seen b) b.plan b.header.generation b.directory n
       ≡ frame_in disk.seen b.plan b.header.generation b.directory n
@@ -434,31 +434,31 @@ module _ {disk : Disk} {b : Books} (is : IsDurable disk b) where
   read_raw {n} lt = ap (frame_from b.plan.geometry n) (sym (saved_raw lt)) ∙ sym
       (read_at (seen_by disk.seen b) b.plan b.header.generation b.directory n lt)
 
-  -- the home frames
+  -- a home frame is read from the device
   pub home_raw : {n : ℕ} → n < count_of b.plan →
       bytes_at disk.seen (home_place b.plan n) b.plan n ≡ bytes_at (seen_by disk.seen b) (home_place b.plan n) b.plan n
   home_raw {n} lt = sym (raw disk.seen n (λ u some. home_apart (frozen_generation b) is.kept.plan lt (cluster_inside some)))
 
-  -- after a write, frames in the half of the working ones stay
+  -- after a write, a working frame is read from the device
   pub working_again : (new : Image) {s : ℕ} (n : ℕ) → s < b.plan.geometry.log
       → slot_bytes (mended new b.unwritten) b.plan (working_generation b) s n ≡ slot_bytes new b.plan (working_generation b) s n
   working_again new n low = raw new n (λ u some. other_half (working_generation b) (frozen_generation b) n is.kept.plan
       (later_half b (has_some some).running)
       low (cluster_inside some))
 
-  -- and frames in another slot of the frozen ones
+  -- a frozen frame in another slot than the unwritten cluster's is read from the device
   pub frozen_raw : (s n : ℕ) → ((u : Unwritten) → b.unwritten ≡ Some u → u.sector ≡ slot_sector b.plan (frozen_generation b) s → ⊥)
       → slot_bytes (seen_by disk.seen b) b.plan (frozen_generation b) s n ≡ slot_bytes disk.seen b.plan (frozen_generation b) s n
   frozen_raw s n other = search (arith, raw, has_some, apart_inside, frames_in_slots, slots_apart)
 
-  -- ---- and what its buffer gives, where the place of a frozen frame is that slot
+  -- ---- reads of the buffer, if a frozen frame is in the unwritten cluster's slot
 
   module _ (n : ℕ) {s sector : ℕ} (at : place_at b.frozen n ≡ Whole s) (here : sector ≡ slot_sector b.plan (frozen_generation b) s)
       (own : (u : Unwritten) × (b.unwritten ≡ Some u) × (u.sector ≡ sector)) where
     has : HasUnwritten b own.0
     has = has_some own.1
 
-    -- the frame is that of the object whose slot is unwritten
+    -- the object is the one whose slot is unwritten
     one : has.object ≡ n
     one =
         let same : has.slot ≡ s = omega (arith, has.sector_is, here, own.2) in
@@ -470,11 +470,11 @@ module _ {disk : Disk} {b : Books} (is : IsDurable disk b) where
     own_bytes : slot_bytes (seen_by disk.seen b) b.plan (frozen_generation b) s n ≡ shape_bytes (shape_of b.plan n) own.0.bytes
     own_bytes = grind (arith, nat_tests, packed_read, has, own_long)
 
-    -- the buffer encodes the frame
+    -- the buffer encodes the object's frame
     pub own_spelt : n < count_of b.plan → (u : Unwritten) × (b.unwritten ≡ Some u) × IsSpeltIn u (shape_of b.plan n) b.plan.geometry n
     own_spelt lt = grind (arith, nat_tests, shape_fits, own_long, own_bytes, has)
 
-    -- and the frame is read from the buffer
+    -- the frame read from the buffer is the object's
     pub own_frame : {read : Frame} → ((u : Unwritten) → b.unwritten ≡ Some u →
         read ≡ frame_from b.plan.geometry n (shape_bytes (shape_of b.plan n) u.bytes)) →
         read ≡ slot_frame (seen_by disk.seen b) b.plan (frozen_generation b) s n

@@ -1,4 +1,4 @@
--- The saved frames of all objects with one home are put together.
+-- The saved frames of all objects that share a home are gathered in one block.
 use Rattle.migrator.proofs.Names.{nat_tests, ℕ, Option, Result, List, sym, ap, arith, OnOk, Image, Disk}
 use Rattle.migrator.proofs.Names.{Entry, Shape, home_place, place_length, shape_of, frame_in, frame_slot_in, sector_or, shaped_at}
 use Rattle.migrator.proofs.Names.{slot_sector, shape_bytes, Plan, ReadsOnly, WritesAt, EndsInZeros}
@@ -10,7 +10,7 @@ use Rattle.std.proofs.Common.{◌≡◌, ◌+◌, ◌-◌, ◌*◌, ◌≤◌, �
 use Rattle.std.proofs.lemmas.List.{drop_at, take-append-le}
 use Rattle.std.proofs.lemmas.Slice.{between_is}
 
--- the frame read from the frame slot of an object is its saved frame
+-- the frame read from an object's slot, or from home if it has none, is its saved frame
 pub frame_slot_bytes : (image : Image) (p : Plan) (generation : ℕ) (es : List Entry) (n : ℕ) {at : ℕ} {o : Option ℕ} →
     o ≡ frame_slot_in p es n → at ≡ sector_or o (slot_sector p generation) (home_place p n) →
     shaped_at image at (shape_of p n) ≡ frame_in image p generation es n
@@ -27,19 +27,19 @@ one_gathered {T} {E} result old new p generation es n {at} {o} {s} block shape s
     ∙ ap (λ (i : Image). shaped_at i at (shape_of p n)) seen ∙
     frame_slot_bytes old p generation es n slot place) copied
 
--- ---- what a write after reads does
+-- ---- a write after reads
 
 pub home_touched : {old mid new : Disk} {p q : Plan} (n : ℕ) → q ≡ p → ReadsOnly old mid →
     WritesAt (home_place q n) (place_length q n) mid new → Touches (home_place p n) (place_length p n) old new
 home_touched {old} {mid} {new} {p} {q} n same reads writes = grind (arith, nat_tests)
 
--- the gathered frames are copied
+-- if the gathered block is written home, the home contains the saved frames
 pub gathered_copied : {T E : Type 0} (result : Result T E) (old new : Image) (p : Plan) (generation : ℕ) (es : List Entry) (n : ℕ)
     (block : List ℕ) → IsGathered old p generation es n block → OnOk result (HoldsHome p n block new) →
     OnOk result (IsCopied old new p generation es n)
 gathered_copied {T} {E} result old new p generation es n block are held = grind (arith, nat_tests)
 
--- the zeros are copied too
+-- if a block that ends in zeros is written, its sectors end in zeros
 pub zeros_there : {T E : Type 0} (result : Result T E) (p : Plan) (n : ℕ) (there block : List ℕ) → OnOk result (there ≡ block) →
     EndsInZeros p n block → OnOk result (EndsInZeros p n there)
 zeros_there {T} {E} result p n there block written zeros = grind (arith, nat_tests)
@@ -50,7 +50,7 @@ none_taken : (m : ℕ) (xs ys : List ℕ) → m ≡ 0 → take m xs ≡ take m y
 none_taken zero xs ys none = refl
 none_taken (suc m) xs ys none = absurd (omega (arith, none))
 
--- bytes were read into the front of a block
+-- facts about a block into whose front `run` was read
 module _ (s : Shape) (run block : List ℕ) (n : ℕ) (long : length run ≡ n) (le : shape_end s ≤ n) where
   pub place_read : shape_bytes s (run ++ drop n block) ≡ shape_bytes s run
   place_read = ap (λ (b : List ℕ). b ++ zeros (1024 - s.bytes)) (between_is (run ++ drop n block) s.offset (shape_end s)
@@ -74,14 +74,14 @@ module _ (s : Shape) (run block : List ℕ) (n : ℕ) (long : length run ≡ n) 
       ap (λ (b : List ℕ). b ++ zeros (1024 - t.bytes)) (none_taken (shape_end t - t.offset) (drop t.offset (run ++ drop n block))
       (drop t.offset block) (omega (arith, before, whole, le)))
 
--- what was read at its sectors
+-- a frame in the sectors that were read is the frame in the block
 pub place_there : {T E : Type 0} (result : Result T E) (s : Shape) (image : Image) (at : ℕ) (run block : List ℕ) (n : ℕ) →
     length run ≡ n → shape_end s ≤ n → OnOk result (sectors_from image at s.sectors ≡ run) →
     OnOk result (shape_bytes s (run ++ drop n block) ≡ shaped_at image at s)
 place_there {T} {E} result s image at run block n long le read =
     on_ok_weaker result (λ is. place_read s run block n long le ∙ ap (shape_bytes s) (sym is)) read
 
--- ---- an object that is alone in its home
+-- ---- an object that shares its home with no other
 
 pub only_one : {p : Plan} {number first m : ℕ} → IsFirstOf p number first → first ≡ number → HaveHome p number m → m ≡ 1 →
     (n : ℕ) → IsObject p.geometry n → home_place p n ≡ home_place p number → n ≡ number
@@ -90,7 +90,7 @@ only_one {p} {number} {first} {m} start is have one n is_n same =
     let high = have.all n is_n (omega (arith, low, is)) same in
     omega (arith, low, high, is, one)
 
--- its frame is all that the home holds
+-- if no other object shares the home, its frame is all that is to gather
 pub alone_gathered : {T E : Type 0} (result : Result T E) (image : Image) (p : Plan) (generation : ℕ) (es : List Entry) (number : ℕ)
     (block : List ℕ) → ((n : ℕ) → IsObject p.geometry n → home_place p n ≡ home_place p number → n ≡ number) →
     OnOk result (shape_bytes (shape_of p number) block ≡ frame_in image p generation es number) →
@@ -99,7 +99,7 @@ alone_gathered {T} {E} result image p generation es number block alone here =
     on_ok_weaker result (λ is n is_n same. subst (λ (k : ℕ). shape_bytes (shape_of p k) block ≡ frame_in image p generation es k)
     (sym (alone n is_n same)) is) here
 
--- the block that it fills has no rest
+-- a block that its frame fills has no other bytes
 pub alone_ended : (p : Plan) (number : ℕ) (block : List ℕ) → IsObject p.geometry number → length block ≡ 512 * place_length p number →
     (shape_of p number).bytes ≡ 512 * (shape_of p number).sectors → EndsInZeros p number block
 unfolding zeros

@@ -1,5 +1,5 @@
--- One object is saved anew: its frame lies in the half of the log that the saved generation used, and it is the one entry of the generation
--- after the next.
+-- One object is saved with a new frame. The frame lies in the half of the log that the saved generation used. It is the one entry of the
+-- generation after the next.
 use Rattle.migrator.proofs.Names.{nat_tests, IsIdle, MayReplace, Stays, ℕ, Option, None, List, [], length, get_or, set, refl, sym, ap, subst, arith, option_map}
 use Rattle.migrator.proofs.Names.{get_or_past, get_or_default, Frame, ObjectHeader, Geometry, frame_at, IsKeepable, AreKeptWords, Image, Disk, Entry, Extent}
 use Rattle.migrator.proofs.Names.{IsDirectory, entry_at, IsFrameOf, page_frame_bytes, frame_from, IsHeader, frame_in, frame_slot_in, slot_sector, half_sector}
@@ -31,7 +31,7 @@ words_fit {words} count fits = record {
       (sym (get_or_default words i d 0 lt)) (fits i);
 }
 
--- the bytes of a page encode its frame
+-- the sectors of a page, once written, encode its frame
 page_spelt : (p : Plan) {age n : ℕ} (image : Image) (at : ℕ) {f : Frame} → p.geometry.nodes ≤ n → IsKeepable p.geometry age n f →
     length (page_words f.content) ≡ 512 → sectors_from image at 9 ≡ page_frame_bytes f →
     IsFrameOf p.geometry age n (bytes_at image at p n) f
@@ -40,13 +40,13 @@ page_spelt p {age} {n} image at {f} le is few written =
     let spelt : page_frame_bytes f ≡ frame_bytes p.geometry n f = grind (arith, nat_tests) in
     (is, ap (shaped_at image at) shape ∙ ap (shape_bytes page_shape) written ∙ page_whole (page_frame_bytes f) (page_long f few) ∙ spelt)
 
--- ---- where all that is saved is home
+-- ---- if all saved objects are home
 
 module _ {size : ℕ} {image : Image} {b : Books} (kept : IsIntact size image b) (home : b.header.entries ≡ 0) where
   none_saved : (n : ℕ) → frame_slot_in b.plan b.directory n ≡ None
   none_saved n = no_entries b.plan b.directory n (kept.count ∙ home)
 
-  -- the saved frame of an object lies at home
+  -- the saved frame of each object is at home
   pub lies_home : (n : ℕ) → frame_in image b.plan b.header.generation b.directory n ≡ bytes_at image (home_place b.plan n) b.plan n
   lies_home n = at_home image b.plan b.header.generation b.directory n (none_saved n)
 
@@ -54,7 +54,7 @@ module _ {size : ℕ} {image : Image} {b : Books} (kept : IsIntact size image b)
       ≡ frame_from b.plan.geometry n (bytes_at image (home_place b.plan n) b.plan n)
   saved_read {n} lt = read_at image b.plan b.header.generation b.directory n lt ∙ ap (frame_from b.plan.geometry n) (lies_home n)
 
-  -- a number with a page's role has an object
+  -- if a saved frame has the role of a page, its number is an object's
   page_known : {n : ℕ} → (frame_at (frames_read image b.plan b.header.generation b.directory) n).header.role ≡ role.Page →
       n < count_of b.plan
   page_known {n} page = grind (arith, nat_tests, get_or_past, length_read)
@@ -63,7 +63,7 @@ module _ {size : ℕ} {image : Image} {b : Books} (kept : IsIntact size image b)
       IsKeepable b.plan.geometry b.header.age n (frame_at (frames_read image b.plan b.header.generation b.directory) n)
   saved_keepable {n} lt = rw (read_at image b.plan b.header.generation b.directory n lt) (kept.saved n lt).0
 
--- the header that was read from the home is the saved one
+-- the header read from an object's home is the saved one
 pub header_read : {old : Image} {size : ℕ} (new : Image) {b : Books} → IsIntact size old b → b.header.entries ≡ 0 →
     {n at : ℕ} {shape : Shape} → n < count_of b.plan → at ≡ home_place b.plan n → shape ≡ shape_of b.plan n
     → (bytes_at new (home_place b.plan n) b.plan n ≡ bytes_at old (home_place b.plan n) b.plan n) → {header : ObjectHeader} →
@@ -74,11 +74,11 @@ header_read {old} {size} new {b} kept home {n} {at} lt place shape_is same is =
     ∙ ap (λ (bytes : List ℕ). (frame_from b.plan.geometry n bytes).header) same
     ∙ sym (ap (λ (f : Frame). f.header) (saved_read kept home lt))
 
--- ---- and no checkpoint is on its way
+-- ---- if all saved objects are home, and no checkpoint is frozen
 
 module _ {size : ℕ} {image : Image} {b : Books} (kept : IsIntact size image b) (free : b.frozen_size ≡ None) (home : b.header.entries ≡ 0)
   where
-    -- the half of the saved generation lies apart from all that is kept
+    -- the half of the saved generation overlaps no frame that the books name
     spares_half : (g : ℕ) {e : Extent} → g % 2 ≡ b.header.generation % 2 → IsInside e
         (half_extent b.plan.version b.plan.geometry (half_sector b.plan g)) → SparesKept b e
     spares_half g {e} same inside =
@@ -89,7 +89,7 @@ module _ {size : ℕ} {image : Image} {b : Books} (kept : IsIntact size image b)
           half_spares (working_generation b) g kept.plan (idle_half b free g same) kept.working.table kept.working.few inside,
         )
 
--- ---- a page is written into the first slot of that half
+-- ---- a page is written into slot 0 of that half
 
 module _ {old new : Disk} {b : Books} (is : IsDurable old b) (free : b.frozen_size ≡ None) (home : b.header.entries ≡ 0)
     (writes : WritesAt (slot_sector b.plan b.header.generation 0) 9 old new) where
@@ -114,7 +114,7 @@ module _ {old new : Disk} {b : Books} (is : IsDurable old b) (free : b.frozen_si
         goes_seen (goes_spared {b = b} {c = b} refl refl refl apart (touches mended_writes)),
       )
 
-  -- the slot encodes the page with its new words, at each age from the saved one on
+  -- the slot encodes the page with its new words, for each age above the saved one
   pub spelt_page : (n : ℕ) {header : ObjectHeader} {words : List ℕ} → (frame_at (stored_on old b).saved.frames n).header.role ≡ role.Page →
       header ≡ (frame_at (stored_on old b).saved.frames n).header → AreKeptWords 512 words
       → sectors_from new.seen (slot_sector b.plan b.header.generation 0) 9 ≡ page_frame_bytes
@@ -129,7 +129,7 @@ module _ {old new : Disk} {b : Books} (is : IsDurable old b) (free : b.frozen_si
       page_frame_bytes (record { header = h; content = content.Page words })) same written in
       page_spelt b.plan new.seen (slot_sector b.plan b.header.generation 0) keepable.kind.0 keepable fits.count_is there
 
--- ---- the object of that slot is saved anew
+-- ---- the object in that slot is saved with its new frame
 
 abbrev pub one_entry : ℕ → List Entry
 one_entry n = record { object = n; slot = 0 } ∷ []
@@ -208,17 +208,17 @@ module _ {disk : Disk} {b : Books} {n age : ℕ} (may : MayReplace disk b n age)
       ≡ on_snapshots (replaced age n (first_frame disk.seen b n)) (stored_on disk b)
   replaced_on = idle_stored (replaced_header age b) (one_entry n) may.stands may.free (replaced age n frame) replaced_stored
 
--- no checkpoint is frozen
+-- if there is no frozen state, no checkpoint size is recorded
 pub size_none : (f : ℕ → FrozenPuts) (o : Option ℕ) → option_map f o ≡ None → o ≡ None
 size_none f o is = grind (arith, nat_tests)
 
--- ---- the write, and then the commit
+-- ---- the write of the page, and then the commit
 
 module _ {old mid : Disk} {b : Books} {n age : ℕ} {words : List ℕ} (idle : IsIdle old b) (stays : Stays old mid b b)
     (may : MayJournal age n (stored_on old b).saved)
     (spelt : IsFrameOf b.plan.geometry age n (first_bytes mid.seen b n) (with_words words (frame_at (stored_on old b).saved.frames n)))
   where
-    -- the slot encodes a frame, and this is the page
+    -- the slot encodes a frame: the page with its new words
     found : IsFrameOf b.plan.geometry age n (first_bytes mid.seen b n) (first_frame mid.seen b n)
         × (first_frame mid.seen b n ≡ with_words words (frame_at (stored_on old b).saved.frames n))
     found = bytes_spelt b.plan.geometry age n (first_bytes mid.seen b n) (with_words words (frame_at (stored_on old b).saved.frames n))

@@ -1,4 +1,4 @@
--- Writes outside the sectors that a store keeps.
+-- Writes that don't touch the sectors of a store's frames.
 use Rattle.migrator.proofs.Names.{nat_tests, IsRunning, ℕ, refl, subst, Image, Disk, leaves_weaker, Extent, Encodes, SavedState, Books, saved_state}
 use Rattle.migrator.proofs.Names.{LeavesState, GoesOnDisk, kept_of, Holds, LeavesSaved, Spares, Touches, None, List, set, arith, range_with_len, same_lists}
 use Rattle.migrator.proofs.Names.{length-set, get_or-set_same, get_or-set_other, length-map-range_with_len, get_or-map-range_with_len, Elsewhere, entry_at}
@@ -9,18 +9,18 @@ use Rattle.std.specs.Prelude.{map}
 use Rattle.std.proofs.Common.{◌≡◌, ◌<◌}
 use Rattle.migrator.proofs.PlacesApart.{mended_disk, sound_spared, moments_spared, frame_stays, state_stays, bytes_stay}
 
--- an image that encodes a saved state holds its frames
+-- an image that encodes a saved state holds the frames of that state
 pub holds : {size : ℕ} {c : Image} {s : SavedState} → Encodes c size s → Holds size c (kept_of s)
 holds {s} is = (s, is, refl)
 
--- from one disk and books to others, as a read sees them, the saved state stays
+-- from `old` with books b to `new` with books c, the saved state stays; for disks as a read sees them
 pub record GoesOnSeen (old new : Disk) (b c : Books) : Type 0 where
   pub plan : c.plan ≡ b.plan
   pub size : new.sectors ≡ old.sectors
   pub sound : LeavesState old (saved_state old.seen b) → LeavesState new (saved_state new.seen c)
   pub any_moment : LeavesState old (saved_state old.seen b) → LeavesSaved old new (kept_of (saved_state old.seen b))
 
--- the same for a device with an unwritten cluster in memory
+-- the same for devices on which a cluster is unwritten and in memory
 pub goes_seen : {old new : Disk} {b c : Books} → GoesOnSeen (mended_disk old b.unwritten) (mended_disk new c.unwritten) b c →
     GoesOnDisk old new b c
 goes_seen {old} {new} {b} {c} goes = grind (arith, nat_tests)
@@ -39,9 +39,9 @@ goes_spared {old} {new} {b} {c} {e} plan header directory spares writes = record
       (λ x. Holds old.sectors x (kept_of (saved_state old.seen b))) (λ x is. holds is) (moments_spared spares writes sound);
 }
 
--- ---- lists by number
+-- ---- lists made number by number
 
--- one item of a list has changed
+-- if g differs from f only at k, where it gives x, its list is the list of f with x at k
 pub map_set : {X : Type 0} (f g : ℕ → X) (n k : ℕ) (x : X) → k < n → g k ≡ x → ((i : ℕ) → i < n → (i ≡ k → ⊥) → g i ≡ f i) →
     map g (range_with_len 0 n) ≡ set (map f (range_with_len 0 n)) k x
 map_set {X} f g n k x within here others =
@@ -56,13 +56,13 @@ map_set {X} f g n k x within here others =
       get_or-set_other,
     )
 
--- ---- what was put
+-- ---- the frames written to a half
 
 put_same : (new old : Image) (p : Plan) (g h n : ℕ) (place : Place) → ((s : ℕ) → place ≡ Whole s →
     slot_bytes new p g s n ≡ slot_bytes old p h s n) → put_of new p g n place ≡ put_of old p h n place
 put_same new old p g h n place same = grind (arith, nat_tests)
 
--- frames whose bytes are the same are the same
+-- if the bytes of all written frames are the same, so are the frames
 pub puts_same : (p : Plan) (g h : ℕ) (ps : List Place) (old new : Image) →
     ((n s : ℕ) → n < count_of p → place_at ps n ≡ Whole s → slot_bytes new p g s n ≡ slot_bytes old p h s n) →
     puts_in new p g ps ≡ puts_in old p h ps
@@ -85,19 +85,19 @@ module _ (p : Plan) (generation : ℕ) (ps : List Place) {e : Extent} {old new :
   pub are_put_on : ArePut old p generation ps → ArePut new p generation ps
   are_put_on are = are_put_same slot_stays are
 
--- ---- all of it
+-- ---- all frames
 
 pub stored_same : (new old : Image) (b : Books) → puts_in new b.plan (working_generation b) b.working
     ≡ puts_in old b.plan (working_generation b) b.working → puts_in new b.plan (frozen_generation b) b.frozen
     ≡ puts_in old b.plan (frozen_generation b) b.frozen → saved_state new b ≡ saved_state old b → stored_in new b ≡ stored_in old b
 stored_same new old b working frozen saved = grind (arith, nat_tests)
 
--- the saved state can still be read
+-- if no sector of a saved state changes, it can still be read
 pub readable_stays : {size : ℕ} {p : Plan} {h : CheckpointHeader} {es : List Entry} {e : Extent} {old new : Image} →
     SparesFrames p h.generation es e → Elsewhere e.sector e.length old new → IsReadable size old p h es → IsReadable size new p h es
 readable_stays {size} {p} {h} {es} {e} {old} {new} spares change is = grind (arith, nat_tests, spelt_same, frame_stays)
 
--- the frames of a home stay
+-- if no sector of saved frames changes, the frames of a home stay
 pub home_stays : (b : Books) {e : Extent} {old new : Image} → SparesFrames b.plan b.header.generation b.directory e →
     Elsewhere e.sector e.length old new → (i : ℕ) → IsPlan b.plan → (entry_at b.directory i).object < count_of b.plan
     → IsApart (home_extent b.plan (entry_at b.directory i).object) e → IsHome old b.plan b.header.generation b.directory i →
@@ -123,7 +123,7 @@ module _ (size : ℕ) {b : Books} {e : Extent} {old new : Image} (spares : Spare
           are_put_on b.plan (working_generation b) b.working spares.working change kept.working,
         )
 
--- if no checkpoint is frozen, no frame is frozen
+-- if no checkpoint is frozen, no object has a frozen frame
 pub nowhere_frozen : {size : ℕ} {image : Image} {b : Books} → IsIntact size image b → b.frozen_size ≡ None → (n : ℕ) →
     place_at b.frozen n ≡ Nowhere
 nowhere_frozen {b} kept idle = subst (IsRunning b) idle kept.running

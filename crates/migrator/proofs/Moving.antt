@@ -1,4 +1,4 @@
--- Saved frames go home.
+-- Saved frames are copied home.
 use Rattle.migrator.proofs.Names.{nat_tests, ℕ, Option, Some, None, List, length, refl, sym, ap, subst, arith, Image, Disk, LeavesOnly, leaves_on, entry_at}
 use Rattle.migrator.proofs.Names.{count_of, Plan, IsPlan, apart_turned, own_slot, home_place, place_length, places_apart, MovedBy, home_extent, place_extent}
 use Rattle.migrator.proofs.Names.{Place, slot_of, IsTable, taken_count, IsCopied, IsFirst, SavedFrames, Holds, Books, IsDurable, seen_by, Stored, GoesOnDisk}
@@ -16,7 +16,7 @@ use Rattle.migrator.proofs.Publishing.{with_header, idle_kept, idle_stored}
 use Rattle.migrator.proofs.Publishing.{may_adopt_idle}
 use Rattle.migrator.proofs.Committing.{directory_spares}
 
--- ---- where some of what is saved lies in the log no checkpoint is on its way
+-- while entries remain in the log, no checkpoint is frozen
 
 not_running : (b : Books) (o : Option ℕ) → IsRunning b o → 0 < b.header.entries → o ≡ None
 not_running b o running some = grind (arith, nat_tests)
@@ -24,7 +24,7 @@ not_running b o running some = grind (arith, nat_tests)
 pub no_checkpoint : {size : ℕ} {image : Image} {b : Books} → IsIntact size image b → 0 < b.header.entries → b.frozen_size ≡ None
 no_checkpoint {b} kept some = not_running b b.frozen_size kept.running some
 
--- sectors that hold no frame that was put: a home
+-- homes don't overlap slots with written frames
 puts_home : {p : Plan} (generation : ℕ) {m : ℕ} {ps : List Place} → IsPlan p → IsTable ps → taken_count ps ≤ p.geometry.log →
     m < count_of p → SparesPuts p generation ps (home_extent p m)
 puts_home {p} generation {m} fits table few within n s lt is =
@@ -35,7 +35,7 @@ puts_home {p} generation {m} fits table few within n s lt is =
 abbrev pub moved_books : Books → ℕ → Books
 moved_books b k = record b { moved = b.moved + k }
 
--- one more frame is home
+-- if the frame of the next entry is home, one more entry has been moved
 moved_one : {size : ℕ} {image : Image} {b : Books} → IsIntact size image b → b.moved < b.header.entries →
     IsHome image b.plan b.header.generation b.directory b.moved → IsIntact size image (moved_books b 1)
 moved_one {size} {image} {b} kept some home = grind (arith, nat_tests)
@@ -47,7 +47,7 @@ module _ {old : Disk} (new : Disk) {b : Books} (is : IsDurable old b) (some : b.
   written : b.unwritten ≡ None
   written = none_idle b b.unwritten is.unwritten none
 
-  -- ---- the next frame is copied
+  -- ---- the next entry's frame is copied
 
   module _ (first : IsFirst b.plan b.directory b.moved)
       (touches : Touches (home_place b.plan (entry_at b.directory b.moved).object)
@@ -111,13 +111,13 @@ module _ {old : Disk} (new : Disk) {b : Books} (is : IsDurable old b) (some : b.
           unwritten = without (moved_books b 1) written;
         }
 
-  -- ---- it went home with the one before it
+  -- ---- the next entry's frame was copied with the one before it
 
   pub passed_durable : 0 < b.moved → home_place b.plan (entry_at b.directory (b.moved - 1)).object
       ≡ home_place b.plan (entry_at b.directory b.moved).object → IsDurable old (moved_books b 1)
   passed_durable one same = grind (arith, nat_tests)
 
--- ---- one after the other
+-- ---- one entry after another
 
 pub goes_trans : (old mid new : Disk) (a b c : Books) → (stored_in (seen_by mid.seen b) b).saved
     ≡ (stored_in (seen_by old.seen a) a).saved → GoesOnDisk old mid a b → GoesOnDisk mid new b c → GoesOnDisk old new a c
@@ -135,13 +135,13 @@ goes_trans old mid new a b c same first second = record {
 pub goes_none : (disk : Disk) (b : Books) → ((c : Image) → disk.left_since disk.moment c → disk.may_leave c) → GoesOnDisk disk disk b b
 goes_none disk b only_now = grind (arith, nat_tests)
 
--- ---- saved frames go home one after the other
+-- ---- a series of entries
 
 module _ {disk : Disk} {b : Books} (only_now : (c : Image) → disk.left_since disk.moment c → disk.may_leave c) where
   pub moved_none : b.moved ≤ b.header.entries → MovedBy disk disk b b 0
   moved_none few = grind (arith, nat_tests)
 
-  -- the next frame is home already, and no call was made
+  -- if the next entry's frame is home already, the entry is moved without a call
   pub moved_on : MovedBy disk disk b (moved_books b 1) 1
   moved_on = grind (arith, nat_tests)
 
@@ -167,7 +167,7 @@ next_low so_far few lt = subst (λ (x : Books). x.moved < x.header.entries) (sym
 move_left : {entries m count some : ℕ} → m ≤ entries → IsLesser some count (entries - m) → entries - (m + some) ≡ entries - m - count
 move_left few lesser = ⊎_elim (λ e. omega (arith, e, few)) (λ e. omega (arith, e, few, lesser.0)) lesser.2
 
--- the device failed while some frames were copied home
+-- the device failed after some frames were copied home
 pub migrates_part : {T E U F : Type 0} {old mid : Disk} {a b : Books} {count k : ℕ} {e : E} {r : Result U F} → IsDurable mid b →
     IsSoundOn old a → MovedBy old mid a b k → IsErr r → Counts {T = T} old mid (Err e) → Migrates old mid a b count r
 migrates_part {T} {E} {U} {F} {old} {mid} {a} {b} {count} {k} {e} {r} stands sound so_far failed counts = grind (arith, nat_tests)
@@ -184,14 +184,14 @@ module _ {old mid : Disk} {a b : Books} {count some : ℕ} (few : a.moved ≤ a.
   pub left_number : a.header.entries - a.moved - some ≡ a.header.entries - a.moved - count
   left_number = omega (arith, left_is)
 
-  -- not all frames are home yet, or all were before
+  -- frames are left to copy, or none were to begin with
   pub migrates_left : {T E : Type 0} {value : T} → IsDurable mid b → IsSoundOn old a →
       (b.header.entries ≡ 0) ⊎ (b.moved < b.header.entries) → mid.failures ≡ old.failures →
       Migrates {T = T} {E = E} old mid a b count (Ok value)
   migrates_left {T} {E} {value} stands sound why none =
       let same : b.header.entries ≡ a.header.entries = ap (λ (x : Books). x.header.entries) so_far.books in grind (arith, nat_tests)
 
-  -- all frames are home
+  -- facts if all frames are home
   module _ (all : b.moved ≡ b.header.entries) where
     all_old : a.moved + some ≡ a.header.entries
     all_old = subst (λ (x : Books). x.moved ≡ x.header.entries) so_far.books all
@@ -199,13 +199,13 @@ module _ {old mid : Disk} {a b : Books} {count some : ℕ} (few : a.moved ≤ a.
     pub all_number : 0 ≡ a.header.entries - a.moved - count
     all_number = omega (arith, all_old, lesser.0)
 
-    -- all frames are home, and a header has to say so
+    -- all frames are home, and a header that says so is published
     pub migrates_all : {T E U F : Type 0} {new : Disk} {c : Books} {r : Result T E} {s : Result U F} → IsSoundOn old a →
         mid.failures ≡ old.failures → Publishes mid new b c (on_snapshots all_moved (stored_on mid b)) r → (is_err s ≡ is_err r) →
         Migrates old new a c count s
     migrates_all {T} {E} {U} {F} {new} {c} {r} {s} sound none is same = grind (arith, nat_tests)
 
--- ---- all that is saved is home, and a header says so
+-- ---- all saved frames are home, and a header says so
 
 no_directory : (p : Plan) → IsDirectory p.geometry []
 no_directory p = grind (arith, nat_tests)
@@ -223,7 +223,7 @@ module _ {disk : Disk} {b : Books} (may : MayFinish disk b) where
   kept : IsIntact disk.sectors disk.seen b
   kept = idle_kept header [] may.stands idle
 
-  -- the home frame of an object is its saved frame
+  -- an object's home frame is its saved frame
   same_frame : {n : ℕ} → n < count_of b.plan → frame_in disk.seen b.plan b.header.generation [] n
       ≡ frame_in disk.seen b.plan b.header.generation b.directory n
   same_frame {n} lt = by (frame_slot_in b.plan b.directory n) refl where

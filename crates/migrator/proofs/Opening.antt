@@ -1,4 +1,4 @@
--- Opening: reads one after the other, and the frames that they find.
+-- Opening a device: its reads, and the frames that they find.
 use Rattle.migrator.proofs.Names.{nat_tests, ℕ, Err, List, [], refl, sym, subst, inl, inr, arith, range_with_len, cases_lt, map-range_with_len_more, Frame}
 use Rattle.migrator.proofs.Names.{Image, Disk, Only, agrees_is, leaves_weaker, Entry, CheckpointHeader, HasPlan, HasHeader, HasDirectory, Encodes, count_of}
 use Rattle.migrator.proofs.Names.{IsSpelt, AreSpelt, frame_read, frames_read, state_in, Plan, denotes, ReadsOnly, OpenFault, IsBadAt, IsBadFor, LeavesState}
@@ -20,19 +20,19 @@ use Rattle.layout.specs.declared.open_fault.OpenFault.TheVariants as refusal
 use Rattle.migrator.proofs.Tables.{blank_at, blank_table, tally-blank}
 use Rattle.migrator.proofs.Putting.{puts_blank}
 
--- one read after another
+-- two reads in a row only read
 pub reads_more : {a b c : Disk} → ReadsOnly a b → ReadsOnly b c → ReadsOnly a c
 reads_more {a} {b} {c} first second = grind (arith, nat_tests)
 
--- a sync before the reads
+-- a sync and then reads only read
 pub only_reads_on : {a b c : Disk} → OnlyReads a b → ReadsOnly b c → OnlyReads a c
 only_reads_on {a} {b} {c} first second = grind (arith, nat_tests)
 
--- no read
+-- without a call, the device was only read
 pub reads_none : {disk : Disk} → ((c : Image) → disk.left_since disk.moment c → disk.may_leave c) → ReadsOnly disk disk
 reads_none {disk} only_now = grind (arith, nat_tests)
 
--- the first frames
+-- the frames of the first n objects
 abbrev pub frames_until : Image → Plan → ℕ → List Entry → ℕ → List Frame
 frames_until image p generation es k = map (frame_read image p generation es) (range_with_len 0 k)
 
@@ -56,9 +56,9 @@ spelt_more image p age generation es k below here n lt = elim (cases_lt n k) [
   | inr le ↦ let same : k ≡ n = omega (arith, lt, le) in subst (IsSpelt image p age generation es) same here
 ]
 
--- ---- why an image is refused
+-- ---- why an image is refused: a frame
 
--- the frame of some object is malformed
+-- if the frame of some object is malformed, the image is refused for reason 7
 pub bad_frame : {image : Image} {size : ℕ} {p : Plan} {h : CheckpointHeader} {es : List Entry} {n : ℕ} (e : OpenFault) →
     HasPlan image size p → HasHeader image p h → HasDirectory image p h es → n < count_of p → IsBadAt image p h es n e →
     IsBadFor image size e
@@ -67,7 +67,7 @@ bad_frame refusal.NoMemory plan header directory lt is = tt
 bad_frame {image} {size} {p} {h} {es} {n} (refusal.Bad reason) plan header directory lt is =
     rw is.0 (p, h, es, plan, header, directory, (n, lt, is.1))
 
--- a frame that is refused after other reads is refused for the bytes that are there
+-- a frame that is refused after other reads is refused because of its bytes in the image
 pub refused_same : (p : Plan) (h : CheckpointHeader) (es : List Entry) (n : ℕ) (old new : Image) (e : OpenFault) → new ≡ old →
     IsRefused p.geometry h.age n (frame_in new p h.generation es n) e → IsBadAt old p h es n e
 refused_same p h es n old new refusal.Failed same is = tt
@@ -75,7 +75,7 @@ refused_same p h es n old new refusal.NoMemory same is = tt
 refused_same p h es n old new (refusal.Bad reason) same is =
     (is.0, λ f spelt. is.1 f (subst (λ (i : Image). IsFrameOf p.geometry h.age n (frame_in i p h.generation es n) f) (sym same) spelt))
 
--- ---- a device that was read whole
+-- ---- all of a device was read
 
 -- if all is durable, each crash leaves the state that was read
 pub opened_sound : (disk : Disk) {p : Plan} {h : CheckpointHeader} {es : List Entry} → Only disk.seen disk →
@@ -84,9 +84,9 @@ pub opened_sound : (disk : Disk) {p : Plan} {h : CheckpointHeader} {es : List En
 opened_sound disk {p} {h} {es} only plan header directory spelt c left =
     rw (agrees_is c disk.seen (only c left)) (denotes disk.seen disk.sectors p h es plan header directory spelt)
 
--- ---- frames that are spelt are read, and never refused
+-- ---- frames with a valid encoding are read, and never refused
 
--- a frame read from bytes that depend only on the image
+-- a frame read from unchanged bytes is the one that they encode
 pub read_is : {g : Geometry} {age n : ℕ} (bytes : Image → List ℕ) {old mid : Image} {f read : Frame} → Agrees mid old →
     IsFrameOf g age n (bytes old) f → IsFrameOf g age n (bytes mid) read → read ≡ f
 read_is {g} {age} {n} bytes {old} {mid} {f} {read} same is found =
@@ -96,7 +96,7 @@ pub only_failed : {g : Geometry} {age n : ℕ} (bytes : Image → List ℕ) {old
     IsFrameOf g age n (bytes old) f → (e : OpenFault) → IsRefused g age n (bytes mid) e → e ≡ refusal.Failed
 only_failed {g} {age} {n} bytes {old} {mid} {f} same is e refused = grind (arith, nat_tests, agrees_is)
 
--- if such a failure is passed on, it is reported exactly if the device failed
+-- a failure that is passed on is counted exactly if the device failed
 pub failure_counts : {T U : Type 0} {old new : Disk} {e : OpenFault} {failed : Failed} → e ≡ refusal.Failed →
     CountsOpen {T = T} old new (Err e) → Counts {T = U} {E = Failed} old new (Err failed)
 failure_counts {T} {U} {old} {new} {e} {failed} is counts = grind (arith, nat_tests)
@@ -131,7 +131,7 @@ pub reads_store : {D : Type 0} {disk : D → Disk} {old now : DurableState D} {b
     ReadsStore disk now (record { beneath = back; books = old.books })
 reads_store {D} {disk} {old} {now} {back} same is reads = search (arith, read_stays reads is, same)
 
--- the slot of a valid frame is one of the log's
+-- a valid frame lies in a slot of the log
 pub whole_low : {image : Image} {p : Plan} {generation : ℕ} {ps : List Place} (n : ℕ) {s : ℕ} {place : Place} →
     ArePut image p generation ps → place ≡ place_at ps n → place ≡ Whole s → s < p.geometry.log
 whole_low n {s} are at is = let less = are.table.few n s (ap slot_of (sym at ∙ is)) in omega (arith, less, are.few)
@@ -140,13 +140,13 @@ frozen_is : (image : Image) (b : Books) (o : Option ℕ) {n : ℕ} → n < count
     → frozen_put (option_map (frozen_of image b) o) n ≡ put_of image b.plan (frozen_generation b) n (place_at b.frozen n)
 frozen_is image b o {n} lt running = grind (arith, nat_tests, put_is)
 
--- the newest frame that isn't a working one, by the place of the frozen one
+-- the frozen frame of an object or, if there is none, its saved one
 pub below_by : {size : ℕ} {image : Image} {b : Books} {n : ℕ} {place : Place} → n < count_of b.plan → IsIntact size image b →
     place_at b.frozen n ≡ place → put_or (put_of image b.plan (frozen_generation b) n place) (frame_at (stored_in image b).saved.frames n)
     ≡ below_at (stored_in image b) n
 below_by {size} {image} {b} {n} {place} lt kept at = grind (arith, nat_tests, frozen_is)
 
--- the newest frame, by the place of the working one
+-- the newest frame of an object: its working one or, if there is none, the frozen or saved one
 pub newest_by : (image : Image) (b : Books) {n : ℕ} {place : Place} → n < count_of b.plan → place_at b.working n ≡ place
     → put_or (put_of image b.plan (working_generation b) n place) (below_at (stored_in image b) n) ≡ newest (stored_in image b) n
 newest_by image b {n} {place} lt at = grind (arith, nat_tests, put_is)
@@ -175,7 +175,7 @@ pub plan_read : {image : Image} {size : ℕ} {bytes : List ℕ} {p : Plan} → i
     bytes ≡ superblock_bytes p → IsPlan p → HasPlan image size p
 plan_read {image} {size} {bytes} {p} is least whole spelt fits = grind (arith, nat_tests, total_reported)
 
--- ---- looking a slot up
+-- ---- finding a slot by binary search
 
 pub found_at : (es : List Entry) {n i : ℕ} {e : Entry} → AreRising es → i < length es → e ≡ entry_at es i → e.object ≡ n →
     slot_in es n ≡ Some e.slot
@@ -194,7 +194,7 @@ pub above_more : (es : List Entry) (n middle : ℕ) → AreRising es → middle 
     middle ≤ i → i < length es → n ≤ (entry_at es i).object
 above_more es n middle rising within less i le lt = grind (arith, nat_tests, rising_to)
 
--- ---- a device that was read whole holds a store
+-- ---- a store over a device that was read
 
 none_put : {image : Image} {p : Plan} {generation : ℕ} {ps : List Place} → ps ≡ replicate (count_of p) Nowhere →
     ArePut image p generation ps
@@ -242,14 +242,14 @@ module _ {old new : Disk} {p : Plan} {h : CheckpointHeader} {es : List Entry} {f
       (length (stored_in new.seen (first_books p h es fs ws)).saved.frames) Absent
   first_working = grind (arith, nat_tests, puts_blank, seen, blank_at, length_read)
 
-  -- the frames that were read are those of the store
+  -- the frames that were read are those saved in the store
   pub first_frames : frames_read old.seen p h.generation (take h.entries es) ≡ (stored_in new.seen (first_books p h es fs ws)).saved.frames
   first_frames = ap (λ (i : Image). frames_read i p h.generation (take h.entries es)) same
 
   pub first_durable : IsDurable new (first_books p h es fs ws)
   first_durable = record { kept = first_kept; unwritten = tt }
 
--- so a store is opened
+-- the store is open
 pub first_opens : {D : Type 0} {disk : D → Disk} {device back : D} {p : Plan} {h : CheckpointHeader} {es : List Entry} {fs ws : List Place}
     → OnlyReads (disk device) (disk back) → HasPlan (disk device).seen (disk device).sectors p
     → IsRead (disk device).seen p h es → fs ≡ replicate (count_of p) Nowhere → ws ≡ replicate (count_of p) Nowhere →

@@ -1,4 +1,4 @@
--- Frames that lie apart from one another, and writes outside them.
+-- Frames that don't overlap, and writes outside them.
 use Rattle.migrator.proofs.Names.{ℕ, zero, suc, Bool, true, false, not, nat_eq, Option, Some, None, List, [], length, refl, sym, ap, subst, inl, inr, arith}
 use Rattle.migrator.proofs.Names.{cases_eq, cases_lt, eq-eqb, Entry, IsDirectory, AreRising, entry_at, home_place, shape_of, slot_in, slot_beside}
 use Rattle.migrator.proofs.Names.{frame_slot_in, count_of, Plan, IsPlan, found_slot, own_slot, rising_to, IsWhole, alone, IsFirstOf, beside_behind, beside_here}
@@ -14,7 +14,7 @@ use Rattle.layout.proofs.Versions.{no_sectors}
 use Rattle.std.proofs.Common.{◌≡◌, ◌-◌, ◌<◌, ◌≤◌, ◌∷◌, ◌∙◌, ◌%◌, ◌+◌}
 use Rattle.std.specs.Prelude.{if◌then◌else◌, ◌&&◌}
 
--- ---- the first entry whose home is that of an object
+-- ---- the first entry whose object shares a home with object n
 
 pub none_beside : (p : Plan) (es : List Entry) (n : ℕ) → ((i : ℕ) → i < length es → home_place p (entry_at es i).object ≡ home_place p n →
     ⊥) → slot_beside p es n ≡ None
@@ -30,7 +30,7 @@ beside_at p (e ∷ es) n zero lt before is = beside_here p e es n is
 beside_at p (e ∷ es) n (suc i) lt before is = beside_behind p e es n (before 0 (omega arith)) ∙
     beside_at p es n i (omega (arith, lt)) (λ j less. before (suc j) (omega (arith, less))) is
 
--- a slot of the first entry that shares an object's home
+-- an entry has this slot, shares the home of n, and is the first that does
 pub record HasFirst (p : Plan) (es : List Entry) (n slot : ℕ) : Type 0 where
   pub index : ℕ
   pub within : index < length es
@@ -64,7 +64,7 @@ found_first p (e ∷ es) n s is = elim (cases_eq (home_place p e.object) (home_p
   behind e es k other before zero lt same = other same
   behind e es k other before (suc j) lt same = before j (omega (arith, lt)) same
 
--- if an entry shares the home, there is such a slot
+-- if an entry shares an object's home, `slot_beside` finds a slot
 some_beside : (p : Plan) (es : List Entry) (n i : ℕ) → i < length es → home_place p (entry_at es i).object ≡ home_place p n →
     slot_beside p es n ≡ None → ⊥
 some_beside p [] n i lt is none = omega (arith, lt)
@@ -74,21 +74,21 @@ some_beside p (e ∷ es) n (suc i) lt is none = elim (cases_eq (home_place p e.o
   | inr other ↦ some_beside p es n i (omega (arith, lt)) is (sym (beside_behind p e es n other) ∙ none)
 ]
 
--- an object whose frame fills its block alone has only its own slot
+-- an object whose frame fills its block can only have a slot of its own
 pub alone_beside : {p : Plan} {es : List Entry} {n : ℕ} → IsPlan p → IsDirectory p.geometry es → n < count_of p → IsWhole (shape_of p n) →
     slot_in es n ≡ None → slot_beside p es n ≡ None
 alone_beside {p} {es} {n} fits is lt own none = search (arith, none_beside, alone, own_slot)
 
--- the frame of a page fills its block alone
+-- a page's frame fills its block
 pub page_own : (p : Plan) {n : ℕ} → p.geometry.nodes ≤ n → IsWhole (shape_of p n)
 page_own p {n} le = grind (arith, nat_tests)
 
--- if there are no entries, no object has a slot
+-- without entries no object has a slot
 pub no_entries : (p : Plan) (es : List Entry) (n : ℕ) → length es ≡ 0 → frame_slot_in p es n ≡ None
 no_entries p [] n size = refl
 no_entries p (e ∷ es) n size = absurd (omega (arith, size))
 
--- an object without a frame slot doesn't share its home with one that has a slot
+-- an object without a frame slot shares no home with an object that has an entry
 pub frame_slots_differ : (p : Plan) (es : List Entry) (n m : ℕ) {t : ℕ} → slot_in es m ≡ Some t → frame_slot_in p es n ≡ None →
     home_place p n ≡ home_place p m → ⊥
 frame_slots_differ p es n m {t} has none same =
@@ -98,7 +98,7 @@ frame_slots_differ p es n m {t} has none same =
       beside_none None is = sym (beside_frame_slot p es n is) ∙ none
       beside_none (Some s) is = let never : None ≡ Some s = sym none ∙ own_frame_slot p es n is in absurd cc
 
--- a frame slot is a slot of some entry
+-- a frame's slot is one of the log's
 pub frame_slot_fits : (p : Plan) {es : List Entry} (n : ℕ) {s : ℕ} → IsDirectory p.geometry es → frame_slot_in p es n ≡ Some s →
     s < p.geometry.log
 frame_slot_fits p {es} n {s} is frame_slot =
@@ -117,7 +117,7 @@ not_above es {a} {b} rising le within = search (arith, cases_lt, rising_to)
 pub not_same : {a b : ℕ} → not (nat_eq a b) ≡ true → a ≡ b → ⊥
 not_same {a} {b} differs same = let never : false ≡ true = ap not (sym (eq-eqb a b same)) ∙ differs in cc
 
--- the first entry of a cluster comes after an entry of another home
+-- if the entry before has another home, an entry is the first of its home
 pub first_of : {p : Plan} {es : List Entry} {i : ℕ} → IsPlan p → IsDirectory p.geometry es → i < length es →
     (0 < i → home_place p (entry_at es (i - 1)).object ≡ home_place p (entry_at es i).object → ⊥) → IsFirst p es i
 first_of {p} {es} {i} fits is within other j less same =
@@ -129,7 +129,7 @@ first_of {p} {es} {i} fits is within other j less same =
     λ k lt. (is.each k (record { object = 0; slot = 0 }) lt).object in
     other (omega (arith, less)) (home_between fits (object i within) (object j before) low high (sym same) ∙ same)
 
--- ---- the search from the first number of a cluster on
+-- ---- the search from the first number of a cluster
 
 module _ (p : Plan) (es : List Entry) (n first at : ℕ) (fits : IsPlan p) (is : IsDirectory p.geometry es) (lt : n < count_of p)
     (start : IsFirstOf p n first)
@@ -141,7 +141,7 @@ module _ (p : Plan) (es : List Entry) (n first at : ℕ) (fits : IsPlan p) (is :
     none_below : (i : ℕ) → i < length es → i < at → home_place p (entry_at es i).object ≡ home_place p n → ⊥
     none_below i within less same = omega (arith, (start.least (entry_at es i).object (object i within) same), (below i less))
 
-    -- the entry there shares the home, or no entry does
+    -- the entry found there shares the home of n, or no entry does
     pub found_there : at < length es → home_place p (entry_at es at).object ≡ home_place p n →
         slot_beside p es n ≡ Some (entry_at es at).slot
     found_there within same = beside_at p es n at within (λ j less. none_below j (omega (arith, less, within)) less) same
@@ -157,7 +157,7 @@ module _ (p : Plan) (es : List Entry) (n first at : ℕ) (fits : IsPlan p) (is :
           other (omega (arith, le, within)) (shared ∙ start.home)
     ])
 
--- ---- where the frame of an object is read
+-- ---- where an object's frame is read
 
 pub in_frame_slot : (image : Image) (p : Plan) (generation : ℕ) (es : List Entry) (n : ℕ) {s : ℕ} → frame_slot_in p es n ≡ Some s →
     frame_in image p generation es n ≡ slot_bytes image p generation s n
@@ -177,7 +177,7 @@ apart_by : (o : Option ℕ) (p : Plan) (generation : ℕ) (es : List Entry) (n :
     → (frame_slot_in p es n ≡ None → IsApart (home_extent p n) e) → IsApart (frame_extent p generation es n) e
 apart_by o p generation es n e is slot home = grind (arith, nat_tests)
 
--- the frame of an object lies apart from sectors if both of its places do
+-- the frame of an object doesn't overlap e if neither its slot nor its home does
 pub frame_apart : (p : Plan) (generation : ℕ) (es : List Entry) (n : ℕ) (e : Extent) →
     ((s : ℕ) → frame_slot_in p es n ≡ Some s → IsApart (place_extent p generation s n) e)
     → (frame_slot_in p es n ≡ None → IsApart (home_extent p n) e) → IsApart (frame_extent p generation es n) e
@@ -192,7 +192,7 @@ place_inside p generation {s} n lt =
     let slot = slots_inside p generation s lt in
     record { starts = omega (arith, frame.starts, slot.starts); ends = omega (arith, frame.ends, slot.ends) }
 
--- a slot in one half, and sectors of the other
+-- a slot in one half doesn't overlap sectors of the other half
 pub other_half : {p : Plan} (a b : ℕ) {s : ℕ} (n : ℕ) {e : Extent} → IsPlan p → (a % 2 ≡ b % 2 → ⊥) → s < p.geometry.log →
     IsInside e (half_extent p.version p.geometry (half_sector p b)) → IsApart (place_extent p a s n) e
 other_half {p} a b {s} n {e} fits differ lt inside = search (arith, apart_inside, place_inside, halves_apart)
@@ -201,7 +201,7 @@ pub home_apart : {p : Plan} (generation : ℕ) {n : ℕ} {e : Extent} → IsPlan
     IsInside e (half_extent p.version p.geometry (half_sector p generation)) → IsApart (home_extent p n) e
 home_apart {p} generation {n} {e} fits lt inside = search (arith, apart_inside, home_extent, itself, places_spare_log)
 
--- the saved frames lie apart from the other half
+-- the saved frames don't overlap the other half
 pub spares_other : {p : Plan} (h : CheckpointHeader) {es : List Entry} (generation : ℕ) {e : Extent} → IsPlan p →
     IsDirectory p.geometry es → h.entries ≤ p.geometry.log → (h.generation % 2 ≡ generation % 2 → ⊥) →
     IsInside e (half_extent p.version p.geometry (half_sector p generation)) → Spares p h es e
@@ -217,7 +217,7 @@ spares_other {p} h {es} generation {e} fits is few differ inside = record {
       (λ _. home_apart generation fits lt inside);
 }
 
--- if all saved frames are home, they lie apart from both halves
+-- if all saved frames are home, they overlap neither half
 pub spares_log : {p : Plan} (h : CheckpointHeader) (es : List Entry) (generation : ℕ) {e : Extent} → IsPlan p → length es ≡ h.entries →
     h.entries ≡ 0 → IsInside e (half_extent p.version p.geometry (half_sector p generation)) → Spares p h es e
 spares_log {p} h es generation {e} fits count none inside = record {
@@ -229,7 +229,7 @@ spares_log {p} h es generation {e} fits count none inside = record {
       (λ _. home_apart generation fits lt inside);
 }
 
--- they lie apart from the home of an object whose frame is in the log
+-- saved frames don't overlap the home of an object whose frame is in the log
 pub spares_home : {p : Plan} {h : CheckpointHeader} {es : List Entry} {m t : ℕ} → IsPlan p → IsDirectory p.geometry es →
     h.entries ≤ p.geometry.log → m < count_of p → slot_in es m ≡ Some t → Spares p h es (home_extent p m)
 unfolding directory_length
@@ -255,14 +255,14 @@ spares_home {p} {h} {es} {m} {t} fits is few within has =
 pub homes_behind : {p : Plan} → IsPlan p → HomesAreBehind p
 homes_behind {p} fits n lt = (places_within p n fits lt).0
 
--- ---- writes apart from what a saved state is read from
+-- ---- writes outside the sectors of a saved state
 
--- a change of other sectors leaves these unchanged
+-- if d and e don't overlap, a change in e keeps the sectors of d
 pub stays : {d e : Extent} {old new : Image} → IsApart d e → Elsewhere e.sector e.length old new → SameFrom d.sector d.length old new
 stays {d} apart change i lt = ⊎_elim (λ le. change.before (d.sector + i) (omega (arith, le, lt)))
     (λ le. change.after (d.sector + i) (omega (arith, le))) apart
 
--- and the frame in these sectors
+-- if a frame doesn't overlap e, a change in e keeps it
 pub bytes_stay : {at : ℕ} (p : Plan) (n : ℕ) {e : Extent} {old new : Image} →
     IsApart (record { sector = at; length = place_length p n }) e → Elsewhere e.sector e.length old new →
     bytes_at new at p n ≡ bytes_at old at p n
@@ -285,7 +285,7 @@ spares_same {p} {h} {es} {e} {old} {new} spares change = record {
   frames = λ n lt. stays (spares.frames n lt) change;
 }
 
--- such a change leaves the saved state
+-- a change outside a saved state's sectors keeps the saved state
 pub denotes_on : {p : Plan} {h : CheckpointHeader} {es : List Entry} {fs : List Frame} {e : Extent} {size : ℕ} {old new : Image} →
     Spares p h es e → Elsewhere e.sector e.length old new → Encodes old size (record { plan = p; header = h; directory = es; frames = fs })
     → Encodes new size (record { plan = p; header = h; directory = es; frames = fs })
@@ -294,16 +294,16 @@ denotes_on {p} {h} {es} {fs} {e} {size} {old} {new} spares change was =
     (λ i lt. change.before (0 + i) (omega (arith, lt, spares.headers)))
     (spares_same spares change) was
 
--- ---- over a device
+-- ---- the same on a device
 
--- a write touches only its sectors
+-- a write changes only its own sectors
 pub touches : {at n : ℕ} {old new : Disk} → WritesAt at n old new → Touches at n old new
 touches writes = record { size = writes.size; elsewhere = writes.elsewhere; crash = writes.crash; any_moment = writes.any_moment }
 
 whole : (at n : ℕ) (disk : Disk) (c : Image) → disk.may_leave c → IsTorn at n disk c
 whole at n disk c left = (c, left, elsewhere_same at n c c (λ i. refl))
 
--- a read touches no sectors
+-- a read changes no sector
 pub reads_touch : {at n : ℕ} {old new : Disk} → ReadsOnly old new → Touches at n old new
 reads_touch {at} {n} {old} {new} reads = search (arith, elsewhere_same, whole, leaves_weaker)
 
@@ -316,16 +316,16 @@ module _ {old new : Disk} {p : Plan} {h : CheckpointHeader} {es : List Entry} {e
       Encodes c old.sectors (state_in old.seen p h es)
   left_spared sound c torn = denotes_on spares torn.2 (sound torn.0 torn.1)
 
-  -- each crash still leaves the saved state
+  -- after a write outside its sectors, each crash leaves the saved state
   pub sound_spared : LeavesState old (state_in old.seen p h es) → LeavesState new (state_in new.seen p h es)
   sound_spared sound c left = rw (writes.size, state_spared) (left_spared sound c (writes.crash c left))
 
-  -- so does a crash at each moment of the write
+  -- at each moment of such a write, a crash leaves the saved state
   pub moments_spared : LeavesState old (state_in old.seen p h es) → LeavesOnly old new
       (λ c. Encodes c old.sectors (state_in old.seen p h es))
   moments_spared sound = search (arith, leaves_weaker, left_spared)
 
--- ---- its sectors and the others
+-- ---- the sectors of an unwritten cluster, and all others
 
 mended_by : (image : Image) (u : Unwritten) (i : ℕ) {test : Bool} → (nat_le u.sector i && nat_lt i (u.sector + 8)) ≡ test →
     mended image (Some u) i ≡ (if test then image_of u.bytes (i - u.sector) else image i)
@@ -341,11 +341,11 @@ mended_before image u {i} lt = mended_by image u i {test = false} (grind (arith,
 mended_behind : (image : Image) (u : Unwritten) {i : ℕ} → u.sector + 8 ≤ i → mended image (Some u) i ≡ image i
 mended_behind image u {i} le = mended_by image u i {test = false} (grind (arith, nat_tests))
 
--- the image differs only in these sectors
+-- the mended image differs only in the sectors of the unwritten cluster
 pub mended_elsewhere : {image : Image} (u : Unwritten) → Elsewhere u.sector 8 image (mended image (Some u))
 mended_elsewhere {image} u = record { before = λ i lt. mended_before image u lt; after = λ i le. mended_behind image u le }
 
--- ---- what the buffer spells
+-- ---- what the buffer encodes
 
 pub unwritten_bytes : (sector : Option ℕ) {bytes : List ℕ} {u : Unwritten} → unwritten_of sector bytes ≡ Some u → u.bytes ≡ bytes
 unwritten_bytes sector {bytes} {u} is = grind (arith, nat_tests)
@@ -353,7 +353,7 @@ unwritten_bytes sector {bytes} {u} is = grind (arith, nat_tests)
 same_unwritten : {u v : Unwritten} → Some u ≡ Some v → u ≡ v
 same_unwritten e = cc
 
--- the frame that was read from the buffer is the one that the buffer encodes
+-- a frame read from the buffer is the one that the buffer encodes
 pub buffer_read : {g : Geometry} {n : ℕ} {o : Option Unwritten} {u : Unwritten} {shape : Shape} {bytes : List ℕ} {read : Frame} →
     o ≡ Some u → (v : Unwritten) × (o ≡ Some v) × IsSpeltIn v shape g n → bytes ≡ u.bytes →
     IsFrameOf g most n (shape_bytes shape bytes) read
@@ -363,7 +363,7 @@ buffer_read {g} {n} {u} {shape} {read} some has is found =
     let here = subst (λ (b : List ℕ). IsFrameOf g most n (shape_bytes shape b) read) is found in
     one_frame g most n (shape_bytes shape u.bytes) read (frame_from g n (shape_bytes shape u.bytes)) here spelt.spelt
 
--- ---- sectors that were touched
+-- ---- sectors that a write may change
 
 pub elsewhere_within : {at n : ℕ} {e : Extent} {old new : Image} → IsInside (record { sector = at; length = n }) e →
     Elsewhere at n old new → Elsewhere e.sector e.length old new
@@ -373,7 +373,7 @@ torn_within : (at n : ℕ) {e : Extent} (disk : Disk) (c : Image) → IsInside (
     IsTorn e.sector e.length disk c
 torn_within at n {e} disk c inside torn = (torn.0, torn.1, elsewhere_within inside torn.2)
 
--- touched sectors are among more sectors
+-- if the changed sectors lie in e, only sectors of e changed
 pub touches_within : {at n : ℕ} {e : Extent} {old new : Disk} → IsInside (record { sector = at; length = n }) e → Touches at n old new →
     Touches e.sector e.length old new
 touches_within {at} {n} {e} {old} {new} inside touches = search (arith, touches, elsewhere_within, torn_within, leaves_weaker)
@@ -381,16 +381,16 @@ touches_within {at} {n} {e} {old} {new} inside touches = search (arith, touches,
 torn_twice : {at n : ℕ} {old mid : Disk} → Touches at n old mid → (c : Image) → IsTorn at n mid c → IsTorn at n old c
 torn_twice {at} {n} {old} {mid} touches c torn = search (arith, touches, elsewhere_on)
 
--- two touches, one after the other
+-- two changes in a row within the same sectors are one such change
 pub touches_on : {at n : ℕ} {old mid new : Disk} → Touches at n old mid → Touches at n mid new → Touches at n old new
 touches_on {at} {n} {old} {mid} {new} first second = search (arith, elsewhere_on, torn_twice, leaves_on, leaves_weaker)
 
--- ---- a device as it gives what was written and what wasn't
+-- ---- a device with its unwritten cluster added
 
 abbrev pub mended_disk : Disk → Option Unwritten → Disk
 mended_disk disk o = record disk { seen = mended disk.seen o }
 
--- if nothing is unwritten, the mended image is the device's
+-- without an unwritten cluster, the mended image is the device's
 pub unmended : {image : Image} {o : Option Unwritten} → o ≡ None → mended image o ≡ image
 unmended {image} none = ap (mended image) none
 
@@ -429,9 +429,9 @@ writes_mended {at} {n} {old} {new} o writes = search (arith, elsewhere_mended, l
 pub reads_mended : {old new : Disk} (o : Option Unwritten) → ReadsOnly old new → ReadsOnly (mended_disk old o) (mended_disk new o)
 reads_mended {old} {new} o reads = search (arith, agrees_is, leaves_mended, elapses_mended)
 
--- ---- what lies apart from the slot
+-- ---- sectors outside the unwritten cluster
 
--- the bytes of other sectors are the device's
+-- in the mended image, bytes outside the unwritten cluster are the device's
 pub apart_bytes : (image : Image) (u : Unwritten) {at : ℕ} (p : Plan) (n : ℕ) →
     IsApart (record { sector = at; length = place_length p n }) (record { sector = u.sector; length = 8 }) →
     bytes_at (mended image (Some u)) at p n ≡ bytes_at image at p n

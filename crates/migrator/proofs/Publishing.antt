@@ -1,4 +1,4 @@
--- A directory is written, and a header is published over it.
+-- A directory is written, and then a header is published.
 use Rattle.migrator.proofs.Names.{IfOk-from_err, nat_tests, Snapshots, generation_after, working_generation, IsDirectory, IsHeader, AreSpelt, IsInside}
 use Rattle.migrator.proofs.Names.{half_extent, half_sector, half_start, directories_inside, First, Second, ArePut, slot_bytes, bytes_at, ap, IsDurable}
 use Rattle.migrator.proofs.Names.{IsIntact, Books, MayAdopt, Option, Unwritten, mended, saved_state, stored_in, stored_on, ℕ, Result, Ok, Err, List, refl, sym}
@@ -18,7 +18,7 @@ use Rattle.migrator.proofs.Committing.{directory_spares, committed_stored, may_c
 use Rattle.migrator.proofs.Completing.{IsCompleted, goes_after, has_after, keepable_at, kept_with, mid_kept, ready, stored_after, none_idle, without}
 use Rattle.migrator.proofs.Kept.{are_put_same, goes_seen, nowhere_frozen}
 
--- ---- where nothing is unwritten, the device has all
+-- ---- if no cluster is unwritten, reads of the device give all frames
 
 pub kept_raw : {disk : Disk} {b : Books} → b.unwritten ≡ None → IsDurable disk b → IsIntact disk.sectors disk.seen b
 kept_raw {disk} {b} none is = subst (λ (o : Option Unwritten). IsIntact disk.sectors (mended disk.seen o) b) none is.kept
@@ -27,9 +27,9 @@ pub stored_raw : (disk : Disk) (b : Books) → b.unwritten ≡ None → (c : Boo
     stored_on disk c ≡ stored_in disk.seen c
 stored_raw disk b none c same = ap (λ (o : Option Unwritten). stored_in (mended disk.seen o) c) (same ∙ none)
 
--- ---- the calls
+-- ---- the calls of a publish
 
--- the directory was written apart from all that is read
+-- the directory was written outside all sectors that the saved states need
 module _ {old mid : Disk} {b : Books} {next : CheckpointHeader} {fs : List Entry} (may : MayAdopt old b next fs)
     (writes : WritesAt (directory_sector b.plan next.generation) (directory_length b.plan.version next.entries) old mid) where
   abbrev p : Plan
@@ -59,7 +59,7 @@ module _ {old mid : Disk} {b : Books} {next : CheckpointHeader} {fs : List Entry
   mid_sound : LeavesState mid (saved mid.seen)
   mid_sound = sound_spared may.apart touched sound
 
-  -- if the write failed
+  -- while the directory is being written, a crash leaves the old saved state
   pub either_before : LeavesOnly old mid (λ c. Encodes c old.sectors (saved_state old.seen b)
       ⊎ Encodes c old.sectors (state_in old.seen b.plan next fs))
   either_before = leaves_weaker {old = old} {new = mid} {P = is_saved} (λ c. is_saved c ⊎ is_next c) (λ c is. inl is)
@@ -69,7 +69,7 @@ module _ {old mid : Disk} {b : Books} {next : CheckpointHeader} {fs : List Entry
     seen : Encodes mid.seen mid.sectors (saved mid.seen)
     seen = mid_sound mid.seen left
 
-    -- each crash leaves one committed header, which the new one may follow
+    -- each crash leaves the same committed header, which the next one may follow
     pub commits_one : CommitsOne mid
     commits_one c is = (mid_sound c is).header.spelt ∙ sym seen.header.spelt
 
@@ -89,7 +89,7 @@ module _ {old mid : Disk} {b : Books} {next : CheckpointHeader} {fs : List Entry
             (frame_stays p next.generation fs extent may.spares_next.frames writes.elsewhere n lt) (may.kept.saved n lt));
       }
 
-      -- an image with the new header denotes what is saved next
+      -- an image with the next header denotes the next saved state
       new_state : {c : Image} → HasNew next mid.seen c → is_next c
       new_state {c} has =
           subst (λ (s : SavedState). Encodes c old.sectors s) (state_stays may.spares_next.frames writes.elsewhere)
@@ -101,7 +101,7 @@ module _ {old mid : Disk} {b : Books} {next : CheckpointHeader} {fs : List Entry
           (old_denoted mid.seen is.could_be.0 c mid.sectors (saved mid.seen) next (homes_behind may.kept.plan) seen
           (mid_sound is.could_be.0 is.could_be.1) is.could_be.2 is.committed)
 
-      -- the whole run
+      -- during the whole call a crash leaves the old or the next saved state
       pub either_run : {new : Disk} → LeavesOnly mid new (λ c. IsOld next mid c ⊎ HasNew next mid.seen c)
           → LeavesOnly old new (λ c. Encodes c old.sectors (saved_state old.seen b)
           ⊎ Encodes c old.sectors (state_in old.seen b.plan next fs))
@@ -110,12 +110,12 @@ module _ {old mid : Disk} {b : Books} {next : CheckpointHeader} {fs : List Entry
           (leaves_weaker {old = mid} {new = new} {P = λ c. IsOld next mid c ⊎ HasNew next mid.seen c} (λ c. is_saved c ⊎ is_next c)
           (λ c. ⊎_elim (λ is. inl (old_state is)) (λ has. inr (new_state has))) run)
 
-      -- if it succeeded, each crash leaves the new saved state
+      -- if the publish succeeded, each crash leaves the next saved state
       pub saved_next : (new : Disk) → new.sectors ≡ mid.sectors → Only new.seen new → HasNew next mid.seen new.seen →
           LeavesState new (state_in old.seen b.plan next fs)
       saved_next new size only has c may_leave = rw (size ∙ writes.size, agrees_is c new.seen (only c may_leave)) (new_state has)
 
-  -- all sectors that are written
+  -- only the directory, and then the header slot, were written
   pub only_directory : SavesOnly p next old.seen mid.seen
   only_directory = record {
     between = mid.seen;
@@ -132,7 +132,7 @@ on_err {T} {E} {P} r p = grind (arith, nat_tests)
 pub on_ok : {T E P : Type 0} (r : Result T E) → P → OnOk r P
 on_ok {T} {E} {P} r p = grind (arith, nat_tests)
 
--- ---- the slots of a checkpoint were completed, and its header is adopted
+-- ---- the slots of a checkpoint were completed, and its header is published
 
 module _ {old mid : Disk} {b : Books} {o : Option Unwritten} {k age : ℕ} (may : MayCommitAt old b k age)
     (keeps : Keeps b.plan (frozen_generation b) (entries_of b.frozen) old b.unwritten mid o) where
@@ -170,38 +170,38 @@ module _ {old mid : Disk} {b : Books} {o : Option Unwritten} {k age : ℕ} (may 
         ∙ ap (λ (f : FrozenPuts). on_snapshots (committed puts age f) (stored_in mid.seen b)) now.frozen ∙
         ap (on_snapshots (committed puts age frozen)) now.stored
 
--- ---- failures that are counted over calls in a row
+-- ---- failures, counted over several calls
 
--- no failure is counted if all calls succeeded
+-- if all calls succeeded, no failure was counted
 pub ok_counts : {T E : Type 0} {old new : Disk} {value : T} → new.failures ≡ old.failures → Counts {T = T} {E = E} old new (Ok value)
 ok_counts {T} {E} {old} {new} {value} same = grind (arith, nat_tests)
 
--- a failure is counted, however it is passed on
+-- a failure was counted, even if it is returned as another error
 pub err_counts : {T E U F : Type 0} {old new : Disk} {e : E} {r : Result U F} → IsErr r → Counts {T = T} old new (Err e) → Counts old new r
 err_counts failed counts = record { never_falls = counts.never_falls; cause = (λ _. counts.cause.0 refl, λ _. failed) }
 
--- ---- a header is published after calls that change nothing that is stored
+-- ---- publishing a header after calls that change nothing stored
 
--- if each crash leaves the saved state, it leaves that or the next one
+-- each crash that leaves the saved frames leaves these or the next ones
 pub either_first : {old new : Disk} {saved next : SavedFrames} → LeavesSaved old new saved → LeavesEither old new saved next
 either_first {old} {new} {saved} {next} run = grind (arith, nat_tests)
 
--- an earlier call failed
+-- if an earlier call failed, nothing is published
 pub publishes_none : {T E U F : Type 0} {old new : Disk} {b c : Books} {next : Stored} {e : E} {r : Result U F} → Stays old new b c →
     IsSoundOn old b → IsErr r → Counts {T = T} old new (Err e) → Publishes old new b c next r
 publishes_none {T} {E} {U} {F} {old} {new} {b} {c} {next} {e} {r} stays sound failed counts = grind (arith, nat_tests)
 
--- the earlier calls succeeded
+-- a publish after successful calls that changed nothing stored is a publish from the state before these calls
 pub publishes_after : {T E : Type 0} {old mid new : Disk} {a b c : Books} {next after : Stored} {r : Result T E} → Stays old mid a b →
     IsSoundOn old a → mid.failures ≡ old.failures → next ≡ after → Publishes mid new b c next r → Publishes old new a c after r
 publishes_after {T} {E} {old} {mid} {new} {a} {b} {c} {next} {after} {r} stays sound none same is = grind (arith, nat_tests)
 
--- the state that is then saved, given in two ways
+-- a publish of `next` is one of any state equal to `next`
 pub publishes_as : {T E : Type 0} {old new : Disk} {b c : Books} {next after : Stored} {r : Result T E} → next ≡ after →
     Publishes old new b c next r → Publishes old new b c after r
 publishes_as {old = old} {new = new} {b = b} {c = c} {r = r} same is = subst (λ (s : Stored). Publishes old new b c s r) same is
 
--- ---- the call
+-- ---- the result of the call
 
 module _ {disk : Disk} {b : Books} {next : CheckpointHeader} {es : List Entry} (may : MayAdopt disk b next es) {new : Disk}
     (size : new.sectors ≡ disk.sectors)
@@ -238,7 +238,7 @@ module _ {disk : Disk} {b : Books} {next : CheckpointHeader} {es : List Entry} (
     cause = ok_counts none;
   }
 
-  -- the result after a failure
+  -- after a failure the books are unchanged
   pub left_publishes : {T E U F : Type 0} {e : E} {r : Result U F} → IsErr r → Counts {T = T} disk new (Err e) →
       Publishes disk new b b (stored_on disk (adopted next es b)) r
   left_publishes {r} failed counts =
@@ -250,7 +250,7 @@ module _ {disk : Disk} {b : Books} {next : CheckpointHeader} {es : List Entry} (
         err_counts failed counts,
       )
 
--- after the publish the frozen frames are the saved ones
+-- publishing the next header commits the frozen frames
 pub commits_by : {T E : Type 0} {old new : Disk} {b c : Books} {k age : ℕ} {r : Result T E} → MayCommitAt old b k age →
     Publishes old new b c (on_snapshots (committed puts age (frozen_of (seen_by old.seen b) b k)) (stored_on old b)) r →
     Commits old new b c age r
@@ -270,9 +270,9 @@ commits_by {old = old} {new = new} {b = b} {c = c} {k = k} {age = age} {r = r} m
   cause = is.cause;
 }
 
--- ---- where no checkpoint is on its way
+-- ---- if no checkpoint is frozen
 
--- books with another header and another directory
+-- the books with this header and directory
 abbrev pub with_header : Books → CheckpointHeader → List Entry → Books
 with_header b next es =
     record b { header = next; directory = es; moved = 0 }
@@ -281,7 +281,7 @@ no_places : (ps : List Place) → ((n : ℕ) → place_at ps n ≡ Nowhere) → 
 no_places [] none = refl
 no_places (p ∷ ps) none = rw (none zero, no_places ps (λ n. none (suc n)))
 
--- two generations use the same half
+-- generations with the same remainder mod 2 have the same slots
 pub slot_same : (image : Image) (plan : Plan) (g h : ℕ) → g % 2 ≡ h % 2 → (s n : ℕ) →
     slot_bytes image plan g s n ≡ slot_bytes image plan h s n
 slot_same image plan g h same s n = ap (λ (r : ℕ). bytes_at image (half_start plan (if r == 0 then First else Second) + 9 * s) plan n) same
@@ -345,7 +345,7 @@ module _ {disk : Disk} {b : Books} (next : CheckpointHeader) (es : List Entry) (
     pub may_adopt_idle : IsSoundOn disk b → b.header.sequence + 1 ≡ next.sequence → MayAdopt disk b next es
     may_adopt_idle sound follows = grind (arith, nat_tests, sound, none, seen, idle_books, kept_next, spares, spares_next)
 
--- ---- what can be kept at an age can be at a later one
+-- ---- a frame that may be kept at an age may be kept at a later one
 
 module _ (g : Geometry) (age later : ℕ) (le : age ≤ later) where
   pub keepable_later : {n : ℕ} {f : Frame} → IsKeepable g age n f → IsKeepable g later n f

@@ -1,4 +1,4 @@
--- A frame is written into its slot: what then holds of a device and its books.
+-- A frame is written into its slot: what the device and the books then store.
 use Rattle.migrator.proofs.Names.{IfOk-from_err, nat_tests, on_ok_weaker, MayPut, PutsFrame, Stores, ℕ, Bool, true, false, Option, Some, None, Result, List}
 use Rattle.migrator.proofs.Names.{length, set, refl, sym, ap, subst, arith, OnOk, OnErr, Frame, IsKeepable, Image, Disk, Failed, Extent, IsFrameOf, frame_bytes}
 use Rattle.migrator.proofs.Names.{half_sector, place_length, slot_sector, count_of, IsInside, half_extent, bytes_spelt, WritesAt, place_extent, most, Keeps}
@@ -19,7 +19,7 @@ use Rattle.migrator.proofs.Publishing.{err_counts, on_err}
 use Rattle.migrator.proofs.Putting.{length_puts}
 use Rattle.migrator.proofs.Moving.{goes_trans}
 
--- ---- among the frames put since, or for the checkpoint on its way
+-- ---- working frames (`since`), or frames of the frozen checkpoint
 
 abbrev places : Bool → Books → List Place
 places since b = if since then b.working else b.frozen
@@ -34,7 +34,7 @@ abbrev putting : Bool → ℕ → Put → Stored → Stored
 putting true n x s = with_working n x s
 putting false n x s = with_frozen n x s
 
--- there is a slot for an object
+-- the object has a slot, or one is free
 abbrev HasSlot : Bool → Books → ℕ → Type 0
 HasSlot true b n = slot_for b.working n < b.plan.geometry.log
 HasSlot false b n = (k : ℕ) × (b.frozen_size ≡ Some k) × (slot_for b.frozen n < k)
@@ -51,7 +51,7 @@ are_put : (since : Bool) {size : ℕ} {image : Image} (b : Books) (ps : List Pla
     ArePut image b.plan (generation_of since b) ps
 are_put since {size} {image} b ps kept = grind (arith, nat_tests)
 
--- the place of an object changed, but not its slot
+-- the place of an object changed, but its slot stayed
 module _ {first : ℕ} {was : Image} {b : Books} (n : ℕ) (q : Place) (before : IsIntact first was b) where
   kept_places : (since : Bool) {size : ℕ} {image : Image} (ps : List Place) → n < length (places since b) → HasSlot since b n →
       slot_of q ≡ Some (slot_for (places since b) n) → IsIntact size image (with_places since b ps) →
@@ -63,7 +63,7 @@ module _ {first : ℕ} {was : Image} {b : Books} (n : ℕ) (q : Place) (before :
       search (subst (IsRunning (with_places false b (set b.frozen n q))) (sym has.1)
       (runs.0, taken_set b.frozen q lt slot runs.1 has.2, runs.2))
 
--- only the frame of this object differs
+-- setting what was written of object n changes nothing else that is stored
 stored_put : (since : Bool) (image : Image) (b : Books) (ps qs : List Place) (n : ℕ) (x : Put) →
     puts_in image b.plan (generation_of since b) qs ≡ set (puts_in image b.plan (generation_of since b) ps) n x →
     stored_in image (with_places since b qs) ≡ putting since n x (stored_in image (with_places since b ps))
@@ -72,7 +72,7 @@ stored_put since image b ps qs n x same = grind (arith, nat_tests)
 pub put_twice : (since : Bool) (s : Stored) (n : ℕ) (x y : Put) → putting since n y (putting since n x s) ≡ putting since n y s
 put_twice since s n x y = grind (arith, nat_tests, set_twice)
 
--- the frame of an object no longer counts
+-- the frame of an object is marked as torn
 module _ (since : Bool) {size : ℕ} {image : Image} {b : Books} {n : ℕ} (kept : IsIntact size image b) (lt : n < count_of b.plan)
     (has : HasSlot since b n) where
   are : ArePut image b.plan (generation_of since b) (places since b)
@@ -89,7 +89,7 @@ module _ (since : Bool) {size : ℕ} {image : Image} {b : Books} {n : ℕ} (kept
       ≡ putting since n Broken (stored_in image b)
   tear_stored = grind (arith, nat_tests, stored_put, puts_set, are, slot_low)
 
--- the sectors of the object's slot belong to no other frame
+-- no saved frame overlaps the sectors of the object's slot
 saved_spares : (since : Bool) {size : ℕ} {image : Image} {b : Books} {e : Extent} → IsIntact size image b →
     IsInside e (half_extent b.plan.version b.plan.geometry (half_sector b.plan (generation_of since b))) →
     Spares b.plan b.header b.directory e
@@ -117,7 +117,7 @@ all_spared false {b = b} kept has lt inside =
       half_spares (working_generation b) (frozen_generation b) kept.plan (later_half b has.1) kept.working.table kept.working.few inside,
     )
 
--- writing a frame into its slot
+-- a frame was written into its slot
 module _ (since : Bool) {old new : Disk} {b : Books} {n : ℕ} (f : Frame) (kept : IsIntact old.sectors old.seen b) (lt : n < count_of b.plan)
     (has : HasSlot since b n)
     (writes : WritesAt (slot_sector b.plan (generation_of since b) (slot_for (places since b) n)) (place_length b.plan n) old new) where
@@ -163,7 +163,7 @@ module _ (since : Bool) {old new : Disk} {b : Books} {n : ℕ} (f : Frame) (kept
   put_goes_on : (ps : List Place) → GoesOnSeen old new b (with_places since b ps)
   put_goes_on ps = goes_spared refl refl refl (saved_spares since kept inside) (touches writes)
 
-  -- the result, whether or not the device failed
+  -- the result of the write, whether or not the device failed
   put_either : {T : Type 0} (r : Result T Failed) (ps : List Place) → IsKeepable b.plan.geometry most n f →
       OnOk r (ps ≡ set (places since b) n (Whole slot)) → OnErr r (ps ≡ set (places since b) n (Torn slot)) →
       OnOk r (slot_bytes new.seen b.plan g slot n ≡ frame_bytes b.plan.geometry n f) →
@@ -172,7 +172,7 @@ module _ (since : Bool) {old new : Disk} {b : Books} {n : ℕ} (f : Frame) (kept
       × OnErr r (stored_in new.seen (with_places since b ps) ≡ putting since n Broken (stored_in old.seen b))
   put_either {T} r ps keepable ok err written = grind (arith, nat_tests, put_kept, put_stored, stays_kept, stays_stored)
 
--- ---- over a device that is partly in memory
+-- ---- working frames
 
 module _ {old : Disk} {b : Books} {n : ℕ} (is : IsDurable old b) (lt : n < count_of b.plan)
     (has : HasFreeSlot b.plan.geometry.log (stored_on old b).working n) where
@@ -192,7 +192,7 @@ module _ {old : Disk} {b : Books} {n : ℕ} (is : IsDurable old b) (lt : n < cou
       let both = put_either true f is.kept lt working_room wrote r ps keepable ok err read in
       search (goes_seen (put_goes_on true f is.kept lt working_room wrote ps), counts)
 
--- ---- for the checkpoint on its way
+-- ---- frames of the frozen checkpoint
 
 module _ {old : Disk} {b : Books} {k n : ℕ} (is : IsDurable old b) (size : b.frozen_size ≡ Some k) (lt : n < count_of b.plan)
     (has : HasFreeSlot k (puts_in (seen_by old.seen b) b.plan (frozen_generation b) b.frozen) n) where
@@ -205,7 +205,7 @@ module _ {old : Disk} {b : Books} {k n : ℕ} (is : IsDurable old b) (size : b.f
   pub frozen_room : slot_for b.frozen n < b.plan.geometry.log
   frozen_room = omega (arith, frozen_low, was.2)
 
-  -- dropping the frame of an object, and writing the unwritten cluster
+  -- marking a frame as torn, and writing the unwritten cluster
   module _ {new : Disk} {o : Option Unwritten} (seen : mended new.seen o ≡ mended old.seen b.unwritten)
       (touches : (u : Unwritten) → b.unwritten ≡ Some u → Touches u.sector 8 old new) (nothing : b.unwritten ≡ None → new ≡ old)
       (either : (o ≡ None) ⊎ (o ≡ b.unwritten)) (only_now : (c : Image) → old.left_since old.moment c → old.may_leave c) where
@@ -246,7 +246,7 @@ frozen_puts {old = old} {new = new} {b = b} {n = n} {k = k} {f = f} {r = r} may 
     let both = put_either false f is.kept may.object has wrote r ps may.keepable ok err read in
     search (without (record b { frozen = ps }) none, goes_seen (put_goes_on false f is.kept may.object has wrote ps), counts)
 
--- the cluster lies on the device
+-- the unwritten cluster's sectors exist on the device
 pub unwritten_low : {disk : Disk} {b : Books} → IsDurable disk b → (u : Unwritten) → b.unwritten ≡ Some u → u.sector + 8 ≤ disk.sectors
 unwritten_low {disk} {b} is u some =
     omega (
@@ -255,19 +255,19 @@ unwritten_low {disk} {b} is u some =
       is.kept.inside,
     )
 
--- ---- what was put of an object is rescinded: its slot stays
+-- ---- marking a frame as torn keeps its slot
 
 torn_room : (old mid : Disk) (b c : Books) {size n : ℕ} → b.frozen_size ≡ Some size → c.frozen_size ≡ Some size →
     stored_on mid c ≡ with_frozen n Broken (stored_on old b) → n < count_of b.plan
     → HasFreeSlot size (puts_in (seen_by mid.seen c) c.plan (frozen_generation c) c.frozen) n
 torn_room old mid b c {size} {n} running still torn known = grind (arith, nat_tests, length_puts, same_Some, get_or-set_same)
 
--- afterwards the frame may be written
+-- after that, the frame may be written
 pub may_put_torn : {old mid : Disk} {a b : Books} {k n : ℕ} {f : Frame} → MayPut old a k n f →
     Stores old mid a b (with_frozen n Broken (stored_on old a)) → b.frozen_size ≡ Some k → MayPut mid b k n f
 may_put_torn {old} {mid} {a} {b} {k} {n} {f} may torn still = grind (arith, nat_tests, torn_room)
 
--- the device failed before
+-- if the device failed before the frame was written, the frame is marked as torn
 pub puts_none : {T E U F : Type 0} {old mid : Disk} {a b : Books} (n : ℕ) {f : Frame} {e : E} {r : Result U F} →
     Stores old mid a b (with_frozen n Broken (stored_on old a)) → IsErr r → Counts {T = T} old mid (Err e)
     → PutsFrame old mid a b f (λ put. with_frozen n put (stored_on old a)) r

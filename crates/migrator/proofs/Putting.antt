@@ -11,7 +11,7 @@ use Rattle.migrator.proofs.Tables.{some_has, tally-set, table_set, set_here, set
 use Rattle.migrator.proofs.Kept.{map_set, nowhere_frozen}
 use Rattle.migrator.proofs.PlacesApart.{other_half, home_apart, spares_other, spares_log}
 
--- ---- counts of what was put
+-- ---- how many frames were written
 
 abbrev puts_from : Image → Plan → ℕ → ℕ → List Place → List Put
 puts_from image p generation n [] = []
@@ -59,7 +59,7 @@ frame_count image p generation k q = grind (arith, nat_tests)
 slot_count : (image : Image) (p : Plan) (generation k : ℕ) (q : Place) → held_slot (put_of image p generation k q) ≡ has_slot q
 slot_count image p generation k q = grind (arith, nat_tests)
 
--- there are as many valid frames as places of them
+-- the number of valid frames is the number of places with one
 pub kept_whole : (image : Image) (p : Plan) (generation : ℕ) (ps : List Place) → length ps ≡ count_of p →
     kept_count (puts_in image p generation ps) ≡ whole_count ps
 kept_whole image p generation ps size = rw (puts_are image p generation ps size)
@@ -81,12 +81,12 @@ room_by : (image : Image) (p : Plan) (generation : ℕ) {room : ℕ} (n : ℕ) (
     slot_or (slot_of q) taken < room
 room_by image p generation {room} n q {taken} few in' has = grind (arith, nat_tests)
 
--- an object has a slot, or there is a free one among `room`
+-- if at most `room` slots are taken, and object n has a slot or one is free, its slot is below `room`
 pub slot_room : (image : Image) (p : Plan) (generation : ℕ) {room : ℕ} {ps : List Place} {n : ℕ} → length ps ≡ count_of p → n < count_of p →
     IsTable ps → taken_count ps ≤ room → HasFreeSlot room (puts_in image p generation ps) n → slot_for ps n < room
 slot_room image p generation {room} {ps} {n} size lt table few has = grind (arith, nat_tests, room_by, put_is, held_taken)
 
--- ---- a place is set
+-- ---- the place of an object is set
 
 few_by : (old : Place) {taken taken' room : ℕ} → taken' + has_slot old ≡ taken + 1 → taken ≤ room → slot_or (slot_of old) taken < room →
     taken' ≤ room
@@ -101,7 +101,7 @@ module _ {image : Image} {p : Plan} {generation : ℕ} {ps : List Place} {n : �
   in_table : n < length ps
   in_table = omega (arith, lt, are.count)
 
-  -- the object gets its slot
+  -- marking the object's slot, or the next free one, as torn keeps the table valid
   pub torn_put : ArePut image p generation (set ps n (Torn (slot_for ps n)))
   torn_put = record {
     count = length-set ps n (Torn (slot_for ps n)) ∙ are.count;
@@ -114,7 +114,7 @@ module _ {image : Image} {p : Plan} {generation : ℕ} {ps : List Place} {n : �
     ];
   }
 
-  -- and its valid frame lies there
+  -- once a valid frame is in the slot, the table with it is valid
   pub whole_put : IsFrameOf p.geometry most n (slot_bytes image p generation (slot_for ps n) n)
       (slot_frame image p generation (slot_for ps n) n) → ArePut image p generation (set ps n (Whole (slot_for ps n)))
   whole_put spelt = record {
@@ -143,15 +143,15 @@ module _ {image : Image} {p : Plan} {generation : ℕ} {ps : List Place} {n : �
 pub other_parity : (g : ℕ) → g % 2 ≡ (g + 1) % 2 → ⊥
 other_parity g same = omega (arith, same)
 
--- while a checkpoint is frozen, working frames lie in the other half
+-- while a checkpoint is frozen, working frames are in the other half than frozen ones
 pub later_half : (b : Books) {k : ℕ} → b.frozen_size ≡ Some k → working_generation b % 2 ≡ frozen_generation b % 2 → ⊥
 later_half b {k} running same = grind (arith, nat_tests)
 
--- otherwise in the half that the saved generation doesn't use
+-- if no checkpoint is frozen, working frames are in the half that the saved generation doesn't use
 pub idle_half : (b : Books) → b.frozen_size ≡ None → (g : ℕ) → g % 2 ≡ b.header.generation % 2 → working_generation b % 2 ≡ g % 2 → ⊥
 idle_half b none g same is = grind (arith, nat_tests)
 
--- frames in the other slots of a half lie apart from the slot of an object
+-- the slot of an object doesn't overlap the frames in the other slots of its half
 pub slots_spare : (p : Plan) (generation : ℕ) {ps : List Place} {n : ℕ} → IsTable ps → n < length ps →
     SparesPuts p generation (set ps n (Torn (slot_for ps n))) (place_extent p generation (slot_for ps n) n)
 slots_spare p generation {ps} {n} table lt m s within is = elim (cases_eq m n) [
@@ -167,7 +167,7 @@ slots_spare p generation {ps} {n} table lt m s within is = elim (cases_eq m n) [
       (slots_apart p generation s (slot_for ps n) differ)
 ]
 
--- frames in one half lie apart from sectors of the other
+-- the frames in one half don't overlap sectors of the other
 pub half_spares : {p : Plan} (a b : ℕ) {ps : List Place} {e : Extent} → IsPlan p → (a % 2 ≡ b % 2 → ⊥) → IsTable ps →
     taken_count ps ≤ p.geometry.log → IsInside e (half_extent p.version p.geometry (half_sector p b)) → SparesPuts p a ps e
 half_spares {p} a b {e} fits differ table few inside n s lt is = let less = table.few n s (ap slot_of is) in other_half a b n fits differ
@@ -177,7 +177,7 @@ pub none_spares : (p : Plan) (generation : ℕ) (ps : List Place) (e : Extent) �
     SparesPuts p generation ps e
 none_spares p generation ps e none n s lt is = let never : Nowhere ≡ Whole s = sym (none n) ∙ is in absurd cc
 
--- the saved frames lie apart from the half of the working frames
+-- the saved frames don't overlap the half of the working frames
 pub saved_working : {size : ℕ} {image : Image} {b : Books} (o : Option ℕ) {e : Extent} → IsIntact size image b → IsRunning b o →
     IsInside e (half_extent b.plan.version b.plan.geometry (half_sector b.plan (generation_after b.header.generation o))) →
     Spares b.plan b.header b.directory e
@@ -186,7 +186,7 @@ saved_working {b} None {e} kept running inside =
 saved_working {b} (Some k) {e} kept running inside = spares_log b.header b.directory (b.header.generation + 1 + 1) kept.plan kept.count
     running.0 inside
 
--- so do the frozen frames
+-- the frozen frames don't overlap the half of the working frames
 pub frozen_working : {size : ℕ} {image : Image} {b : Books} (o : Option ℕ) {e : Extent} → IsIntact size image b → IsRunning b o →
     IsInside e (half_extent b.plan.version b.plan.geometry (half_sector b.plan (generation_after b.header.generation o))) →
     SparesPuts b.plan (frozen_generation b) b.frozen e
@@ -195,7 +195,7 @@ frozen_working {b} (Some k) {e} kept running inside =
     half_spares (frozen_generation b) (b.header.generation + 1 + 1) kept.plan (other_parity (b.header.generation + 1)) kept.frozen.table
     kept.frozen.few inside
 
--- the homes of objects lie apart from both halves
+-- no home overlaps either half of the log
 pub homes_spare : {size : ℕ} {image : Image} {b : Books} (generation : ℕ) {e : Extent} → IsIntact size image b →
     IsInside e (half_extent b.plan.version b.plan.geometry (half_sector b.plan generation)) → (i : ℕ) → i < b.moved
     → IsApart (home_extent b.plan (entry_at b.directory i).object) e
@@ -203,14 +203,14 @@ homes_spare {b} generation {e} kept inside i lt =
     home_apart generation kept.plan (kept.directory.each i (record { object = 0; slot = 0 })
     (omega (arith, lt, kept.few, kept.count))).object inside
 
--- ---- the whole frame in the slot
+-- ---- a valid frame is in the slot
 
 pub set_twice : {X : Type 0} (xs : List X) (n : ℕ) (x y : X) → set (set xs n x) n y ≡ set xs n y
 set_twice [] n x y = refl
 set_twice (z ∷ xs) zero x y = refl
 set_twice {X = X} (z ∷ xs) (suc n) x y = ap (λ (r : List X). z ∷ r) (set_twice xs n x y)
 
--- the slot of an object was torn, and now has a valid frame
+-- facts if the slot of an object was torn and now contains a valid frame
 module _ {image : Image} {p : Plan} {generation : ℕ} (ps : List Place) (n s : ℕ) (are : ArePut image p generation (set ps n (Torn s)))
     (lt : n < count_of p)
   where
@@ -234,7 +234,7 @@ module _ {image : Image} {p : Plan} {generation : ℕ} (ps : List Place) (n s : 
         puts_in image p generation (set ps n (Whole s)) ≡ set (puts_in image p generation (set ps n (Torn s))) n (Kept f)
     puts_mended {f} is = grind (arith, nat_tests, set_twice, puts_set, slot_low)
 
--- ---- what was put is frozen
+-- ---- the working frames are frozen
 
 pub length_puts : (image : Image) (p : Plan) (generation : ℕ) (ps : List Place) → length (puts_in image p generation ps) ≡ count_of p
 unfolding puts_in

@@ -1,4 +1,4 @@
--- What is known about a table of places.
+-- Facts about a table of places.
 use Rattle.migrator.proofs.Names.{nat_tests, ℕ, zero, suc, Bool, true, false, Option, Some, None, List, [], length, set, take, drop, refl, sym, ap, subst}
 use Rattle.migrator.proofs.Names.{arith, length-append, replicate, get_or-map, get_or-set_same, get_or-set_other, get_or_default, take_all, drop_all}
 use Rattle.migrator.proofs.Names.{nil_from_length, length-map, map-set, is_marked, IsNextMarked, HasNoneMarked, Geometry, Entry, entry_at, AreRising, IsEntry}
@@ -10,7 +10,7 @@ use native.Mathlib.Numerals.{unary_clauses}
 
 -- ---- counts
 
--- one place changed
+-- setting one place changes the count by the difference between the new and the old place
 pub tally-set : (has : Place → ℕ) (ps : List Place) (n : ℕ) (q : Place) → n < length ps →
     tally has (set ps n q) + has (place_at ps n) ≡ tally has ps + has q
 unfolding tally
@@ -18,7 +18,7 @@ tally-set has [] n q lt = absurd (omega (arith, lt))
 tally-set has (p ∷ ps) zero q lt = omega arith
 tally-set has (p ∷ ps) (suc n) q lt = let rest = tally-set has ps n q (omega (arith, lt)) in omega (arith, rest)
 
--- the count at one place is part of the count of all
+-- the count of one place is at most the count of all
 tally_at : (has : Place → ℕ) (ps : List Place) (n : ℕ) → n < length ps → has (place_at ps n) ≤ tally has ps
 unfolding tally
 tally_at has [] n lt = absurd (omega (arith, lt))
@@ -36,7 +36,7 @@ whole_taken (p ∷ ps) = let rest = whole_taken ps in let here = frame_slot p in
 whole_of : (p : Place) {s : ℕ} → has_slot p ≤ has_frame p → slot_of p ≡ Some s → p ≡ Whole s
 whole_of p {s} le is = grind (arith, nat_tests)
 
--- if no slot is torn, each slot has a valid frame
+-- if as many slots have valid frames as are taken, each slot that is taken has one
 pub all_whole : (ps : List Place) (n : ℕ) {s : ℕ} → taken_count ps ≤ whole_count ps → n < length ps → slot_of (place_at ps n) ≡ Some s →
     place_at ps n ≡ Whole s
 unfolding tally
@@ -70,19 +70,19 @@ some_has p {s} is = grind (arith, nat_tests)
 pub set_here : (ps : List Place) {n : ℕ} {q : Place} → n < length ps → place_at (set ps n q) n ≡ q
 set_here ps {n} {q} lt = get_or-set_same ps n q Nowhere lt
 
--- an object that has a slot keeps it
+-- the slot for an object that has one is this slot
 pub slot_kept : (ps : List Place) (n : ℕ) {s : ℕ} → slot_of (place_at ps n) ≡ Some s → slot_for ps n ≡ s
 slot_kept ps n is = ap (λ (o : Option ℕ). slot_or o (taken_count ps)) is
 
 pub set_there : (ps : List Place) {n m : ℕ} (q : Place) → (m ≡ n → ⊥) → place_at (set ps n q) m ≡ place_at ps m
 set_there ps {n} {m} q other = get_or-set_other ps n m q Nowhere other
 
--- an object with a slot stays in it
+-- if an object keeps its slot, the table stays valid
 table_kept : {ps : List Place} {n t : ℕ} (q : Place) → IsTable ps → n < length ps → slot_of (place_at ps n) ≡ Some t → slot_of q ≡ Some t →
     IsTable (set ps n q)
 table_kept {ps} {n} {t} q is lt was has = grind (arith, nat_tests, tally-set, some_has, set_here, set_there)
 
--- the next slot is taken
+-- if an object without a slot gets the next one, the table stays valid
 table_more : {ps : List Place} {n : ℕ} (q : Place) → IsTable ps → n < length ps → slot_of (place_at ps n) ≡ None →
     slot_of q ≡ Some (taken_count ps) → IsTable (set ps n q)
 table_more {ps} {n} q is lt was has = grind (arith, nat_tests, tally-set, none_has, some_has, same_Some, set_here, set_there)
@@ -109,7 +109,7 @@ pub length_entries : (ps : List Place) → length (entries_of ps) ≡ taken_coun
 unfolding entries_of
 length_entries ps = length_from 0 ps
 
--- ---- the objects that have a slot
+-- ---- which objects have a slot
 
 -- each mark says whether the object has a slot
 mark_is : (ps : List Place) (n : ℕ) → is_marked (map is_held ps) n ≡ is_held (place_at ps n)
@@ -121,7 +121,7 @@ held_has p held = grind (arith, nat_tests)
 unheld_slot : (p : Place) → is_held p ≡ false → slot_of p ≡ None
 unheld_slot p unheld = grind (arith, nat_tests)
 
--- the entries of the objects from the n-th on, whose number is i
+-- the entries from object n on are its own, if it has a slot, and then those from n + 1 on
 entries_step : (i n : ℕ) (ps : List Place) → entries_from i (drop n ps) ≡ entry_before i (slot_of (place_at ps n))
     (entries_from (i + 1) (drop (n + 1) ps))
 entries_step i zero [] = refl
@@ -129,7 +129,7 @@ entries_step i (suc n) [] = simp unary_clauses refl
 entries_step i zero (p ∷ ps) = refl
 entries_step i (suc n) (p ∷ ps) = simp unary_clauses (simp unary_clauses at (entries_step i n ps))
 
--- objects without a slot add none
+-- objects without a slot have no entries
 entries_unheld : (ps : List Place) (from k : ℕ) → ((m : ℕ) → from ≤ m → m < from + k → is_marked (map is_held ps) m ≡ false) →
     entries_from from (drop from ps) ≡ entries_from (from + k) (drop (from + k) ps)
 entries_unheld ps from zero none = simp unary_clauses refl
@@ -151,17 +151,17 @@ next_held ps {from} {n} next has =
     (λ (o : Option ℕ). entry_before n o (entries_from (n + 1) (drop (n + 1) ps)))
     has
 
--- if no further object has a slot, there are no more entries
+-- if no further object has a slot, there are no further entries
 pub none_held : (ps : List Place) {from : ℕ} → HasNoneMarked (map is_held ps) from → entries_from from (drop from ps) ≡ []
 none_held ps {from} none =
     entries_unheld ps from (length ps) (λ m past within. none m past) ∙ ap (entries_from (from + length ps))
     (drop_all (from + length ps) ps (omega arith))
 
--- the entries left are those not yet listed
+-- the entries that aren't listed yet are `rest`
 pub entries_left : (ps : List Place) (xs rest : List Entry) → entries_of ps ≡ xs ++ rest → length xs + length rest ≡ taken_count ps
 entries_left ps xs rest are = let all = ap length are in omega (arith, all, length_entries ps, length-append xs rest)
 
--- so in the end all are listed
+-- once as many entries are listed as slots are taken, all are listed
 pub entries_done : (ps : List Place) {xs : List Entry} (rest : List Entry) → entries_of ps ≡ xs ++ rest → length xs ≡ taken_count ps →
     xs ≡ entries_of ps
 entries_done ps {xs} rest are done = search (
@@ -171,16 +171,16 @@ entries_done ps {xs} rest are done = search (
   append-nil,
 )
 
--- ---- all slots are taken away
+-- ---- all slots are freed
 
 pub none_taken : (ps : List Place) → HasNoneMarked (map is_held ps) 0 → taken_count ps ≡ 0
 none_taken ps none = sym (length_from 0 ps) ∙ ap length (none_held ps none)
 
--- one slot is taken away
+-- freeing one object's slot lowers the count of taken slots by one
 pub one_less : (ps : List Place) {n : ℕ} → IsNextMarked (map is_held ps) 0 n → taken_count (set ps n Nowhere) + 1 ≡ taken_count ps
 one_less ps {n} next = grind (arith, nat_tests, length-map, tally-set, held_has, mark_is)
 
--- in the end no object has a slot
+-- if no slot is taken, no object has one
 pub all_nowhere : (ps : List Place) → taken_count ps ≡ 0 → ps ≡ replicate (length ps) Nowhere
 unfolding tally
 all_nowhere [] none = refl
@@ -188,7 +188,7 @@ all_nowhere (Nowhere ∷ ps) none = ap (λ (qs : List Place). Nowhere ∷ qs) (a
 all_nowhere (Torn s ∷ ps) none = absurd (omega (arith, none))
 all_nowhere (Whole s ∷ ps) none = absurd (omega (arith, none))
 
--- ---- the slots that the entries give
+-- ---- the slots in the entries
 
 none_below : (o : Option ℕ) {n m : ℕ} (es : List Entry) → m < n → slot_in es m ≡ None → slot_in (entry_before n o es) m ≡ None
 none_below o {n} {m} es lt none = grind (arith, nat_tests)
@@ -214,7 +214,7 @@ slot_entries ps n = let same : 0 + n ≡ n = omega arith in ap (slot_in (entries
 
 -- ---- the entries are a directory
 
--- the objects of entries lie in a range
+-- the objects of the entries rise from `low` to below `high`
 record AreFrom (low high : ℕ) (es : List Entry) : Type 0 where
   pub each : (i : ℕ) → i < length es → (low ≤ (entry_at es i).object) × ((entry_at es i).object < high)
   pub rising : AreRising es
@@ -230,7 +230,7 @@ entries_are : (ps : List Place) → AreFrom 0 (0 + length ps) (entries_of ps)
 unfolding entries_of
 entries_are ps = from_of 0 ps
 
--- the place of the object of an entry
+-- the object of an entry has the slot of that entry
 entry_place : (ps : List Place) {i : ℕ} → i < length (entries_of ps) → slot_of (place_at ps (entry_at (entries_of ps) i).object) ≡ Some
     (entry_at (entries_of ps) i).slot
 entry_place ps {i} lt = sym (slot_entries ps (entry_at (entries_of ps) i).object) ∙ own_slot (entries_of ps) i (entries_are ps).rising lt
@@ -257,7 +257,7 @@ entries_directory {g} {ps} is size few small small' =
           (entry_place ps (omega (arith, lt, within)) ∙ ap (λ (k : ℕ). Some k) same) (entry_place ps within));
     }
 
--- ---- what the code keeps
+-- ---- the counts in the code
 
 one_slot : (p : Place) → has_slot p ≤ 1
 one_slot p = grind (arith, nat_tests)

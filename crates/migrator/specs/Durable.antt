@@ -1,4 +1,4 @@
--- A durable store: the books that it keeps in memory, and what device and books hold together.
+-- A durable store: its invariant over the device and the books in memory, and the frames that it stores.
 use Rattle.migrator.specs.Names.{⊤, ℕ, Option, Some, None, List, length, option_map, slice_set, replicate, Frame}
 use Rattle.migrator.specs.Names.{frame_at, Image, Disk, Agrees, Narrows, Peeks, Entry, CheckpointHeader, IsDirectory}
 use Rattle.migrator.specs.Names.{entry_at, IsHeader, place_length, SavedState, Encodes, slot_sector, AreSpelt}
@@ -16,7 +16,7 @@ use Rattle.migrator.specs.Table.{place_at, slot_of, taken_count}
 use Rattle.migrator.specs.Put.{Put, Absent, put_at, put_or, kept_count, overlaid, slot_bytes, slot_frame, puts_in}
 use Rattle.migrator.specs.Put.{ArePut, Broken, HasFreeSlot, Kept}
 
--- what a read gives: from the device, except for a cluster that the device failed to write
+-- the image that reads give: that of the device, with the unwritten cluster, if there is one, in place
 abbrev pub seen_by : Image → Books → Image
 seen_by image b = mended image b.unwritten
 
@@ -24,7 +24,7 @@ pub record DurableState (D : Type 0) : Type 0 where
   pub beneath : D
   pub books : Books
 
--- the generation that follows the committed one; the one for which frames are written now
+-- the generation of the frozen checkpoint; the generation of the working frames
 abbrev pub frozen_generation : Books → ℕ
 frozen_generation b = b.header.generation + 1
 
@@ -37,7 +37,7 @@ working_generation b = generation_after b.header.generation b.frozen_size
 
 -- ---- the three maps of frames
 
--- a frozen checkpoint: what was written for it, and how many objects it writes
+-- a frozen checkpoint: the frames written for it so far, and how many objects it writes
 pub record FrozenPuts : Type 0 where
   pub put : List Put
   pub size : ℕ
@@ -46,14 +46,14 @@ pub record FrozenPuts : Type 0 where
 abbrev pub left_of : FrozenPuts → ℕ
 left_of f = f.size - kept_count f.put
 
--- what a store holds; to_move counts the saved objects that aren't home
+-- the frames that a store has; `to_move` counts the saved objects that aren't home
 pub record Stored : Type 0 where
   pub working : List Put
   pub frozen : Option FrozenPuts
   pub saved : SavedFrames
   pub to_move : ℕ
 
--- what a frozen state saves, over the frames saved before
+-- how to read a frozen state: it saves the frames written for it in place of the saved ones
 abbrev pub puts : FrozenView FrozenPuts
 puts = record {
   frames = λ (f : FrozenPuts) (fs : List Frame). overlaid f.put fs;
@@ -61,8 +61,8 @@ puts = record {
   left = left_of;
 }
 
--- the frozen and the saved state, without the working frames. `on_snapshots`: a stage of a checkpoint changes only these
--- two, and which frames are to move
+-- The snapshots of a store: its frozen and saved state, without the working frames. `on_snapshots` applies a stage of
+-- a checkpoint, which changes only these.
 abbrev pub snapshots_in : Stored → Snapshots FrozenPuts
 snapshots_in s = record { frozen = s.frozen; saved = s.saved; to_move = s.to_move }
 
@@ -88,7 +88,8 @@ stored_in image b = record {
   to_move = b.header.entries - b.moved;
 }
 
--- the frame below a working one: the frozen frame that was written, else the saved one
+-- the frozen frame of object n, if it was written; the newest frame below the working one: the frozen one, else the
+-- saved one
 abbrev pub frozen_put : Option FrozenPuts → ℕ → Put
 frozen_put None n = Absent
 frozen_put (Some f) n = put_at f.put n
@@ -100,13 +101,14 @@ below_at s n = put_or (frozen_put s.frozen n) (frame_at s.saved.frames n)
 abbrev pub newest : Stored → ℕ → Frame
 newest s n = put_or (put_at s.working n) (below_at s n)
 
--- ---- what always holds
+-- ---- the invariant
 
--- the frames in the home of an entry's object are the saved ones
+-- each object that shares the home of entry i has its saved frame at home
 abbrev pub IsHome : Image → Plan → ℕ → List Entry → ℕ → Type 0
 IsHome image p generation es i = IsCopied image image p generation es (entry_at es i).object
 
--- a checkpoint is frozen only if all saved frames are home, and the log has slots enough for it
+-- if a checkpoint is frozen, all saved frames are home, and the log has slots for its `size` objects; if not, no
+-- object has a frozen frame
 abbrev pub MayRun : ℕ → ℕ → List Place → Option ℕ → Type 0
 MayRun entries log ps None = (n : ℕ) → place_at ps n ≡ Nowhere
 MayRun entries log ps (Some size) = (entries ≡ 0) × (taken_count ps ≤ size) × (size ≤ log)
@@ -114,7 +116,8 @@ MayRun entries log ps (Some size) = (entries ≡ 0) × (taken_count ps ≤ size)
 abbrev pub IsRunning : Books → Option ℕ → Type 0
 IsRunning b o = MayRun b.header.entries b.plan.geometry.log b.frozen o
 
--- all frames can be read on `size` sectors: those that the directory names, and the others at home
+-- superblock, header and directory are valid and fit `size` sectors, and all saved frames can be read: those of
+-- entries in slots, the others at home
 pub record IsReadable (size : ℕ) (image : Image) (p : Plan) (h : CheckpointHeader) (es : List Entry) : Type 0 where
   pub plan : IsPlan p
   pub inside : p.total ≤ size
@@ -123,7 +126,8 @@ pub record IsReadable (size : ℕ) (image : Image) (p : Plan) (h : CheckpointHea
   pub directory : IsDirectory p.geometry es
   pub saved : AreSpelt image p h.age h.generation es
 
--- an image of `size` sectors has all that the books name, except header and superblock, even after a failure
+-- an image of `size` sectors has all frames that the books name, even after a failure; its header and superblock
+-- aren't checked
 pub record IsIntact (size : ℕ) (image : Image) (b : Books) : Type 0 where
   pub readable : IsReadable size image b.plan b.header b.directory
   pub open readable use *
@@ -133,7 +137,7 @@ pub record IsIntact (size : ℕ) (image : Image) (b : Books) : Type 0 where
   pub running : IsRunning b b.frozen_size
   pub working : ArePut image b.plan (working_generation b) b.working
 
--- a cluster that isn't written, after a commit that failed: it belongs to the slot of a frozen node
+-- a cluster that a failed commit didn't write: it belongs in the slot of a frozen node
 pub record IsUnwrittenOf (p : Plan) (generation : ℕ) (o : Option ℕ) (ps : List Place) (u : Unwritten) : Type 0 where
   pub size : length u.bytes ≡ 4096
   pub count : ℕ
@@ -154,24 +158,24 @@ IfUnwrittenOf p generation o ps (Some u) = IsUnwrittenOf p generation o ps u
 abbrev pub MayHaveUnwritten : Books → Option Unwritten → Type 0
 MayHaveUnwritten b o = IfUnwrittenOf b.plan (frozen_generation b) b.frozen_size b.frozen o
 
--- what a device and the books over it hold
+-- the frames that a device and its books store
 abbrev pub stored_on : Disk → Books → Stored
 stored_on disk b = stored_in (seen_by disk.seen b) b
 
--- what always holds of a device and the books over it
+-- the invariant of a device and its books
 pub record IsDurable (disk : Disk) (b : Books) : Type 0 where
   pub kept : IsIntact disk.sectors (seen_by disk.seen b) b
   pub unwritten : MayHaveUnwritten b b.unwritten
 
--- each crash now leaves what is saved
+-- each crash now leaves this saved state
 abbrev pub LeavesState : Disk → SavedState → Type 0
 LeavesState disk s = (c : Image) → disk.may_leave c → Encodes c disk.sectors s
 
--- until a publishing fails, each crash leaves what is saved
+-- each crash now leaves the saved state; true until a publish fails
 abbrev pub IsSoundOn : Disk → Books → Type 0
 IsSoundOn disk b = LeavesState disk (saved_state (seen_by disk.seen b) b)
 
--- the stored state with another working frame of object n; with another frozen one
+-- the stored frames after a working frame of object n was written; after a frozen one was
 abbrev pub with_working : ℕ → Put → Stored → Stored
 with_working n put s = record s { working = slice_set s.working n put }
 
@@ -188,20 +192,20 @@ module _ {D : Type 0} (disk : D → Disk) where
   abbrev pub stored_of : DurableState D → Stored
   stored_of s = stored_in (seen_by (disk s.beneath).seen s.books) s.books
 
-  -- the checkpoint that is saved
+  -- the saved state of a store
   abbrev pub saved_by : DurableState D → SavedState
   saved_by s = saved_state (seen_of s) s.books
 
   abbrev pub is_sound : DurableState D → Type 0
   is_sound s = IsSoundOn (disk s.beneath) s.books
 
--- the working frames become the frozen ones, and there are no working ones
+-- the stored frames after a freeze: the working frames are the frozen ones
 abbrev pub freezing_puts : ℕ → Stored → Stored
 freezing_puts size s =
     let f : FrozenPuts = record { put = s.working; size = size } in
     record (on_snapshots (freezing f) s) { working = replicate (length s.working) Absent }
 
--- the next header to be committed, at an age
+-- the header that commits the frozen frames at this age
 abbrev pub next_header : ℕ → Books → CheckpointHeader
 next_header age b = record {
   sequence = b.header.sequence + 1;
@@ -210,8 +214,8 @@ next_header age b = record {
   age = age;
 }
 
--- the same is saved, and no sector was written that it is read from: a crash at any moment leaves what is saved, if a
--- crash of `old` would
+-- The saved frames are the same, and no sector that they need was written. If each crash of `old` leaves them, so does
+-- each crash at any moment up to `new`.
 pub record GoesOnDisk (old new : Disk) (b c : Books) : Type 0 where
   pub plan : c.plan ≡ b.plan
   pub size : new.sectors ≡ old.sectors
@@ -221,17 +225,17 @@ pub record GoesOnDisk (old new : Disk) (b c : Books) : Type 0 where
 abbrev pub GoesOn : {D : Type 0} → (D → Disk) → DurableState D → DurableState D → Type 0
 GoesOn disk old new = GoesOnDisk (disk old.beneath) (disk new.beneath) old.books new.books
 
--- the same is saved, and the store now holds s
+-- the saved frames are the same, and the store now has the frames s
 pub record Stores (old new : Disk) (b c : Books) (s : Stored) : Type 0 where
   pub stands : IsDurable new c
   pub stored : stored_on new c ≡ s
   pub goes_on : GoesOnDisk old new b c
 
--- nothing that the store holds has changed
+-- no stored frame has changed
 abbrev pub Stays : Disk → Disk → Books → Books → Type 0
 Stays old new b c = Stores old new b c (stored_on old b)
 
--- a frame may be written for the frozen checkpoint, which writes `size` objects
+-- a frame f of object n may be written for the frozen checkpoint of `size` objects
 pub record MayPut (disk : Disk) (b : Books) (size n : ℕ) (f : Frame) : Type 0 where
   pub stands : IsDurable disk b
   pub running : b.frozen_size ≡ Some size
@@ -239,7 +243,7 @@ pub record MayPut (disk : Disk) (b : Books) (size n : ℕ) (f : Frame) : Type 0 
   pub keepable : IsKeepable b.plan.geometry most n f
   pub room : HasFreeSlot size (puts_in (seen_by disk.seen b) b.plan (frozen_generation b) b.frozen) n
 
--- a frame was written, and the store holds `stored` of it; if the device failed, the frame is broken
+-- a frame f was written: the store has `stored (Kept f)` or, if the device failed, `stored Broken`
 pub record PutsFrame {T E : Type 0} (old new : Disk) (b c : Books) (f : Frame) (stored : Put → Stored)
     (result : Result T E) : Type 0 where
   pub stands : IsDurable new c
@@ -248,7 +252,7 @@ pub record PutsFrame {T E : Type 0} (old new : Disk) (b c : Books) (f : Frame) (
   pub goes_on : GoesOnDisk old new b c
   pub cause : Counts old new result
 
--- a header was published, and the store holds `next`; if the device failed, nothing that is stored changed
+-- a header was published: the store has the frames `next` or, if the device failed, the old ones
 pub record Publishes {T E : Type 0} (old new : Disk) (b c : Books) (next : Stored) (result : Result T E) : Type 0 where
   pub stands : IsDurable new c
   pub stored : OnOk result (stored_on new c ≡ next)
@@ -259,7 +263,7 @@ pub record Publishes {T E : Type 0} (old new : Disk) (b c : Books) (next : Store
   pub any_moment : LeavesEither old new (stored_on old b).saved next.saved
   pub cause : Counts old new result
 
--- the frozen frames are saved at an age; if the device failed, nothing that is stored changed
+-- the frozen frames were committed at an age; if the device failed, no stored frame changed
 pub record Commits {T E : Type 0} (old new : Disk) (b c : Books) (age : ℕ) (result : Result T E) : Type 0 where
   pub stands : IsDurable new c
   pub stored : (f : FrozenPuts) → (stored_on old b).frozen ≡ Some f →
@@ -273,13 +277,13 @@ pub record Commits {T E : Type 0} (old new : Disk) (b c : Books) (age : ℕ) (re
       (option_map (λ f. next_saved puts age f (stored_on old b).saved) (stored_on old b).frozen)
   pub cause : Counts old new result
 
--- `count` more of the saved objects are home, and nothing else changes
+-- `count` more entries' frames were copied home, and nothing else changed
 pub record MovedBy (old new : Disk) (b c : Books) (count : ℕ) : Type 0 where
   pub books : c ≡ record b { moved = b.moved + count }
   pub stored : stored_on new c ≡ record (stored_on old b) { to_move = b.header.entries - (b.moved + count) }
   pub goes_on : GoesOnDisk old new b c
 
--- `count` of the saved objects went home, and a header says so once all are; if the device failed, some did
+-- `count` saved objects were copied home, and the header has 0 entries once all are; if the device failed, fewer were
 pub record Migrates {T E : Type 0} (old new : Disk) (b c : Books) (count : ℕ) (result : Result T E) : Type 0 where
   pub stands : IsDurable new c
   pub moved : OnOk result (stored_on new c ≡ on_snapshots (moved count) (stored_on old b))
@@ -295,7 +299,7 @@ pub record Migrates {T E : Type 0} (old new : Disk) (b c : Books) (count : ℕ) 
 abbrev pub IsLesser : ℕ → ℕ → ℕ → Type 0
 IsLesser some count left = (some ≤ count) × (some ≤ left) × ((some ≡ count) ⊎ (some ≡ left))
 
--- the header which says that all saved objects are home
+-- the header after all saved objects were copied home: with 0 entries
 abbrev pub home_header : CheckpointHeader → CheckpointHeader
 home_header h = record { sequence = h.sequence + 1; generation = h.generation; entries = 0; age = h.age }
 
@@ -308,20 +312,21 @@ pub record ReadsStore {D : Type 0} (disk : D → Disk) (old new : DurableState D
   pub crash : Narrows (disk old.beneath) (disk new.beneath)
   pub any_moment : Peeks (disk old.beneath) (disk new.beneath)
 
--- ---- one object is saved anew
+-- ---- one object is saved with a new frame, without a checkpoint
 
--- page n may be saved anew at this age
+-- page n may be saved with new words at this age
 pub record MayJournal (age n : ℕ) (s : SavedFrames) : Type 0 where
   pub page : (frame_at s.frames n).header.role ≡ role.Page
   pub later : s.age < age
   pub most : age ≤ 2 ^ 62
 
--- the next header to be committed if one object is saved anew
+-- the header that saves one object with a new frame
 abbrev pub replaced_header : ℕ → Books → CheckpointHeader
 replaced_header age b =
     record { sequence = b.header.sequence + 1; generation = b.header.generation + 2; entries = 1; age = age }
 
--- the object's new frame: it lies in the first slot of the half that the saved generation used
+-- the object's new frame, in slot 0 of the half that the saved generation used: its bytes, and the frame that they
+-- decode to
 abbrev pub first_bytes : Image → Books → ℕ → List ℕ
 first_bytes image b n = slot_bytes image b.plan b.header.generation 0 n
 

@@ -4,18 +4,18 @@ use Rattle.migrator.specs.Names.{Entry, Shape, entry_at, place_length, IsFrameOf
 use Rattle.migrator.specs.Names.{shape_bytes, most, Plan, IsObject, IsShapeFor}
 use Rattle.std.specs.Prelude.{◌≡◌, ◌+◌, ◌-◌, ◌<◌, ◌&&◌, if◌then◌else◌}
 
--- the first sector of the slot that the cluster was to be written to, and the cluster's bytes
+-- a cluster that the device failed to write: its bytes, and the first sector of the slot where they belong
 pub record Unwritten : Type 0 where
   pub sector : ℕ
   pub bytes : List ℕ
 
--- an image with the bytes of the unwritten cluster in its slot
+-- an image with the unwritten cluster in place
 abbrev pub mended : Image → Option Unwritten → Image
 mended image None = image
 mended image (Some u) = λ i. if nat_le u.sector i && nat_lt i (u.sector + 8) then image_of u.bytes (i - u.sector) else
     image i
 
--- the unwritten cluster belongs to the slot of one of these entries, whose object is a node
+-- the unwritten cluster belongs in the slot of one of these entries, whose object is a node
 pub record IsUnwritten (p : Plan) (generation : ℕ) (es : List Entry) (u : Unwritten) : Type 0 where
   pub size : length u.bytes ≡ 4096
   pub index : ℕ
@@ -27,14 +27,14 @@ abbrev pub IfUnwritten : Plan → ℕ → List Entry → Option Unwritten → Ty
 IfUnwritten p generation es None = ⊤
 IfUnwritten p generation es (Some u) = IsUnwritten p generation es u
 
--- the unwritten bytes encode the frame of an object, which has this shape in them
+-- the unwritten cluster encodes the frame of this object, which has this shape
 pub record IsSpeltIn (u : Unwritten) (shape : Shape) (g : Geometry) (number : ℕ) : Type 0 where
   pub object : IsObject g number
   pub fits : IsShapeFor g number shape
   pub sectors : shape.sectors ≡ 8
   pub spelt : IsFrameOf g most number (shape_bytes shape u.bytes) (frame_from g number (shape_bytes shape u.bytes))
 
--- the unwritten cluster: the sector of its slot, if the device failed to write it, and its bytes in memory
+-- the unwritten cluster, if the device failed to write one: its sector, and its bytes in memory
 abbrev pub unwritten_of : Option ℕ → List ℕ → Option Unwritten
 unwritten_of None bytes = None
 unwritten_of (Some sector) bytes = Some (record { sector = sector; bytes = bytes })

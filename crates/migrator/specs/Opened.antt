@@ -8,7 +8,7 @@ use Rattle.layout.specs.declared.open_fault.OpenFault.TheVariants as refusal
 use Rattle.migrator.specs.Put.{Absent}
 use Rattle.migrator.specs.Durable.{DurableState, stored_of, is_sound}
 
--- why an image has no superblock: the least of the first three reasons
+-- why an image has no superblock: the least of reasons 1 to 3 that holds
 abbrev pub HasNoPlan : Image → ℕ → BadImage → Type 0
 HasNoPlan image size bad.Small = IsBadBy image size bad.Small
 HasNoPlan image size bad.NotASuperblock = IsBadBy image size bad.NotASuperblock
@@ -21,20 +21,21 @@ IsUnplanned image size refusal.Failed = ⊤
 IsUnplanned image size refusal.NoMemory = ⊥
 IsUnplanned image size (refusal.Bad reason) = HasNoPlan image size reason
 
--- why the saved frame of object n isn't read: its bytes encode none, the device failed, or memory ran out
+-- why the saved frame of object n wasn't read: its bytes encode none, the device failed, or memory ran out
 abbrev pub IsBadAt : Image → Plan → CheckpointHeader → List Entry → ℕ → OpenFault → Type 0
 IsBadAt image p h es n refusal.Failed = ⊤
 IsBadAt image p h es n refusal.NoMemory = ⊤
 IsBadAt image p h es n (refusal.Bad reason) = (reason ≡ BadFrame) ×
     ((f : Frame) → IsFrameOf p.geometry h.age n (frame_in image p h.generation es n) f → ⊥)
 
--- all that is saved was read: the header, its directory at the front of the entries, and all frames
+-- an image was read: its header, its directory at the front of the entries, and all frames, which are valid
 pub record IsRead (image : Image) (p : Plan) (h : CheckpointHeader) (es : List Entry) : Type 0 where
   pub header : HasHeader image p h
   pub directory : HasDirectory image p h (take h.entries es)
   pub spelt : AreSpelt image p h.age h.generation (take h.entries es)
 
--- a device was opened, and nothing was written: the store holds what it saves, and a crash leaves what a read gives
+-- a device was opened, and nothing was written; the store has its saved frames and no others, and a crash leaves what
+-- a read gives
 pub record OpensDurable {D : Type 0} (disk : D → Disk) (device : D) (s : DurableState D) : Type 0 where
   pub sound : is_sound disk s
   pub holds : Holds (disk device).sectors (disk device).seen (stored_of disk s).saved

@@ -1,4 +1,4 @@
--- The frames that were written into a half of the log.
+-- The frames that were written to a half of the log.
 use Rattle.migrator.specs.Names.{ℕ, List, [], length, map, slice_index_or, range_with_len, Frame, frame_at, Image}
 use Rattle.migrator.specs.Names.{IsFrameOf, frame_from, bytes_at, slot_sector, count_of, Plan, most}
 use Rattle.std.specs.Prelude.{◌≡◌, ◌≢◌, ◌⊎◌, ◌+◌, ◌<◌, ◌≤◌, ◌∷◌}
@@ -6,7 +6,7 @@ use Rattle.migrator.specs.declared.table.Place.{Place}
 use Rattle.migrator.specs.declared.table.Place.TheVariants.{Nowhere, Torn, Whole}
 use Rattle.migrator.specs.Table.{place_at, IsTable, taken_count}
 
--- what the half has of an object: nothing, a frame that the device failed to write, or its frame
+-- what was written of an object to a half: nothing, a frame that the device failed to write, or a frame
 pub data Put : Type 0 where
   Absent : Put
   Broken : Put
@@ -15,7 +15,7 @@ pub data Put : Type 0 where
 abbrev pub put_at : List Put → ℕ → Put
 put_at puts n = slice_index_or puts n Absent
 
--- how many frames the half has of an object; how many slots it takes
+-- how many frames of an object were written; how many slots it takes
 abbrev pub kept_frame : Put → ℕ
 kept_frame Absent = 0
 kept_frame Broken = 0
@@ -34,21 +34,21 @@ sum_of count (put ∷ puts) = count put + sum_of count puts
 abbrev pub kept_count : List Put → ℕ
 kept_count puts = sum_of kept_frame puts
 
--- an object has a slot, or fewer than `room` objects have one
+-- object n has a slot, or fewer than `room` slots are taken
 abbrev pub HasFreeSlot : ℕ → List Put → ℕ → Type 0
 HasFreeSlot room puts n = (put_at puts n ≢ Absent) ⊎ (sum_of held_slot puts < room)
 
--- the frame that was written, or f if there is none
+-- the frame that was written, or f if none was
 abbrev pub put_or : Put → Frame → Frame
 put_or Absent f = f
 put_or Broken f = f
 put_or (Kept put) f = put
 
--- the frames, with those that were written in place of the old ones
+-- the frames, each replaced by the one that was written, if one was
 unfoldable pub overlaid : List Put → List Frame → List Frame
 overlaid puts fs = map (λ n. put_or (put_at puts n) (frame_at fs n)) (range_with_len 0 (length fs))
 
--- the bytes of the frame of an object in a slot; the frame that they decode to
+-- the bytes of an object's frame in a slot; the frame that they decode to
 abbrev pub slot_bytes : Image → Plan → ℕ → ℕ → ℕ → List ℕ
 slot_bytes image p generation slot n = bytes_at image (slot_sector p generation slot) p n
 
@@ -60,11 +60,11 @@ put_of image p generation n Nowhere = Absent
 put_of image p generation n (Torn slot) = Broken
 put_of image p generation n (Whole slot) = Kept (slot_frame image p generation slot n)
 
--- what the half of a generation has of each object
+-- what was written to the half of a generation, object by object
 unfoldable pub puts_in : Image → Plan → ℕ → List Place → List Put
 puts_in image p generation ps = map (λ n. put_of image p generation n (place_at ps n)) (range_with_len 0 (count_of p))
 
--- each slot of a whole place encodes a frame
+-- the table is valid, and each slot that it calls whole encodes a frame of its object
 pub record ArePut (image : Image) (p : Plan) (generation : ℕ) (ps : List Place) : Type 0 where
   pub count : length ps ≡ count_of p
   pub few : taken_count ps ≤ p.geometry.log

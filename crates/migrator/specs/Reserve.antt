@@ -1,4 +1,4 @@
--- The memory of a store, and what is read into it.
+-- The memory of a store, and reading an image into it.
 use Rattle.migrator.specs.Names.{None, List, length, replicate, take, vec_capacity, Frame, Entry, CheckpointHeader}
 use Rattle.migrator.specs.Names.{Image, count_of, Plan, frames_read}
 use Rattle.std.specs.Prelude.{◌≡◌, ◌≤◌}
@@ -8,7 +8,7 @@ use Rattle.migrator.specs.declared.table.Place.{Place}
 use Rattle.migrator.specs.declared.table.Place.TheVariants.{Nowhere}
 use Rattle.migrator.specs.Opened.{IsRead}
 
--- memory for two directories, for the places of all objects, where none has one yet, and for a cluster
+-- memory for two directories, for the places of all objects, of which none has a slot, and for a cluster
 pub record IsReserve (p : Plan) (r : Reserve) : Type 0 where
   pub directory : length r.directories.saved.items ≡ p.geometry.log
   pub room : 4096 ≤ vec_capacity r.directories.saved
@@ -16,14 +16,14 @@ pub record IsReserve (p : Plan) (r : Reserve) : Type 0 where
   pub working : r.tables.working ≡ replicate (count_of p) Nowhere
   pub buffer : r.buffer ≡ None
 
--- an image was read into the reserve: its header and directory, and the frames, which were passed on as `taken`
+-- an image was read: its header, its directory into the reserve, and its frames into the intake `taken`
 pub record IsReadInto {I : Type 0} (Took : I → List Frame → Type 0) (image : Image) (p : Plan) (h : CheckpointHeader)
     (r : Reserve) (taken : I) : Type 0 where
   pub read : IsRead image p h r.directories.saved.items
   pub took : Took taken (frames_read image p h.generation (take h.entries r.directories.saved.items))
   pub reserved : IsReserve p r
 
--- the books of an image before a frame is moved or written
+-- the books of an image that was just opened
 abbrev pub first_books : Plan → CheckpointHeader → List Entry → List Place → List Place → Books
 first_books p h es fs ws = record {
   plan = p;

@@ -1,4 +1,4 @@
--- Which slot of a half of the log each object has.
+-- The slots of objects in a half of the log.
 use Rattle.migrator.specs.Names.{ℕ, Bool, true, false, Option, Some, None, List, [], slice_index_or, Entry}
 use Rattle.std.specs.Prelude.{◌≡◌, ◌+◌, ◌<◌, ◌∷◌}
 use Rattle.migrator.specs.declared.table.Place.{Place}
@@ -18,7 +18,7 @@ is_held Nowhere = false
 is_held (Torn s) = true
 is_held (Whole s) = true
 
--- how many objects have a slot, and how many have their frame in it
+-- how many slots an object takes, and how many valid frames it has in them; these counts over all objects
 abbrev pub has_slot : Place → ℕ
 has_slot Nowhere = 0
 has_slot (Torn s) = 1
@@ -39,7 +39,7 @@ taken_count ps = tally has_slot ps
 abbrev pub whole_count : List Place → ℕ
 whole_count ps = tally has_frame ps
 
--- the slot that an object has, or else the next one
+-- the slot of an object or, if it has none, the next free one
 abbrev pub slot_or : Option ℕ → ℕ → ℕ
 slot_or None next = next
 slot_or (Some s) next = s
@@ -47,12 +47,12 @@ slot_or (Some s) next = s
 abbrev pub slot_for : List Place → ℕ → ℕ
 slot_for ps n = slot_or (slot_of (place_at ps n)) (taken_count ps)
 
--- no two objects have the same slot, and the slots that they have are the first ones
+-- no two objects have the same slot, and the slots in use are the first ones of the half
 pub record IsTable (ps : List Place) : Type 0 where
   pub few : (n s : ℕ) → slot_of (place_at ps n) ≡ Some s → s < taken_count ps
   pub apart : (m n s : ℕ) → slot_of (place_at ps m) ≡ Some s → slot_of (place_at ps n) ≡ Some s → m ≡ n
 
--- the entries of the objects that have a slot, in the order of their numbers; the places begin at number n
+-- the entries of objects that have a slot, in rising order; the first place is that of object n
 abbrev pub entry_before : ℕ → Option ℕ → List Entry → List Entry
 entry_before n None es = es
 entry_before n (Some s) es = record { object = n; slot = s } ∷ es

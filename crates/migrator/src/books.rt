@@ -54,8 +54,8 @@ pub(crate) struct Books {
     pub unwritten: ClusterBuffer,
 }
 
-// Writes the frame of an object into its slot in the half of a generation; if it has none, into the next free slot.
-// After `Failed` the slot may hold any bytes.
+// Writes the frame of an object into its slot in the half of a generation, or into the next free slot if it
+// has none. After `Failed` the slot may hold any bytes.
 fn put_frame<D: Device>(
     device: &mut D,
     plan: &Superblock,
@@ -90,7 +90,7 @@ fn put_frame<D: Device>(
 }
 
 impl Books {
-    // Returns the generation that working frames belong to now.
+    // Returns the generation of the working frames.
     fn working_generation(&self) -> u64
         requires { IsHeader self.now.plan.geometry.log self.now.header }
         ensures { result ≡ working_generation self.now }
@@ -101,8 +101,8 @@ impl Books {
         }
     }
 
-    /// Writes a working frame of an object into a slot of its own, in the half of the log that has no saved and no
-    /// frozen frames. After `Failed` the slot may hold any bytes.
+    /// Writes a working frame of an object into its slot, or the next free one, in the log half without saved
+    /// and frozen frames. After `Failed` the slot may hold any bytes.
     #[tactic(auto, using(crate::proofs::PutFrames::working_room))]
     pub(crate) fn put_working<D: Device>(
         &mut self,
@@ -152,7 +152,7 @@ impl Books {
         self.unwritten.write(device)
     }
 
-    // Writes the frozen frame of an object. No cluster may be unwritten.
+    // Writes the frozen frame of an object. There must be no unwritten cluster.
     fn put_written<D: Device>(
         &mut self,
         device: &mut D,
@@ -179,8 +179,8 @@ impl Books {
         )
     }
 
-    /// Writes the frozen frame of an object into a slot of its own, in the half of the log that has no saved frames.
-    /// After `Failed` the slot may hold any bytes.
+    /// Writes the frozen frame of an object into its slot, or the next free one, in the log half without
+    /// saved frames. After `Failed` the slot may hold any bytes.
     pub(crate) fn put_running<D: Device>(
         &mut self,
         device: &mut D,
@@ -198,7 +198,7 @@ impl Books {
         self.put_written(device, number, header, content)
     }
 
-    /// Freezes the working frames: a checkpoint of `size` objects is frozen.
+    /// Freezes the working frames, for a checkpoint of `size` objects.
     pub(crate) fn freeze(&mut self, size: u64)
         requires idle { self.old.frozen_size ≡ None }
         requires home { self.old.header.entries ≡ 0 }

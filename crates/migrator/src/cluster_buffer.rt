@@ -1,4 +1,4 @@
-// The cluster that is being written into a slot of the log.
+// The cluster that is being written into a log slot.
 ghost use Rattle.std.specs.Prelude.{◌≡◌, ◌+◌, ◌<◌, ◌≤◌, None, Some, true, false, length, IfOk, OnOk, OnErr};
 ghost use Rattle.device.specs.Calls.{Counts};
 ghost use Rattle.layout.specs.Directory.{IsDirectory, entry_at};
@@ -49,7 +49,7 @@ impl Model for ClusterBuffer {
     ghost invariant = { λ b. length b.bytes.items ≡ 4096 };
 }
 
-// Assembles the cluster for the slot of an entry: the frame that lies there, the home frames of the other nodes, and
+// Assembles the cluster for an entry's slot: the frame in the slot, the home frames of the other nodes, and
 // zeros after them.
 fn fill<D: Device>(
     device: &mut D,

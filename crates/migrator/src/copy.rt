@@ -14,8 +14,8 @@ use device::{Device, Failed, SECTOR_SIZE};
 use home_ranges::Home;
 use layout::{BLOCK_BYTES, Entry, Superblock};
 
-/// Writes the home of an object: the saved frames of all objects that share it, and zeros after them. After `Failed`
-/// its sectors may hold any bytes. The caller lends both buffers, so that a series of calls initializes only two.
+/// Writes the home of an object: the saved frames of all objects that share it, then zeros. After `Failed`
+/// its sectors may hold any bytes. The caller lends both buffers, so that a series of calls needs only two.
 pub(crate) fn copy_home<D: Device>(
     device: &mut D,
     plan: &Superblock,

@@ -7,7 +7,8 @@ use layout::{Entry, MAX_LOG};
 use std::alloc::{AllocError, Global};
 use std::marker::Model;
 
-/// The entries of a checkpoint. There is memory for as many as any log half has slots, so only `new` takes memory.
+/// The entries of a checkpoint. There is memory for as many as any log half has slots, so only `new`
+/// allocates.
 #[derive(Drop)]
 pub(crate) struct Directory {
     entries: Vec<Entry>,

@@ -24,7 +24,7 @@ mod open;
 
 pub use open::Opened;
 
-/// The frames that a device holds: the saved ones, the frozen ones, and the working ones, which were written since
+/// The frames on a device: the saved ones, the frozen ones, and the working ones, which were written since
 /// the last freeze.
 #[derive(Drop)]
 pub struct Durable<D: Device> {
@@ -45,9 +45,9 @@ impl<D: Device> Model for Durable<D> {
 }
 
 impl<D: Device> Durable<D> {
-    /// Writes the working frame of an object, for the next checkpoint that will be frozen. It goes into a slot of its
-    /// own, in the log half that has no saved and no frozen frames. Returns `Failed` exactly if the device failed;
-    /// then the slot may hold any bytes.
+    /// Writes the working frame of an object, for the next checkpoint to be frozen. It goes into the object's
+    /// slot, or the next free one, in the log half without saved and frozen frames. Returns `Failed` exactly
+    /// if the device failed; then the slot may hold any bytes.
     pub fn put_working(
         &mut self,
         number: u64,
@@ -71,9 +71,9 @@ impl<D: Device> Durable<D> {
             .put_working(&mut self.device, number, header, content)
     }
 
-    /// Writes the frozen frame of an object. It goes into a slot of its own, in the log half that has no saved
-    /// frames. Returns `Fault` exactly if the device failed; then the slot may hold any bytes. Returns `NoCheckpoint`
-    /// exactly if no checkpoint is frozen.
+    /// Writes the frozen frame of an object. It goes into the object's slot, or the next free one, in the log
+    /// half without saved frames. Returns `Fault` exactly if the device failed; then the slot may hold any
+    /// bytes. Returns `NoCheckpoint` exactly if no checkpoint is frozen.
     pub fn put_frozen(
         &mut self,
         number: u64,
@@ -104,9 +104,9 @@ impl<D: Device> Durable<D> {
         }
     }
 
-    /// Freezes a checkpoint of `size` objects; the working frames become frozen ones, and count among these. It makes
-    /// no device call. It is refused by `CheckpointRunning` exactly if a checkpoint is frozen already, else by
-    /// `MigrationPending` exactly if a saved object isn't home.
+    /// Freezes a checkpoint of `size` objects. The working frames become frozen ones, and count among the
+    /// `size`. It makes no device call. Returns `CheckpointRunning` exactly if a checkpoint is frozen
+    /// already, else `MigrationPending` exactly if a saved object isn't home.
     pub fn freeze(&mut self, size: u64) -> Result<(), Refusal>
         requires enough { sum_of held_slot (stored_of D.disk self.old).working ≤ size }
         requires few { size ≤ self.old.books.plan.geometry.log }
@@ -129,12 +129,12 @@ impl<D: Device> Durable<D> {
         Ok(())
     }
 
-    /// Commits the frozen checkpoint: its frames are saved, at an age, and those of other objects stay saved. Returns
-    /// its generation.
+    /// Commits the frozen checkpoint at an age: its frames are saved, and other objects keep their saved
+    /// frames. Returns its generation.
     ///
-    /// It is refused by `NoCheckpoint` exactly if no checkpoint is frozen, else by `NotStable(left)` exactly if
-    /// `left` of its frames aren't in the log yet. It returns `Fault` exactly if the device failed; then a crash
-    /// leaves what was saved before, or the same with the frozen frames.
+    /// Returns `NoCheckpoint` exactly if no checkpoint is frozen, else `NotStable(left)` exactly if `left` of
+    /// its frames aren't in the log yet. Returns `Fault` exactly if the device failed; then a crash leaves
+    /// what was saved before, or the same with the frozen frames.
     pub fn commit(&mut self, age: u64) -> Result<u64, Refusal>
         requires sound { is_sound D.disk self.old }
         requires ready { (f : FrozenPuts) → (stored_of D.disk self.old).frozen ≡ Some f

@@ -1,4 +1,4 @@
-// Finding the slot of an object in a directory.
+// Finds the slot of an object in a directory.
 ghost use Rattle.std.specs.Prelude.{◌≡◌, ◌<◌, ◌≤◌, ℕ, None, length};
 ghost use Rattle.layout.specs.Directory.{AreRising, IsDirectory, entry_at};
 ghost use Rattle.layout.specs.Image.{frame_slot_in, slot_beside, slot_in};
@@ -30,7 +30,7 @@ fn first_from(entries: &[Entry], number: u64) -> usize
     low
 }
 
-// Returns the slot that a directory gives to an object, or `None`.
+// Returns the slot of an object's entry, or `None` if it has none.
 fn find(entries: &[Entry], number: u64) -> Option<u64>
     requires { AreRising entries.now }
     ensures { result ≡ slot_in entries.now number }
@@ -43,7 +43,8 @@ fn find(entries: &[Entry], number: u64) -> Option<u64>
     }
 }
 
-// Returns the slot of the first entry that shares the home of an object, which has no entry itself; or `None`.
+// Returns the slot of the first entry that shares the home of an object, or `None` if no entry does. The
+// object itself must have no entry.
 fn find_beside(plan: &Superblock, entries: &[Entry], number: u64) -> Option<u64>
     requires directory { IsDirectory plan.now.geometry entries.now }
     requires object { IsObject plan.now.geometry number }
@@ -62,8 +63,8 @@ fn find_beside(plan: &Superblock, entries: &[Entry], number: u64) -> Option<u64>
     }
 }
 
-/// Returns the slot that holds the frame of an object: its own slot if it has one, else that of the first entry in
-/// its cluster; or `None`.
+/// Returns the slot that contains the frame of an object: that of its own entry, else that of the first entry
+/// in its cluster, else `None`.
 pub(crate) fn find_frame_slot(plan: &Superblock, entries: &[Entry], number: u64) -> Option<u64>
     requires directory { IsDirectory plan.now.geometry entries.now }
     requires object { IsObject plan.now.geometry number }

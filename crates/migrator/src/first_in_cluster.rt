@@ -1,4 +1,4 @@
-// The first entry of a cluster: the whole cluster is completed, or copied home, when its turn comes.
+// The first entry of a cluster. When its turn comes, the whole cluster is completed or copied home.
 ghost use Rattle.std.specs.Prelude.{◌≡◌, ◌<◌, ◌-◌, true, false, length};
 ghost use Rattle.layout.specs.Directory.{IsDirectory, entry_at};
 ghost use Rattle.layout.specs.Homes.{home_place};

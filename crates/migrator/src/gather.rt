@@ -1,4 +1,4 @@
-// The saved frames of all objects that share a home.
+// Gathers the saved frames of all objects that share a home.
 ghost use Rattle.std.specs.Prelude.{◌≡◌, ◌+◌, ◌*◌, ◌≤◌, ℕ, length, drop, IsTrue, OnOk};
 ghost use Rattle.device.specs.Calls.{Counts};
 ghost use Rattle.layout.specs.declared.shape.Shape.{Shape};
@@ -42,8 +42,8 @@ fn read_place<D: Device>(
     read_sectors(device, at, sectors, &mut block[..SECTOR_SIZE * sectors])
 }
 
-// Copies the frame of this shape, which shares its sectors from `at` on with others, into its place in a block. The
-// other bytes of the block stay. The sectors are read into `scratch`.
+// Copies a frame of this shape from the sectors at `at`, which it shares with other frames, into a block, at
+// the same offset. No other byte of the block changes. The sectors are read into `scratch`.
 fn copy_part<D: Device>(
     device: &mut D,
     at: u64,
@@ -69,8 +69,9 @@ fn copy_part<D: Device>(
     Ok(())
 }
 
-/// Copies the frame of this shape from the sectors at `at` into its place in a block. The other bytes of the block
-/// stay. `scratch` may then hold any bytes; the caller lends it, so that a series of calls initializes only one.
+/// Copies a frame of this shape from the sectors at `at` into a block, at the same offset. No other byte of
+/// the block changes. `scratch` may then hold any bytes; the caller lends it, so that a series of calls needs
+/// only one.
 pub(crate) fn copy_place<D: Device>(
     device: &mut D,
     at: u64,
@@ -96,7 +97,8 @@ pub(crate) fn copy_place<D: Device>(
     copy_part(device, at, shape, block, scratch)
 }
 
-// Copies the saved frame of an object into its place in a block. The other bytes of the block stay.
+// Copies the saved frame of an object into a block, at the offset of its shape. No other byte of the block
+// changes.
 fn gather_one<D: Device>(
     device: &mut D,
     plan: &Superblock,
@@ -129,7 +131,7 @@ fn gather_one<D: Device>(
     copy_place(device, at, plan.shape(number), block, scratch)
 }
 
-// Fills a block with the saved frames of all objects that share the home of an object, and with zeros after them.
+// Fills a block with the saved frames of all objects that share the home of an object, and zeros after them.
 fn gather_all<D: Device>(
     device: &mut D,
     plan: &Superblock,
@@ -167,7 +169,7 @@ fn gather_all<D: Device>(
     Ok(())
 }
 
-// Whether the frame of an object fills its home, which it then shares with no other object.
+// Whether the frame of an object fills its home. Then no other object shares this home.
 fn is_alone(plan: &Superblock, number: u64) -> bool
     requires { IsObject plan.now.geometry number }
     ensures alone { IsTrue result → (n : ℕ) → IsObject plan.now.geometry n
@@ -211,8 +213,8 @@ fn gather_whole<D: Device>(
     gather_one(device, plan, generation, directory, number, block, scratch)
 }
 
-/// Fills a block with the saved frames of all objects that share the home of an object, and with zeros after them.
-/// `scratch` may then hold any bytes; the caller lends it, so that a series of calls initializes only one.
+/// Fills a block with the saved frames of all objects that share the home of an object, and zeros after them.
+/// `scratch` may then hold any bytes; the caller lends it, so that a series of calls needs only one.
 pub(crate) fn gather<D: Device>(
     device: &mut D,
     plan: &Superblock,

@@ -1,4 +1,4 @@
-// Reading a whole image: every saved frame is read once.
+// Reads a whole image: every saved frame once.
 ghost use Rattle.std.specs.Prelude.{◌≡◌, ℕ, ◌+◌, ◌<◌, ◌≤◌, ◌∷◌, ◌++◌, [], List, length, take, IfOk, IfErr, OnOk};
 ghost use Rattle.model.specs.declared.frame.Frame.{Frame};
 ghost use Rattle.device.specs.Calls.{Only};
@@ -18,7 +18,7 @@ use device::Device;
 use layout::{CheckpointHeader, Entry, OpenFault, Scratch, Superblock};
 use std::alloc::Global;
 
-// Reads the saved frame of an object, and gives it to the intake.
+// Reads the saved frame of an object, and passes it to the intake.
 fn take_frame<D: Device, I: Intake>(
     alloc: Global,
     device: &mut D,
@@ -64,7 +64,7 @@ pub(crate) fn sync_and_read_superblock<D: Device>(device: &mut D) -> Result<Supe
     read_superblock(device)
 }
 
-// Reads the saved frames of all objects, and gives them to the intake.
+// Reads the saved frames of all objects, and passes them to the intake.
 fn take_frames<D: Device, I: Intake>(
     alloc: Global,
     device: &mut D,
@@ -96,8 +96,8 @@ fn take_frames<D: Device, I: Intake>(
     Ok(())
 }
 
-/// Reads the committed header, its directory and every saved frame once: puts the directory into the first entries of
-/// `directory`, and gives the frames to the intake. A refusal is by the least reason that holds.
+/// Reads the committed header, its directory and every saved frame once. Puts the directory into the first
+/// entries of `directory`, and passes the frames to the intake. A refusal has the least reason that holds.
 pub(crate) fn read_image<D: Device, I: Intake>(
     alloc: Global,
     device: &mut D,

@@ -1,4 +1,4 @@
-// What takes the frames of an image while they are being read.
+// The trait of what receives the frames of an image as they are read.
 ghost use Rattle.std.specs.Prelude.{◌≡◌, ℕ, ◌+◌, ◌<◌, ◌≤◌, ◌++◌, ◌∷◌, [], List, length, IfOk, OnOk};
 ghost use Rattle.model.specs.declared.frame.Frame.{Frame};
 ghost use Rattle.layout.specs.Frame.{frame_of};
@@ -7,7 +7,7 @@ use layout::{Body, Scratch};
 use model::{Geometry, ObjectHeader};
 use std::alloc::{AllocError, Global};
 
-/// Takes the saved frames of an image while they are being read, in the order of their numbers.
+/// Receives the saved frames of an image as they are read, in the order of their numbers.
 pub trait Intake: Drop + Sized {
     /// Memory that a new intake may use.
     type Memory: Drop;
@@ -15,10 +15,10 @@ pub trait Intake: Drop + Sized {
     /// Whether exactly these frames were taken.
     ghost Took: { Self → List Frame → Type 0 };
 
-    /// How many frames there is memory for.
+    /// For how many frames there is memory.
     ghost room: { Self → ℕ };
 
-    /// Returns an intake that took no frame, with memory for all. It may take memory from `memory`. Fails only if
+    /// Returns an intake that took no frame yet, with memory for all. It may use `memory`. Fails only if
     /// memory runs out.
     fn new(alloc: Global, geometry: Geometry, memory: &mut Self::Memory) -> Result<Self, AllocError>
         requires few { geometry.nodes + geometry.pages ≤ 8192 }
@@ -39,7 +39,7 @@ pub trait Intake: Drop + Sized {
             → Took self.new (fs ++ frame_of read scratch.now ∷ [])) };
 }
 
-// An intake that keeps only the headers of the frames.
+// An intake that stores only the headers of the frames.
 impl Intake for Vec<ObjectHeader> {
     ghost use Rattle.std.specs.Prelude.{◌≡◌, vec_capacity};
     ghost use Rattle.model.specs.Frame.{headers};

@@ -1,4 +1,5 @@
-//! The durable store: the saved frames on a device, and the frames in the log for the next checkpoint.
+//! The durable store: the saved frames of a device, and the frames written to the log for the next
+//! checkpoint.
 #![tactic(auto)]
 
 mod books;

@@ -1,4 +1,4 @@
-// Reading the superblock and frames of a device.
+// Reads the superblock and frames of a device.
 ghost use Rattle.std.specs.Prelude.{◌≡◌, ◌<◌, ◌≤◌, IfOk, IfErr};
 ghost use Rattle.layout.specs.Directory.{IsDirectory};
 ghost use Rattle.layout.specs.Frame.{IsFrameOf, frame_of};
@@ -22,8 +22,8 @@ use layout::{
 };
 use model::ObjectHeader;
 
-/// Reads the superblock of a device, and no other sector. Returns `Failed` exactly if the device failed, else the
-/// least of reasons 1 to 3 to refuse an image that holds, if one does. It takes no memory.
+/// Reads the superblock of a device, and no other sector. Returns `Failed` exactly if the device failed, else
+/// the least of reasons 1 to 3 that holds, if one does. Doesn't allocate.
 pub fn read_superblock<D: Device>(device: &mut D) -> Result<Superblock, OpenFault>
     ensures found { IfOk result (λ s.
         HasPlan (D.disk device.old).seen (D.disk device.old).sectors s) }
@@ -44,8 +44,8 @@ pub fn read_superblock<D: Device>(device: &mut D) -> Result<Superblock, OpenFaul
     Ok(decode_superblock(&sector)?)
 }
 
-/// Reads the saved frame of an object: from the slot that the directory gives to it or to a node of its cluster, else
-/// from its home. Puts the slots of a node or an annex and the words of a page into `scratch`.
+/// Reads the saved frame of an object, from its own or its cluster's log slot, or from home if there is none.
+/// Puts the slots of a node or an annex and the words of a page into `scratch`.
 pub(crate) fn read_saved<D: Device>(
     device: &mut D,
     plan: &Superblock,
@@ -83,7 +83,7 @@ fn failure(fault: OpenFault) -> Failed
     }
 }
 
-/// Reads a frame that was written into a slot of the half of a generation.
+/// Reads a frame that was written into a slot in the half of a generation.
 pub(crate) fn read_put<D: Device>(
     device: &mut D,
     plan: &Superblock,

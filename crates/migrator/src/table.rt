@@ -1,4 +1,4 @@
-// Which objects have which slots in a half of the log.
+// The slots of objects in a half of the log.
 ghost use Rattle.std.specs.Prelude.{◌≡◌, ◌+◌, ◌<◌, ◌≤◌, [], ◌∷◌, None, Some, length, map, drop, replicate};
 ghost use Rattle.std.specs.Prelude.{vec_capacity, slice_set, IfSome, IfOk};
 ghost use Rattle.migrator.specs.Table.{place_at, slot_of, slot_for, is_held, has_slot, has_frame, taken_count};
@@ -9,7 +9,7 @@ use layout::Entry;
 use std::alloc::{AllocError, Global};
 use std::marker::Model;
 
-/// Where the frame of an object lies in a half of the log.
+/// Where the frame of an object is in a half of the log.
 #[derive(Clone, Copy)]
 pub enum Place {
     /// In no slot.
@@ -200,7 +200,7 @@ impl Table {
         }
     }
 
-    /// Sets the place of an object, in its own slot or the next free one.
+    /// Sets the place of an object: its own slot, or the next free one.
     pub(crate) fn set(&mut self, number: u64, place: Place)
         requires known { number < length self.old }
         requires slot { slot_of place ≡ Some (slot_for self.old number) }

@@ -1,4 +1,4 @@
-// Stores that keep all objects in memory, over a durable store.
+// Stores with all objects in memory, over a durable store.
 ghost use Rattle.std.specs.Prelude.{◌≡◌, IfOk};
 ghost use Rattle.migrator.specs.Durable.{DurableState};
 ghost use Rattle.migrator.specs.WholeStore.{AreObjectsOf, IsOver};
@@ -17,8 +17,8 @@ pub struct AllObjects {
     pub contents: Vec<Content<Cap>>,
 }
 
-/// A store over a durable store that has all objects in memory from its opening on: reading them makes no call of the
-/// device.
+/// A store with all objects in memory from its opening on, over a durable store. Reading an object makes no
+/// call on the device.
 pub trait WholeStore<D: Device>: ObjectStore<D> {
     /// The durable store beneath.
     ghost durable: { Self → DurableState D };
@@ -27,8 +27,8 @@ pub trait WholeStore<D: Device>: ObjectStore<D> {
     fn superblock(&self) -> &Superblock
         ensures { result.now ≡ (durable self.now).books.plan };
 
-    /// Returns the durable store, which has the saved frames, and all present objects. It makes no call of the
-    /// device. It fails to return the objects only if memory runs out.
+    /// Returns the durable store, with the saved frames, and all present objects. It makes no call on the
+    /// device. The objects are `Err` only if memory runs out.
     fn into_parts(self, alloc: Global) -> (Durable<D>, Result<AllObjects, AllocError>)
         ensures durable { result.0 ≡ durable self }
         ensures objects { IfOk result.1 (λ objects. AreObjectsOf (Self.parts self) objects) };
@@ -36,6 +36,6 @@ pub trait WholeStore<D: Device>: ObjectStore<D> {
     /// The store saves what the durable store saves.
     ghost is_over: { (s : Self) → IsOver D.disk (Self.view s) (durable s) };
 
-    /// Changes and fetches of present objects never change the durable store.
+    /// Fetching or changing present objects never changes the durable store.
     ghost still: { (s t : Self) → Self.ContinuesTo s t → durable t ≡ durable s };
 }

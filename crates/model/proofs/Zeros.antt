@@ -8,7 +8,7 @@ use Rattle.model.specs.Words.{IsZeroFrom}
 pub zero_from_start : (words : List ℕ) → words ≡ replicate 512 0 → IsZeroFrom 0 words
 zero_from_start words are = (omega arith, λ i from within. ap (λ it. slice_index it i) are ∙ get_or-replicate 512 i 0 0 within)
 
--- words are all 0 if those before an index are, and those from an earlier index on
+-- 512 words are all 0 if those before `index` are, and those from `end` on, where `end` is at most `index`
 pub all_zero : (words : List ℕ) (end index : ℕ) → length words ≡ 512 → end ≤ index → ((i : ℕ) → i < index → slice_index words i ≡ 0)
     → IsZeroFrom end words → words ≡ replicate 512 0
 all_zero words end index count past before from =

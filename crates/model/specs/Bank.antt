@@ -4,7 +4,7 @@ use Rattle.model.specs.declared.object.Object.{Object}
 use Rattle.model.specs.Object.{is_free}
 use Rattle.model.specs.World.{owner_at}
 
--- a bank, its owner, the owner's owner and so on up to the prime bank, number 0; the first argument limits how many
+-- a bank, its owner, the owner's owner and so on up to the prime bank, number 0; at most k of them
 abbrev pub chain_within : ℕ → List Object → ℕ → List ℕ
 chain_within zero os b = []
 chain_within (suc k) os b = b ∷ (if b == 0 then [] else chain_within k os (owner_at os b))

@@ -20,7 +20,7 @@ use Rattle.model.specs.OrderOutcome.{OrderOutcome, refused, replying_three, made
 use Rattle.model.specs.Revoke.{rescind}
 use Rattle.model.specs.World.{annex_at, content_at, object_at, owner_at}
 
--- which of the numbers ns are free; then all free numbers of nodes, and of pages: the least first
+-- three lists of free numbers, the least first: those among ns, those for nodes, those for pages
 abbrev pub are_free : List Object → List ℕ → List ℕ
 are_free os ns = filter (λ n. is_free (content_at os n)) ns
 
@@ -86,7 +86,8 @@ under os b = filter (λ n. (n == b) || is_under os b (object_at os n)) (range_wi
 unfoldable pub owned_by : List Object → ℕ → List ℕ
 owned_by os b = filter (λ n. not (is_free (content_at os n)) && (owner_at os n == b)) (range_with_len 0 (length os))
 
--- an object, moved to the owner `parent` if bank b owns it; then all objects, moved to the owner of b
+-- an object, with the owner `parent` if bank b owns it; then all objects, where those of bank b now belong to b's
+-- owner
 abbrev pub transferred : ℕ → ℕ → Object → Object
 transferred b parent o = if not (is_free o.content) && (o.owner == b) then
     record { owner = parent; content = o.content } else o
@@ -105,14 +106,14 @@ least n (m ∷ ms) = least (min n m) ms
 unfoldable pub remaining : List Object → ℕ → ℕ
 remaining os b = least (left_of os b) (map (left_of os) (chain os b))
 
--- the order to free the objects that a capability frees: refused unless bank b owns them
+-- the outcome of freeing a capability's objects, n and ns: refused unless bank b owns n
 abbrev pub freed : List Object → ℕ → List ℕ → OrderOutcome
 freed os b [] = refused os code.BadCapability
 freed os b (n ∷ ns) = if owner_at os n == b then made (rescind (n ∷ ns) os) (n ∷ ns) Void else refused os
     code.NotFromThisBank
 
--- The orders of a bank. The least code that applies is the answer: a limit reached, then no free number, then a chain
--- of 16 banks already.
+-- What each order of bank b does. If several codes apply, the least is the reply: a limit is reached, then no number
+-- is free, then the chain already has 16 banks.
 unfoldable pub on_bank : Geometry → List Object → ℕ → BankOrder → Arguments → OrderOutcome
 on_bank g os b bank.NewPage args =
     if has_quota os b 1 then allocated os b (free_pages g os) new_page (λ n. Page n full) else refused os code.Limit

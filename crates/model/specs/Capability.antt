@@ -15,7 +15,7 @@ weak = record { 0 = 3 }
 abbrev pub IsAccess : Access → Type 0
 IsAccess a = (a.0 ≡ 0) ⊎ (a.0 ≡ 1) ⊎ (a.0 ≡ 3)
 
--- an access with more restrictions
+-- an access with the restrictions `bits` added
 abbrev pub union : Access → ℕ → Access
 union a bits = record { 0 = bit_or a.0 bits }
 

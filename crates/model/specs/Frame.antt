@@ -32,7 +32,7 @@ headers fs = map (λ f. f.header) fs
 abbrev pub header_at : List ObjectHeader → ℕ → ObjectHeader
 header_at hs n = slice_index_or hs n blank_header
 
--- Frames from a table of headers and the contents beside it. A number without a content is free.
+-- The frames with these headers and contents, number by number. A number without a content is free.
 unfoldable pub frames_in : List ObjectHeader → List (Content Cap) → List Frame
 frames_in [] cs = []
 frames_in (h ∷ hs) [] = record { header = h; content = content.Free } ∷ frames_in hs []
@@ -45,7 +45,8 @@ held_at cs n = slice_index_or cs n content.Free
 abbrev pub void_held : Cap
 void_held = record { what = Void; count = 0 }
 
--- the object's count that a capability's is compared with: calls for a resume capability, else allocations
+-- the count with which a capability's is compared: its object's call count for a resume capability, else the
+-- allocation count
 abbrev pub current_count : List ObjectHeader → Capability → ℕ
 current_count hs (Resume p) = (header_at hs p).calls
 current_count hs c = elim (named c) [ None ↦ 0 | Some n ↦ (header_at hs n).allocations ]
@@ -54,28 +55,27 @@ current_count hs c = elim (named c) [ None ↦ 0 | Some n ↦ (header_at hs n).a
 abbrev pub conveyed : List ObjectHeader → Cap → Capability
 conveyed hs c = if nat_lt c.count (current_count hs c.what) then Void else c.what
 
--- the object that a frame stands for
+-- the object of a frame: its owner and content, where stale capabilities are void
 abbrev pub object_of : List ObjectHeader → Frame → Object
 object_of hs f = record { owner = f.header.owner; content = map_content (conveyed hs) f.content }
 
--- the objects that frames with counts stand for
+-- the objects of all frames
 unfoldable pub objects_of : List Frame → List Object
 objects_of fs = map (object_of (headers fs)) fs
 
--- Headers change in four ways.
--- an object is rescinded: free, with both counts one more
+-- Headers change in four ways. First: an object is rescinded, so it is free, and both counts are one higher.
 abbrev pub given_up : ObjectHeader → ObjectHeader
 given_up h = record { role = role.Free; allocations = h.allocations + 1; calls = h.calls + 1; owner = 0 }
 
--- the object gets another owner
+-- second: the object gets a new owner
 abbrev pub owned_by : ℕ → ObjectHeader → ObjectHeader
 owned_by bank h = record h { owner = bank }
 
--- the right to resume the process is used
+-- third: the right to resume the process is used
 abbrev pub called : ObjectHeader → ObjectHeader
 called h = record h { calls = h.calls + 1 }
 
--- a free number becomes an object; its counts stay
+-- fourth: a free number becomes an object; its counts stay
 abbrev pub claimed : Role → ℕ → ObjectHeader → ObjectHeader
 claimed r owner h = record h { role = r; owner = owner }
 

@@ -16,7 +16,8 @@ use Rattle.model.specs.OrderOutcome.{OrderOutcome, code_number}
 use Rattle.model.specs.Order.{order}
 use Rattle.model.specs.Revoke.{consume}
 
--- a process gets a message: its words and key, and from register 28 on the capabilities; it is running
+-- the objects after process p gets a message: p has its words and key, has its capabilities from register 28 on, and
+-- runs
 unfoldable pub deliver : List Object → ℕ → Message → List Object
 deliver os p m =
     let r = root_at os p in

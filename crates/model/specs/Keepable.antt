@@ -27,7 +27,7 @@ IsPageNumber g n = (g.nodes ≤ n) × (n < g.nodes + g.pages) × (n < 2 ^ 64)
 abbrev pub IsCount : ℕ → ℕ → Type 0
 IsCount age n = (n ≤ age) × (n < 2 ^ 64)
 
--- what each kind of capability requires, to be held with this count
+-- what `IsKeptCap` requires of a capability of each kind that is held with this count
 abbrev pub Follows : Geometry → ℕ → ℕ → Capability → Type 0
 Follows g age count Void = count ≡ 0
 Follows g age count (Number n) = (n < 2 ^ 64) × (count ≡ 0)
@@ -40,7 +40,7 @@ Follows g age count (Resume p) = IsNodeNumber g p × IsCount age count
 Follows g age count (Bank b) = IsNodeNumber g b × IsCount age count
 Follows g age count Discrim = count ≡ 0
 
--- the number that a capability names is one for its kind of object
+-- the number that a capability names is one for its kind of object: pages from g.nodes on, all others below
 abbrev pub IsTarget : Geometry → Capability → Type 0
 IsTarget g Void = Unit {0}
 IsTarget g (Number n) = Unit {0}
@@ -105,18 +105,18 @@ caps_in (content.Root root) = root.space ∷ []
 caps_in (content.Annex registers) = registers
 caps_in _ = []
 
--- a held capability is live or stale: its count is never above its object's
+-- a capability is live or stale: its count is never above its object's
 abbrev pub IsCurrent : List ObjectHeader → Cap → Type 0
 IsCurrent hs c = c.count ≤ current_count hs c.what
 
 abbrev pub AreCurrent : List Frame → Type 0
 AreCurrent fs = (n : ℕ) → All (IsCurrent (headers fs)) (caps_in (frame_at fs n).content)
 
--- the world that frames stand for at an age
+-- the world of these frames at an age
 abbrev pub world_at : ℕ → List Frame → World
 world_at age fs = record { objects = objects_of fs; age = age }
 
--- frames that can be kept and stand for a sound world
+-- frames that can be kept, and whose world is sound
 pub record IsSoundFrames (g : Geometry) (age : ℕ) (fs : List Frame) : Type 0 where
   pub keepable : AreKeepable g age fs
   pub current : AreCurrent fs

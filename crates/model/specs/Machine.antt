@@ -50,7 +50,7 @@ touching touched (n ∷ ns) = touching (slice_set touched n true) ns
 abbrev pub touched_count : List Bool → ℕ
 touched_count touched = count_by (λ b. b) touched
 
--- a set of renewed numbers, with those added whose objects are rescinded between os and us
+-- the renewed numbers, and those whose objects were rescinded between os and us
 unfoldable pub renewing : List Bool → List Object → List Object → List Bool
 renewing renewed os us = map (λ n. slice_index_or renewed n false || is_given_up os us n)
     (range_with_len 0 (length renewed))

@@ -26,7 +26,7 @@ use Rattle.model.specs.World.{word_at, slot_at, root_at, annex_at, register_at, 
 use Rattle.model.specs.World.{with_state}
 use Rattle.model.specs.Revoke.{consume}
 
--- for each kind of object: the order that the first word sent stands for
+-- for each kind of object: the order with this number, if there is one
 abbrev pub page_order : ℕ → Option PageOrder
 page_order w = if w == 1 then Some page.Read else if w == 2 then Some page.Write else if w == 3 then Some page.Reduce
     else None
@@ -128,8 +128,8 @@ on_process os p process.SetSpace args =
     if is_space args.capability then wrote (with_root os p (with_space (root_at os p) args.capability)) p else refused
     os code.BadCapability
 
--- What an order does. Every order on void is refused as such. No order is invoked on a start or resume capability,
--- which is no kernel object.
+-- What order w on a capability does. Every order on void is refused. Start and resume capabilities have no orders,
+-- because they aren't kernel objects.
 unfoldable pub order : Geometry → List Object → Capability → ℕ → Arguments → OrderOutcome
 order g os Void w args = refused os code.VoidCapability
 order g os (Number n) w args = if w == 1 then replying os n 0 else refused os code.NoOrder

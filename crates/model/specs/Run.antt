@@ -27,7 +27,7 @@ Replies g line.Skip before reply after = (reply ≡ Nothing) × (after ≡ befor
 Replies g line.Bad before reply after = (reply ≡ BadLine) × (after ≡ before)
 Replies g (line.Command c) before reply after = (a : Answer) × (reply ≡ Reported a) × Step g before c a after
 
--- the turn's reply, and the machine after it, are what its line asks for
+-- a turn whose reply, and machine afterwards, follow from its line
 abbrev pub IsTurn : Geometry → Turn → Type 0
 IsTurn g t = (l : Line) × Says t.line l × Replies g l t.before t.reply t.after
 
@@ -50,7 +50,7 @@ abbrev pub onto_first : ℕ → List (List ℕ) → List (List ℕ)
 onto_first b [] = (b ∷ []) ∷ []
 onto_first b (first ∷ others) = (b ∷ first) ∷ others
 
--- the lines of a script: each ends at a newline or at the end of the text; nothing after the last newline is no line
+-- the lines of a script: each ends at a newline or at the end of the text; no line follows a newline at the end
 abbrev pub lines_of : List ℕ → List (List ℕ)
 lines_of [] = []
 lines_of (b ∷ bs) = if b == 10 then [] ∷ lines_of bs else onto_first b (lines_of bs)

@@ -16,7 +16,7 @@ use Rattle.model.specs.Bank.{chain, usage}
 abbrev pub object_count : Geometry → ℕ
 object_count g = g.nodes + g.pages
 
--- a number of a page holds a page, any other a node, a root, an annex or a bank, and each of them may be free
+-- a page has a number from g.nodes on, a node, root, annex or bank one below; any number may be free
 abbrev pub IsOfKind : {C : Type 0} → Geometry → ℕ → Content C → Type 0
 IsOfKind g n content.Free = Unit {0}
 IsOfKind g n (content.Page words) = (g.nodes ≤ n) × (n < object_count g)
@@ -54,8 +54,9 @@ NamesItsKind os _ = Unit {0}
 abbrev pub MayBeHeld : List Object → Capability → Type 0
 MayBeHeld os c = IsWellFormed c × NamesItsKind os c
 
--- Each number has an object of its kind, and capabilities name objects of theirs. Each annex belongs to one process.
--- Banks form a tree below number 0, own all objects and keep their limits.
+-- A sound world: each number has an object of a kind that may have it, and each capability names an object of its
+-- kind. Each annex belongs to one process. Banks form a tree below number 0, own all objects, and stay within their
+-- limits.
 pub record IsSound (g : Geometry) (w : World) : Type 0 where
   pub size : length w.objects ≡ object_count g
   pub kinds : (n : ℕ) → IsOfKind g n (content_at w.objects n)

@@ -23,7 +23,7 @@ use Rattle.model.specs.Invoke.{invoke}
 use Rattle.model.specs.Machine.{Saved, Frozen, Running, Machine, Up, Down, candidates, untouched, touching}
 use Rattle.model.specs.Machine.{touched_count, renewing, opened}
 
--- whether the touched numbers, with those written, are more than half of the log holds
+-- whether the touched and the written numbers together are more than the slots in half of the log
 abbrev pub overfills : Geometry → List Bool → List ℕ → Bool
 overfills g touched written = nat_lt g.log (touched_count (touching touched written))
 
@@ -128,12 +128,12 @@ pub record Outcome : Type 0 where
 abbrev pub outcome : Answer → Running → Outcome
 outcome a s = record { answer = a; after = s }
 
--- a machine with these present objects and age, these numbers written, and these renewed
+-- a machine with these present objects, age and renewed numbers; the written numbers are touched too
 abbrev pub writing : Running → List Object → ℕ → List ℕ → List Bool → Running
 writing s os age written renewed =
     record s { now = record { objects = os; age = age }; touched = touching s.touched written; renewed = renewed }
 
--- a machine with another frozen state
+-- a machine with this frozen state
 abbrev pub freezing : Running → Option Frozen → Running
 freezing s frozen = record s { frozen = frozen }
 
@@ -162,7 +162,7 @@ commits s = elim s.frozen [
       (record s { frozen = None; saved = committed s f; to_move = f.size })
 ]
 
--- the outcome of a command that isn't refused; an invocation then has an effect
+-- the outcome of a command that isn't refused; such an invocation has an effect, because it doesn't stall
 unfoldable pub carried_out : Geometry → Running → Command → Outcome
 carried_out g s (command.Invoke i) = elim (invoke g s.now.objects i) [
   | None ↦ outcome answer.Done s
@@ -202,7 +202,7 @@ abbrev pub Reopens : Geometry → List Saved → Answer → Machine → Type 0
 Reopens g saved a after =
     (at : Saved) × Contains saved at × (a ≡ answer.At at.generation at.world.age) × (after ≡ Up (opened g at))
 
--- whether a command opens the device again; whether it takes memory
+-- whether a command opens the device again; whether it needs memory
 abbrev pub opens : Command → Bool
 opens command.Restart = true
 opens command.Cut = true
@@ -212,7 +212,7 @@ abbrev pub takes_memory : Command → Bool
 takes_memory (command.Show n) = true
 takes_memory c = opens c
 
--- whether `no memory` may be the answer in place of this refusal, or of none
+-- whether `no memory` may replace this refusal or, for `None`, any other answer
 abbrev pub gives_way : Option Refusal → Bool
 gives_way (Some refusal.BadNumber) = false
 gives_way _ = true

@@ -6,9 +6,9 @@ use bitflags::{Flag, Flags, bitflag_items};
 
 /// What a page, node or space capability doesn't let its holder do.
 ///
-/// A capability is full with no bit set, read-only with `READ_ONLY`, and weak with both. What is
-/// fetched through a weak one is read-only and weak itself (EROS: the weak access right). No
-/// capability is weak without being read-only. A number that is fetched weakly stays.
+/// A capability is full with no bit set, read-only with `READ_ONLY`, and weak with both. What is fetched
+/// through a weak one is read-only and weak itself (EROS: the weak access right). No capability is weak
+/// without being read-only. A number capability fetched through a weak one is unchanged.
 #[derive(Clone, Copy, PartialEq, Eq)]
 pub struct Access(u8);
 

@@ -16,13 +16,13 @@ pub enum MemoryFault {
     Beyond = 2,
     /// A slot on the way is void.
     Hole = 3,
-    /// A slot on the way holds something else than the next level.
+    /// A slot on the way doesn't hold the next level.
     Malformed = 4,
     /// The reference is a store, and the way to the page isn't writable.
     ReadOnly = 5,
 }
 
-/// Why a page wasn't journaled. If both apply, the first here is given.
+/// Why a page wasn't journaled. If both apply, it is the first in this list.
 #[derive(Clone, Copy)]
 pub enum Unjournaled {
     /// The object isn't a page.
@@ -31,8 +31,8 @@ pub enum Unjournaled {
     Renewed = 2,
 }
 
-/// Why a command wasn't carried out. If several apply, the first here is given, except that
-/// `NoMemory` and `Fault` may be given in place of others.
+/// Why a command wasn't carried out. If several apply, it is the first in this list, except that `NoMemory`
+/// and `Fault` may come in place of others.
 #[derive(Clone, Copy)]
 pub enum Refusal {
     /// The machine is down: only `restart` and `cut` are taken.
@@ -45,7 +45,7 @@ pub enum Refusal {
     Worn,
     /// The started process isn't available.
     Stalled,
-    /// More objects would be written since the last checkpoint than half of the log holds.
+    /// More objects would be touched than half of the log has slots for.
     LogFull,
     /// There is a frozen state.
     CheckpointRunning,
@@ -75,7 +75,7 @@ pub struct Description {
     pub used: u64,
 }
 
-/// A description in memory of its own, so that an answer stays small: few answers have one.
+/// A description in a box. Few answers have one, so an answer stays small.
 #[derive(Drop)]
 pub struct Shown {
     description: Box<Description>,
@@ -90,7 +90,7 @@ impl Model for Shown {
 }
 
 impl Shown {
-    /// Moves a description into memory of its own. Fails only if memory runs out.
+    /// Moves a description into a box. Fails only if memory runs out.
     pub fn new(alloc: Global, description: Description) -> Result<Self, AllocError>
         ensures { IfOk result (λ shown. shown ≡ description) }
     {

@@ -81,8 +81,8 @@ impl Capability {
     /// The capability that a fetch through a weak one gives in place of this one (EROS: weak access,
     /// KeyKOS: sense).
     ///
-    /// A number stays. A page, a node and a space are read-only and weak. All else becomes void,
-    /// since it can't be made harmless.
+    /// A number capability is unchanged. A page, node or space becomes read-only and weak. All else becomes
+    /// void, since it can't be made harmless.
     pub fn diminish(self) -> Capability
         ensures { result ≡ diminished self }
     {
@@ -116,7 +116,7 @@ impl Capability {
         )
     }
 
-    /// Whether its restrictions are some that it can have, and its height is from 1 to 4.
+    /// Whether its access is valid, and its height is from 1 to 4.
     #[inline(always)]
     pub fn is_well_formed(self) -> bool
         ensures { IsTrue result ↔ IsWellFormed self }

@@ -73,7 +73,7 @@ pub struct Invocation {
 }
 
 impl Invocation {
-    /// Every invocation can be spelt in a script. This does nothing; its contract is the fact.
+    /// A lemma as a function, which does nothing: every invocation can be spelt in a script.
     pub fn can_be_spelt(self)
         ensures { Fits (Command.Invoke self) }
     {
@@ -143,7 +143,7 @@ pub enum Command {
 }
 
 impl Command {
-    /// Every command can be spelt in a script. This does nothing; its contract is the fact.
+    /// A lemma as a function, which does nothing: every command can be spelt in a script.
     pub fn can_be_spelt(self)
         ensures { Fits self }
     {

@@ -1,8 +1,8 @@
-// Objects as they are kept: with counts.
+// Objects with their counts.
 use crate::capability::Cap;
 use crate::object::{Content, Role};
 
-/// What is known of an object besides its content, whether or not the content is in memory.
+/// The data about an object besides its content. It is in memory whether or not the content is.
 #[derive(Clone, Copy)]
 pub struct ObjectHeader {
     /// What the object is.
@@ -12,11 +12,11 @@ pub struct ObjectHeader {
     pub allocations: u64,
     /// How often the right to resume the process was used or rescinded (EROS: the call count).
     pub calls: u64,
-    /// The number of the bank that owns the object, or 0 where it is free.
+    /// The number of the bank that owns the object, or 0 if it is free.
     pub owner: u64,
 }
 
-/// An object with its counts, as an image keeps it. Its capabilities have counts too, and may be stale.
+/// An object with its counts, as an image stores it. Its capabilities have counts too, and may be stale.
 #[derive(Drop)]
 pub struct Frame {
     pub header: ObjectHeader,

@@ -1,10 +1,10 @@
-// How much a device holds, and how far the machine may go.
+// How many objects a device holds, and the greatest age.
 ghost use Rattle.std.specs.Prelude.{◌↔◌, IsTrue};
 ghost use Rattle.model.specs.Keepable.{IsTarget};
 
 use crate::capability::Capability;
 
-/// The age at which no process can invoke, no checkpoint begin and no page be journaled any more.
+/// The greatest age. At this age invocations, checkpoints and journaling are refused.
 pub const MAX_AGE: u64 = 1 << 62;
 
 /// How much a device holds.
@@ -16,12 +16,12 @@ pub struct Geometry {
     pub nodes: u64,
     /// How many pages.
     pub pages: u64,
-    /// How many objects one half of the log holds, and so one checkpoint.
+    /// How many objects half of the log has slots for, and so the most that one checkpoint can write.
     pub log: u64,
 }
 
 impl Geometry {
-    /// Whether what a capability names is a number of its kind.
+    /// Whether the number that a capability names is one for its kind of object. True if it names none.
     #[inline(always)]
     pub fn has_target(self, capability: Capability) -> bool
         ensures { IsTrue result ↔ IsTarget self capability }

@@ -6,7 +6,7 @@ use crate::command::Command;
 pub enum Line {
     /// Nothing: the line is empty or a comment.
     Skip,
-    /// The line isn't one of the grammar.
+    /// The line doesn't follow the grammar.
     Bad,
     Command(Command),
 }

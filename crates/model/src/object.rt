@@ -30,7 +30,7 @@ pub enum State {
     Waiting = 2,
 }
 
-/// The root of a process: all that it has but its registers, which its annex holds.
+/// The root of a process: everything except its registers, which are in its annex.
 #[derive(Drop)]
 pub struct Root<C> {
     pub state: State,
@@ -55,7 +55,7 @@ pub enum Content<C> {
     Bank { limit: u64 },
 }
 
-/// An object and the bank that owns it, which is 0 where it is free.
+/// An object and the bank that owns it, which is 0 if the object is free.
 #[derive(Drop)]
 pub struct Object {
     pub owner: u64,
@@ -112,7 +112,7 @@ impl Content<Cap> {
     }
 }
 
-/// A reference to what an object holds, wherever that is kept.
+/// A reference to an object's content, wherever that is stored.
 #[derive(Clone, Copy)]
 pub enum ContentRef<'a> {
     Free,
@@ -124,7 +124,7 @@ pub enum ContentRef<'a> {
 }
 
 impl ContentRef<'_> {
-    /// The same content, in memory of its own. Fails only where memory runs out.
+    /// Copies the content into new memory. Fails only if memory runs out.
     pub fn to_content(self, alloc: Global) -> Result<Content<Cap>, AllocError>
         ensures { IfOk result (λ content. content ≡ content_behind self.entry) }
     {

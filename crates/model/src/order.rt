@@ -1,4 +1,4 @@
-// The orders of kernel objects, and what comes of them.
+// The orders of kernel objects, and their result codes.
 ghost use Rattle.std.specs.Prelude.{◌≡◌};
 ghost use Rattle.model.specs.OrderOutcome.{code_number};
 
@@ -65,7 +65,7 @@ pub enum BankOrder {
     Remaining = 8,
 }
 
-/// What an order is given: the second and third word sent, and the first capability.
+/// The arguments of an order: the second and third word sent, and the first capability.
 #[derive(Clone, Copy)]
 pub struct Arguments {
     pub first: u64,

@@ -1,4 +1,4 @@
-// The 512 words of a page, stored in place.
+// The 512 words of a page, stored inline.
 ghost use Rattle.std.specs.Prelude.{◌≡◌, ◌<◌, length, replicate, slice_set};
 ghost use Rattle.model.specs.Words.{IsZeroFrom};
 ghost use Rattle.std.specs.Borrow.{Lends, sem, Array, u64 as word};
@@ -8,7 +8,7 @@ use std::marker::Model;
 /// How many words of 64 bits a page has.
 pub const WORDS: usize = 512;
 
-/// The 512 words of a page, stored in place. `Words` holds a `Page` in a box.
+/// The 512 words of a page, stored inline. `Words` holds a `Page` in a box.
 #[derive(Drop)]
 pub struct Page {
     words: [u64; 512],
@@ -41,7 +41,7 @@ fn clear_before(words: &mut [u64], end: usize)
 impl Page {
     ghost use Rattle.model.specs.contracts.page.Page.{the_row};
 
-    /// All words 0.
+    /// A page of zeros.
     pub fn blank() -> Page
         ensures { result ≡ replicate 512 0 }
     {
@@ -51,7 +51,7 @@ impl Page {
         }
     }
 
-    /// The same words as these.
+    /// A page with these words.
     pub fn of(words: &[u64; 512]) -> Page
         ensures { result ≡ words.now }
     {
@@ -68,7 +68,7 @@ impl Page {
         &self.words
     }
 
-    /// Lends all words, to be written.
+    /// Borrows all words, to change them.
     pub fn as_mut_slice(&mut self) -> &mut [u64]
         ensures* writes_back { sem 𝓛 (Lends the_row (Array word 0) self.entry result (λ words. words)) }
         ensures value { result.now ≡ self.old }

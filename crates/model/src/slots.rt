@@ -7,7 +7,7 @@ use std::marker::Model;
 /// How many slots a node has, and how many registers a process.
 pub const SLOTS: usize = 32;
 
-/// The 32 slots of a node, or registers of a process, in memory of their own.
+/// The 32 slots of a node, or registers of a process, in a vector.
 #[derive(Drop)]
 pub struct Slots<C> {
     items: Vec<C>,
@@ -26,7 +26,7 @@ impl<C> Model for Slots<C> {
 }
 
 impl<C: Copy> Slots<C> {
-    /// All slots the same. Fails only where memory runs out.
+    /// Returns slots that all hold `held`. Fails only if memory runs out.
     pub fn new(alloc: Global, held: C) -> Result<Self, AllocError>
         ensures { IfOk result (λ slots. slots ≡ replicate 32 held) }
     {
@@ -64,7 +64,7 @@ impl<C: Copy> Slots<C> {
         self.items.as_slice()
     }
 
-    /// The same slots as these. Fails only where memory runs out.
+    /// A copy of these slots. Fails only if memory runs out.
     pub fn of(alloc: Global, slots: &[C; 32]) -> Result<Self, AllocError>
         ensures { IfOk result (λ copy. copy ≡ slots.now) }
     {

@@ -1,4 +1,4 @@
-// The 512 words of a page, in memory of their own.
+// The 512 words of a page, in a box.
 ghost use Rattle.std.specs.Prelude.{◌≡◌, ◌<◌, length, replicate, IfOk, slice_index, slice_set};
 ghost use Rattle.std.specs.Borrow.{Lends, sem, Array, u64 as word};
 
@@ -6,7 +6,7 @@ use crate::page::Page;
 use std::alloc::{AllocError, Global};
 use std::marker::Model;
 
-/// The 512 words of a page, in memory of their own.
+/// The 512 words of a page, in a box.
 #[derive(Drop)]
 pub struct Words {
     page: Box<Page>,
@@ -23,7 +23,7 @@ impl Model for Words {
 impl Words {
     ghost use Rattle.model.specs.contracts.words.Words.{the_row};
 
-    /// All words 0. Fails only where memory runs out.
+    /// A page of zeros. Fails only if memory runs out.
     pub fn new(alloc: Global) -> Result<Self, AllocError>
         ensures { IfOk result (λ words. words ≡ replicate 512 0) }
     {
@@ -32,7 +32,7 @@ impl Words {
         })
     }
 
-    /// The same words as these. Fails only where memory runs out.
+    /// A page with these words. Fails only if memory runs out.
     pub fn of(alloc: Global, words: &[u64; 512]) -> Result<Self, AllocError>
         ensures { IfOk result (λ copy. copy ≡ words.now) }
     {
@@ -65,7 +65,7 @@ impl Words {
         &self.as_array()[..]
     }
 
-    /// Lends all words, to be written.
+    /// Borrows all words, to change them.
     pub fn as_mut_slice(&mut self) -> &mut [u64]
         ensures* writes_back { sem 𝓛 (Lends the_row (Array word 0) self.entry result (λ words. words)) }
         ensures value { result.now ≡ self.old }
@@ -76,7 +76,7 @@ impl Words {
         page.as_mut_slice()
     }
 
-    /// Puts this word at an index.
+    /// Sets the word at an index.
     pub fn set(&mut self, index: usize, word: u64)
         requires { index < 512 }
         ensures set { self.new ≡ slice_set self.old index word }

@@ -16,7 +16,7 @@ use Rattle.model_laws.proofs.BankRescind.{IsClosedSet, lost_together, used_owner
 pub used_within : (os : List Object) (n : ℕ) → is_free (content_at os n) ≡ false → n < length os
 used_within os n used = grind (arith, nat_tests, get_or_past)
 
--- a set of objects that are given up together, each listed once
+-- a set of objects that are rescinded together, each listed once
 pub record IsGivenUp (os : List Object) (set : List ℕ) : Type 0 where
   pub closed : IsClosedSet os set
   pub once : AllDiffer set
@@ -25,7 +25,7 @@ pub record IsGivenUp (os : List Object) (set : List ℕ) : Type 0 where
 pub given_up_within : (os : List Object) (set : List ℕ) → IsGivenUp os set → (n : ℕ) → is_member set n ≡ true → n < length os
 given_up_within os set h n member = used_within os n (h.used n member)
 
--- if a bank is above all freed objects or above none, its usage afterwards plus their count is its usage before
+-- if a bank is above all freed objects, its usage falls by their number; if it is above none, its usage is unchanged
 pub usage_given_up : (os : List Object) (set : List ℕ) → IsTree os → IsGivenUp os set → (x : ℕ) → is_member set x ≡ false
     → (above : Bool) → ((n : ℕ) → is_member set n ≡ true → is_under os x (object_at os n) ≡ above)
     → usage (rescind set os) x + (if above then length set else 0) ≡ usage os x
@@ -36,7 +36,7 @@ pub differ_where : (test : Content Capability → Bool) (os : List Object) (m n 
     test (content_at os n) ≡ false → m ≢ n
 differ_where test os m n is isnt same = false≢true (sym isnt ∙ (ap (λ (k : ℕ). test (content_at os k)) (sym same) ∙ is))
 
--- contents of one kind aren't of another
+-- a content of one kind isn't of another
 
 root_no_annex : (c : Content Capability) → is_root c ≡ true → is_annex c ≡ false
 root_no_annex c e = grind (arith, nat_tests)
@@ -104,19 +104,19 @@ usage_freed_both g os c b n ns h own frees names x bank =
     (is_member (chain os b) x)
     (λ m e. under_owner os x m (set.given_up.used m e) ∙ ap (λ (k : ℕ). is_member (chain os k) x) (set.owner m e ∙ own))
 
--- the usage of a bank after a free
+-- a free lowers the usage of each bank above the freed objects by their number, and of no other bank
 pub usage_freed : (g : Geometry) (os : List Object) (c : Capability) (b n : ℕ) (ns : List ℕ) → IsNow g os → owner_at os n ≡ b →
     freed_by os c ≡ n ∷ ns → NamesItsKind os c → (x : ℕ) → IsTrue (is_bank (content_at os x))
     → usage (rescind (n ∷ ns) os) x ≡ usage os x - (if is_member (chain os b) x then length (n ∷ ns) else 0)
 usage_freed g os c b n ns h own frees names x bank = omega (arith, usage_freed_both g os c b n ns h own frees names x bank)
 
--- a bank's usage is at least the number of objects that a free gives up
+-- a bank's usage is at least the number of objects that the order `Free` rescinds
 pub freed_fits : (g : Geometry) (os : List Object) (c : Capability) (b n : ℕ) (ns : List ℕ) → IsNow g os → owner_at os n ≡ b →
     freed_by os c ≡ n ∷ ns → NamesItsKind os c → (x : ℕ) → IsTrue (is_bank (content_at os x)) →
     (if is_member (chain os b) x then length (n ∷ ns) else 0) ≤ usage os x
 freed_fits g os c b n ns h own frees names x bank = omega (arith, usage_freed_both g os c b n ns h own frees names x bank)
 
--- the lists of the objects under a bank, and of those that it owns
+-- no number occurs twice in the list of the objects under a bank
 
 pub under_once : (os : List Object) (b : ℕ) → AllDiffer (under os b)
 unfolding under
@@ -208,7 +208,7 @@ module _ (g : Geometry) (os : List Object) (h : IsFramed g os) (b : ℕ) (is : I
     ]
   ]
 
-  -- a bank that stays is above everything under this bank exactly if it is above this bank
+  -- a bank that isn't under b is in the chain of each bank under b exactly if it is in the chain of b's owner
   above_alike : (x : ℕ) → is_member (under os b) x ≡ false → (c : ℕ) → IsTrue (is_bank (content_at os c)) → is_member (chain os c) b ≡ true
       → is_member (chain os c) x ≡ is_member (chain os (owner_at os b)) x
   above_alike x stays =
@@ -267,7 +267,7 @@ module _ (g : Geometry) (os : List Object) (h : IsFramed g os) (b : ℕ) (is : I
       → usage (rescind (under os b) os) x + (if is_member (chain os (owner_at os b)) x then length (under os b) else 0) ≡ usage os x
   usage_destroyed_both x stays = grind (arith, nat_tests, usage_given_up, tree, under_given_up, under_alike)
 
--- the usage of a bank that stays if another is destroyed
+-- if a bank is destroyed, the usage of each bank above it falls by the number of destroyed objects; other usages stay
 pub usage_destroyed : (g : Geometry) (os : List Object) (b : ℕ) → IsNow g os → IsTrue (is_bank (content_at os b)) → b ≢ 0
     → (x : ℕ) → is_member (under os b) x ≡ false
     → usage (rescind (under os b) os) x ≡ usage os x - (if is_member (chain os (owner_at os b)) x then length (under os b) else 0)

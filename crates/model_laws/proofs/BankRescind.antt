@@ -79,7 +79,7 @@ module _ (os : List Object) (set : List ℕ) (tree : IsTree os) (closed : IsClos
   unfolding chain
   chain_kept b is stays = chain_within_kept 16 b is stays
 
-  -- an object that stays is under the same banks as before, and a rescinded one under none
+  -- an object that stays is under the same banks as before
   under_kept : (x n : ℕ) → is_member set n ≡ false → is_under (rescind set os) x (object_at (rescind set os) n)
       ≡ is_under os x (object_at os n)
   under_kept x n stays = grind (arith, nat_tests, kept_tests, kept_alike, chain_kept, used_owner, owner_stays)
@@ -110,7 +110,7 @@ usage_falls : (os : List Object) (set : List ℕ) → IsTree os → IsClosedSet 
     → usage (rescind set os) x ≤ usage os x
 usage_falls os set tree closed x stays = omega (arith, usage_rescinded os set tree closed x stays)
 
--- the frame after a rescind
+-- objects satisfy `IsFramed` after a rescind of a closed set if they did before
 framed_rescind : (g : Geometry) (os : List Object) (set : List ℕ) → IsFramed g os → IsClosedSet os set → IsFramed g (rescind set os)
 framed_rescind g os set h closed =
     let tree = tree_of g os h in
@@ -162,7 +162,7 @@ framed_rescind g os set h closed =
 
 -- what the objects hold after a rescind
 
--- an object of the same role, and a process in the same state
+-- number n has the same role in both lists and, if it is a process, the same state
 pub record IsAsBefore (os us : List Object) (n : ℕ) : Type 0 where
   pub role : role_of (content_at us n) ≡ role_of (content_at os n)
   pub state : state_at us n ≡ state_at os n
@@ -232,7 +232,7 @@ count_members os (m ∷ ms) once below =
     apart : (j : ℕ) → (j ≡ m) ⊎ (j ≢ m) → cond (j == m) 1 0 + cond (is_member ms j) 1 0 ≡ cond (is_member (m ∷ ms) j) 1 0
     apart j is = grind (arith, nat_tests)
 
--- if a bank is above all members of a set or above none, it loses all of them from its usage or none
+-- if a bank is above all members of a set, it loses their number from its usage; if it is above none, it loses nothing
 pub lost_together : (os : List Object) (set : List ℕ) (x : ℕ) (above : Bool) → AllDiffer set →
     ((n : ℕ) → is_member set n ≡ true → n < length os) → ((n : ℕ) → is_member set n ≡ true → is_under os x (object_at os n) ≡ above) →
     lost os set x ≡ (if above then length set else 0)

@@ -19,7 +19,7 @@ use Rattle.model_laws.proofs.BankRescind.{held_as_before, rescinded_now, used_ow
 use Rattle.model_laws.proofs.BankFreed.{IsGivenUp, differ_where, freed_set, tree_induction, under_given_up, under_owner}
 use Rattle.model_laws.proofs.BankFreed.{usage_given_up}
 
--- the owner of an object after the bank's objects were transferred
+-- the owner, after the transfer, of an object that n owned: the parent if n is the returned bank
 abbrev pub heir : ℕ → ℕ → ℕ → ℕ
 heir b parent n = if n == b then parent else n
 
@@ -61,7 +61,7 @@ module _ (os : List Object) (t : IsTree os) (b : ℕ) (is : IsTrue (is_bank (con
   heir_differs : (n : ℕ) → heir b (owner_at os b) n ≢ b
   heir_differs n e = grind (arith, nat_tests, parent_other, heir_of, heir_other)
 
-  -- afterwards the bank is in no chain but its own
+  -- after the transfer no other bank's chain contains the bank
   no_heir_within : (k n : ℕ) → is_member (chain_within k (inherited os b) (heir b (owner_at os b) n)) b ≡ false
   no_heir_within zero n = refl
   no_heir_within (suc k) n = elim (cases_eq (heir b (owner_at os b) n) 0) [
@@ -72,7 +72,7 @@ module _ (os : List Object) (t : IsTree os) (b : ℕ) (is : IsTrue (is_bank (con
         ∙ no_heir_within k (owner_at os (heir b (owner_at os b) n)))
   ]
 
-  -- all other banks are in the same chains as before
+  -- after the transfer each chain contains the same banks as before, apart from this bank
   heir_within : (x : ℕ) → x ≢ b → (c : ℕ) → IsTrue (is_bank (content_at os c)) → (k : ℕ) → length (chain os c) ≤ k
       → is_member (chain_within k (inherited os b) (heir b (owner_at os b) c)) x ≡ is_member (chain os c) x
   heir_within x differ =
@@ -137,7 +137,7 @@ module _ (os : List Object) (t : IsTree os) (b : ℕ) (is : IsTrue (is_bank (con
         (chain_heir 0 c (λ e. on (sym e)) bank ∙ has_prime c bank)
   ]
 
-  -- the usage of other banks doesn't change, and the bank has usage 0
+  -- after the transfer an object is under another bank exactly if it was before
   under_heir : (x n : ℕ) → x ≢ b → is_under (inherited os b) x (object_at (inherited os b) n) ≡ is_under os x (object_at os n)
   under_heir x n differ = grind (arith, nat_tests, inherited_content, inherited_owner, chain_heir, used_owner)
 
@@ -157,7 +157,7 @@ module _ (os : List Object) (t : IsTree os) (b : ℕ) (is : IsTrue (is_bank (con
       count_none (λ p. not (p.0 == b) && is_under (inherited os b) b p.1) (inherited os b) free
       (λ i. and_right (not (i == b)) _ (no_under i))
 
--- the frame after a bank's objects are transferred
+-- objects satisfy `IsFramed` after a transfer of a bank's objects if they did before
 pub framed_inherited : (g : Geometry) (os : List Object) (b : ℕ) → IsFramed g os → IsTrue (is_bank (content_at os b)) → b ≢ 0 →
     IsFramed g (inherited os b)
 framed_inherited g os b h is on =
@@ -248,7 +248,7 @@ usage_returned_both g os b h is on x differ =
     chain_heir os t b is on x (owner_at os b) differ (owner_bank os t b is))))
     ∙ usage_inherited os t b is on x differ
 
--- the usages of banks if another bank is returned to its parent
+-- if a bank is returned to its parent, the usage of each bank above it falls by one; other usages stay
 pub usage_returned : (g : Geometry) (os : List Object) (b : ℕ) → IsNow g os → IsTrue (is_bank (content_at os b)) → b ≢ 0
     → (x : ℕ) → x ≢ b
     → usage (rescind (b ∷ []) (inherited os b)) x ≡ usage os x - (if is_member (chain os (owner_at os b)) x then 1 else 0)
@@ -261,7 +261,7 @@ returned_fits g os b h is on x differ = omega (arith, usage_returned_both g os b
 
 -- outcomes
 
--- an outcome that gives no capability
+-- an outcome with sound objects that gives no capability is valid
 void_keeps : (g : Geometry) (os : List Object) (written : List ℕ) → IsNow g os → IsOutcome g (made os written Void)
 void_keeps g os written h = grind (arith, nat_tests)
 

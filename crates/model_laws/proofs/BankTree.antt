@@ -12,7 +12,7 @@ pub record IsTree (os : List Object) : Type 0 where
   pub prime : IsTrue (is_bank (content_at os 0)) × (owner_at os 0 ≡ 0)
   pub chains : (b : ℕ) → IsTrue (is_bank (content_at os b)) → Contains (chain os b) 0
 
--- the tree of framed objects
+-- if objects satisfy `IsFramed`, their banks form a tree
 pub tree_of : (g : Geometry) (os : List Object) → IsFramed g os → IsTree os
 tree_of g os h = record { unowned = h.unowned; owners = h.owners; prime = h.prime; chains = h.chains }
 
@@ -20,7 +20,7 @@ tree_of g os h = record { unowned = h.unowned; owners = h.owners; prime = h.prim
 pub bank_used : (c : Content Capability) → IsTrue (is_bank c) → is_free c ≢ true
 bank_used c is gone = grind (arith, nat_tests)
 
--- lists of numbers
+-- a member of a list is a member of the list with one more item
 
 contains_more : (x y : ℕ) (xs : List ℕ) → Contains xs y → Contains (x ∷ xs) y
 contains_more x y xs h = (suc h.0, omega (arith, h.1), h.2)
@@ -33,7 +33,7 @@ member_tail x b xs differ = ap (λ t. t || is_member xs x) (ne_eqb x b differ)
 pub member_head : (x b : ℕ) (xs : List ℕ) → x ≡ b → is_member (b ∷ xs) x ≡ true
 member_head x b xs same = ap (λ t. t || is_member xs x) (eq-eqb x b same)
 
--- chains of at most a given length
+-- the chain of number 0 is that number alone, whatever the limit
 
 within_end : (os : List Object) (k b : ℕ) → b ≡ 0 → chain_within (suc k) os b ≡ b ∷ []
 within_end os k b end = rw (eq-eqb b 0 end) refl
@@ -58,7 +58,7 @@ within_on_same os us (suc k) b same = elim (cases_eq b 0) [
       ∙ (ap (λ xs. b ∷ xs) (within_on_same os us k (owner_at os b) above) ∙ sym (within_on os k b on)))
 ]
 
--- lists of objects with the same owners along the chain of a bank have the same chain of it
+-- if two lists of objects agree on the owners along the chain of a bank, the bank has the same chain in both
 pub chain_on : (os us : List Object) (b : ℕ) → ((x : ℕ) → is_member (chain os b) x ≡ true → owner_at us x ≡ owner_at os x) →
     chain us b ≡ chain os b
 unfolding chain
@@ -69,17 +69,17 @@ pub chain_length : (os : List Object) (b : ℕ) → length (chain os b) ≤ 16
 unfolding chain
 chain_length os b = within_length os 16 b
 
--- the chain of the prime bank
+-- the chain of the prime bank is the prime bank alone
 pub chain_prime : (os : List Object) → chain os 0 ≡ 0 ∷ []
 unfolding chain
 chain_prime os = within_end os 15 0 refl
 
--- the chain of number 0
+-- the chain of number 0 is number 0 alone
 pub chain_zero : (os : List Object) (b : ℕ) → b ≡ 0 → chain os b ≡ b ∷ []
 unfolding chain
 chain_zero os b end = within_end os 15 b end
 
--- a chain that is shorter than the limit is extended by an object that the bank owns
+-- if bank b owns n, and the chain of b has fewer than 16 banks, the chain of n is n and then the chain of b
 chain_below : (os us : List Object) (n b : ℕ) → n ≢ 0 → owner_at us n ≡ b → chain us b ≡ chain os b → length (chain os b) < 16 →
     chain us n ≡ n ∷ chain os b
 unfolding chain
@@ -146,13 +146,13 @@ module _ (os : List Object) (t : IsTree os) where
 
 -- a new object at a free number
 
--- the object at the new object's number
+-- the new object is at its number
 pub at_new : (os : List Object) (n b : ℕ) (c : Content Capability) → n < length os →
     object_at (with_new os n b c) n ≡ record { owner = b; content = c }
 unfolding with_new
 at_new os n b c inside = get_or-set_same os n (record { owner = b; content = c }) free inside
 
--- the object at any other number
+-- the object at any other number is unchanged
 pub at_other : (os : List Object) (n b : ℕ) (c : Content Capability) (x : ℕ) → x ≢ n → object_at (with_new os n b c) x ≡ object_at os x
 unfolding with_new
 at_other os n b c x differ = get_or-set_other os n x (record { owner = b; content = c }) free differ
@@ -162,7 +162,7 @@ pub length_new : (os : List Object) (n b : ℕ) (c : Content Capability) → len
 unfolding with_new
 length_new os n b c = length-set os n (record { owner = b; content = c })
 
--- the number of a bank isn't free
+-- a bank's number differs from each free number
 pub bank_not_free : (os : List Object) (x n : ℕ) → IsTrue (is_bank (content_at os x)) → IsTrue (is_free (content_at os n)) → x ≢ n
 bank_not_free os x n is gone same = bank_used (content_at os x) is (ap (λ (m : ℕ). is_free (content_at os m)) same ∙ gone)
 

@@ -24,7 +24,7 @@ module _ (os : List Object) (n b : ℕ) (c : Content Capability) (t : IsTree os)
   under_none : (y : ℕ) → is_under os n (object_at os y) ≡ false
   under_none y = grind (arith, nat_tests, bank_not_free, chain_banks)
 
-  -- a new object is under its bank and under all banks of that one's chain
+  -- a new object of bank b is under exactly the banks in the chain of b
   under_new : (x : ℕ) → is_under (with_new os n b c) x (object_at (with_new os n b c) n) ≡ is_member (chain os b) x
   under_new x = grind (arith, nat_tests, at_new, kept_chain)
 
@@ -57,7 +57,7 @@ module _ (os : List Object) (n b : ℕ) (c : Content Capability) (t : IsTree os)
             (under_kept n i differ ∙ under_none i)
       ])
 
--- In worlds with the same frame, an order of a bank does the same.
+-- If two lists of objects have the `SameFrame`, an order of a bank does the same in both.
 
 module _ (os us : List Object) (s : SameFrame os us) where
   free_alike : (ns : List ℕ) → are_free us ns ≡ are_free os ns

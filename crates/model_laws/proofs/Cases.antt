@@ -1,4 +1,4 @@
--- A property that holds in each case: of a choice, and of the objects after an invocation.
+-- A property holds of a result if it holds in each case: of a choice, or of an invocation.
 use Rattle.model_laws.proofs.Names.{arith, nat_tests, Bool, true, false, Option, None, Some, List, ℕ, IsTrue, Capability, Resume, Start, Invocation, Geometry}
 use Rattle.model_laws.proofs.Names.{Object, State, Effect, after_gate, after_order, can_start, deliver, invoke, on_kernel_object, replied, reply_of}
 use Rattle.model_laws.proofs.Names.{through_gate, OrderOutcome, consume, is_running_process, register_at, with_state}
@@ -19,23 +19,23 @@ module _ {X : Type 0} (P : X → Type 0) where
   found_or {A} found x f p q = grind (arith, nat_tests)
 
 module _ (P : List Object → Type 0) (os : List Object) (i : Invocation) where
-  -- the invoker after the operation
+  -- a property holds after the invoker's state changes if it holds of the same objects, and of those in each other state
   pub after_gate_by : P os → ((s : State) → P (with_state os i.process s)) → P (after_gate os i)
   after_gate_by same state = grind (arith, nat_tests)
 
   pub after_order_by : P os → ((s : State) → P (with_state os i.process s)) → P (after_order os i)
   after_order_by same state = grind (arith, nat_tests)
 
-  -- a reply is delivered or dropped
+  -- a property holds after a reply if it holds whether the reply is delivered or dropped
   pub replied_by : (o : OrderOutcome) → P os → (IsTrue (is_running_process os i.process) → P (deliver os i.process (reply_of o))) →
       P (replied os i o)
   replied_by o same delivered = grind (arith, nat_tests)
 
-  -- the property holds after the effect, if there is one
+  -- the property holds of the objects after the effect, if there is one
   abbrev Gives : Effect → Option Effect → Type 0
   Gives e o = o ≡ Some e → P e.objects
 
-  -- an invocation starts a process, resumes one or carries out an order of a kernel object
+  -- a property holds after an invocation if it holds after each kind: a start, a resume, an order of a kernel object
   pub invoked_by : (Q : Capability → Type 0) (g : Geometry) (e : Effect) → Q (register_at os i.process i.register) →
       ((q key : ℕ) → Q (Start q key) → can_start os i q ≡ true → P (through_gate os i q key).objects) →
       ((q : ℕ) → Q (Resume q) → P (consume q (through_gate os i q 0).objects)) →

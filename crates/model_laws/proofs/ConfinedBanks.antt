@@ -30,7 +30,7 @@ record IsFresh (inside : ℕ → Bool) (c : Content Capability) : Type 0 where
   slots : (i : ℕ) → StaysInside inside (slice_index_or (slots_in c) i Void)
   space : StaysInside inside (root_in c).space
 
--- contents without capabilities
+-- a new page has no authority
 fresh_page : (inside : ℕ → Bool) → IsFresh inside new_page
 fresh_page inside = record { annex = λ e. cc; slots = λ i. inl tt; space = inl tt }
 
@@ -104,7 +104,7 @@ module _ (g : Geometry) (inside : ℕ → Bool) (os : List Object) (h : IsNow g 
       is_member ns n ≡ true → IsUnused n
   unused_at from count fits ns e n member = grind (arith, nat_tests, found_in)
 
-  -- making one new object
+  -- making one object with fresh content stays within the set
   new_stays : (n b : ℕ) (c : Content Capability) → IsUnused n → IsFresh inside c → StaysWithin inside os (with_new os n b c)
   new_stays n b c unused fresh = changed_stays (with_new os n b c) (λ x. elim (cases_eq x n) [
     | inl e ↦ rw e (inr (k.free n unused.1, subst (λ (o : Object). IsFresh inside o.content) (sym (at_new os n b c unused.0)) fresh))
@@ -120,7 +120,7 @@ module _ (g : Geometry) (inside : ℕ → Bool) (os : List Object) (h : IsNow g 
       let unused : IsUnused n = unused_at from count fits (n ∷ ns) e n (member_head n n ns refl) in
       (new_stays n b c unused fresh, stays n (k.free n unused.1))
 
-  -- making a new process: a root and its annex
+  -- making a process (a root and its annex) stays within the set
   process_stays : (p a b : ℕ) → p ≢ a → IsUnused p → IsUnused a → StaysWithin inside os
       (with_new (with_new os p b (new_root a)) a b new_annex)
   process_stays p a b apart root annex =
@@ -133,7 +133,7 @@ module _ (g : Geometry) (inside : ℕ → Bool) (os : List Object) (h : IsNow g 
         | inr no_annex ↦ grind (arith, nat_tests, fresh_root, at_other)
       ])
 
-  -- giving up objects of a bank
+  -- freeing objects of a bank
 
   -- a rescind of members stays within the set
   gone_stays : (set : List ℕ) → ((n : ℕ) → is_member set n ≡ true → IsTrue (inside n)) → StaysWithin inside os (rescind set os)

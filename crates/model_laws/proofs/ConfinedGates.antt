@@ -16,7 +16,7 @@ use Rattle.model_laws.proofs.Kept.{stays_consume, stays_refl, stays_root, stays_
 use Rattle.model_laws.proofs.ConfinedBanks.{OutcomeStays}
 use Rattle.model_laws.proofs.ConfinedOrders.{order_stays, strong}
 
--- delivery
+-- a message to a member, whose capabilities stay inside, changes only the set
 
 deliver_stays : (inside : ℕ → Bool) (os : List Object) (p : ℕ) (m : Message) → Encloses inside os → IsTrue (inside p) →
     IsTrue (is_process os p) → ((j : ℕ) → StaysInside inside (slice_index_or m.capabilities j Void)) →
@@ -31,7 +31,7 @@ deliver_stays inside os p m h is root sent =
     stays_trans inside os us (with_slots_from us old.annex 28 m.capabilities) first
     (stays_slots inside us old.annex 28 m.capabilities first.encloses annex sent)
 
--- the capabilities that an invocation sends
+-- if f returns only capabilities that stay inside, a list mapped by f has only such capabilities
 
 map_stays : (inside : ℕ → Bool) (f : ℕ → Capability) (rs : List ℕ) (j : ℕ) → ((r : ℕ) → StaysInside inside (f r))
     → StaysInside inside (slice_index_or (map f rs) j Void)
@@ -39,7 +39,7 @@ map_stays inside f [] j h = inl tt
 map_stays inside f (r ∷ rs) zero h = h r
 map_stays inside f (r ∷ rs) (suc j) h = map_stays inside f rs j h
 
--- a process of a set that may invoke
+-- p is a running process in the set, and the set encloses its members
 record IsInvoker (inside : ℕ → Bool) (os : List Object) (p : ℕ) : Type 0 where
   pub encloses : Encloses inside os
   pub member : IsTrue (inside p)
@@ -68,7 +68,7 @@ gate_sent_stays inside os i j by = go i.operation
 
 -- the invoker's state
 
--- objects in which the invoker went into another state
+-- objects after the invoker's state changed
 record IsReady (g : Geometry) (inside : ℕ → Bool) (os us : List Object) : Type 0 where
   pub stays : StaysWithin inside os us
   pub after : IsAfter g os us
@@ -90,7 +90,7 @@ order_ready : (g : Geometry) (inside : ℕ → Bool) (os : List Object) (i : Inv
 order_ready g inside os i h by =
     after_order_by (IsReady g inside os) os i (none_ready g inside os i.process h by) (λ s. state_ready g inside os i.process s h by)
 
--- gates
+-- an invocation of a member through a gate stays within the set
 
 through_stays : (g : Geometry) (inside : ℕ → Bool) (os : List Object) (i : Invocation) (q key : ℕ) → IsNow g os →
     IsInvoker inside os i.process → IsTrue (inside q) → IsTrue (is_process os q) → StaysWithin inside os (through_gate os i q key).objects
@@ -110,7 +110,7 @@ resume_stays g inside os i q h by is root =
     let first = through_stays g inside os i q 0 h by is root in
     stays_trans inside os us (consume q us) first (stays_consume inside us q first.encloses is)
 
--- kernel objects
+-- the capabilities of a reply stay inside if the outcome's capability does
 
 reply_stays : (inside : ℕ → Bool) (o : OrderOutcome) (j : ℕ) → StaysInside inside o.capability →
     StaysInside inside (slice_index_or (reply_of o).capabilities j Void)
@@ -153,7 +153,7 @@ kernel_stays g inside os i h by =
     (stays_trans inside us o.objects (replied o.objects i o) requested.0
     (replied_stays inside i o requested.0.encloses by.member requested.1))
 
--- invocations
+-- the effect of an invocation by a member stays within the set
 
 invoked_stays : (g : Geometry) (inside : ℕ → Bool) (os : List Object) (i : Invocation) (e : Effect) → IsNow g os →
     IsInvoker inside os i.process → invoke g os i ≡ Some e → StaysWithin inside os e.objects

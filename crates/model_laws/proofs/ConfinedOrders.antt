@@ -35,7 +35,7 @@ fetched_stays : (inside : ℕ → Bool) (o : ℕ) (a : Access) (c : Capability) 
     (IsTrue (inside o) → StaysInside inside c) → StaysInside inside (fetched a c)
 fetched_stays inside o a c named held = grind (arith, nat_tests)
 
--- orders
+-- an order of a page whose capability stays inside stays in the set
 
 page_stays : (inside : ℕ → Bool) (os : List Object) (o : ℕ) (a : Access) (requested : PageOrder) (args : Arguments) → Encloses inside os
     → StaysInside inside (Page o a) → OutcomeStays inside os (on_page os o a requested args)

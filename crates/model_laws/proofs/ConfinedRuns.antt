@@ -63,7 +63,7 @@ kept_inside g os age inside n new sound k = (
 
 -- the pages that stores reach
 
--- a page reached below a space, with the restrictions on the way to it
+-- a page found below a space: that of the rest of the walk, with the restrictions `a` added
 record IsBelow (a : Access) (rest : Result (ℕ × Access) MemoryFault) (found : ℕ × Access) : Type 0 where
   next : ℕ × Access
   is : rest ≡ Ok next
@@ -92,7 +92,7 @@ along_inside inside os h (Space o k a) (slot ∷ slots) found stays e full =
     subst (λ n. IsTrue (inside n)) (sym b.same) (along_inside inside os h c slots b.next stays_there b.is full_there)
 along_inside inside os h c slots found stays e full = cc
 
--- a test that holds on the way to the page that is found
+-- if `if b then r else Err why` is `Ok`, it is r
 if_found : (b : Bool) (r : Result (ℕ × Access) MemoryFault) (why : MemoryFault) (found : ℕ × Access) →
     (if b then r else Err why) ≡ Ok found → r ≡ Ok found
 if_found b r why found e = grind (arith, nat_tests)
@@ -119,17 +119,17 @@ writable_inside inside os p address page h in_p e = cases (reached os p address)
 
 -- steps
 
--- a machine that goes on from some objects while everything outside a set is kept
+-- the world of a machine is sound, and each object outside the set `IsKept` since os
 record IsWithin (g : Geometry) (inside : ℕ → Bool) (os : List Object) (s : Running) : Type 0 where
   sound : IsSound g s.now
   stays : StaysWithin inside os s.now.objects
 
--- the same for any machine; a machine that is down has nothing to satisfy
+-- the same for a machine that is up; a machine that is down has nothing to satisfy
 abbrev MachineWithin : Geometry → (ℕ → Bool) → List Object → Machine → Type 0
 MachineWithin g inside os (Up s) = IsWithin g inside os s
 MachineWithin g inside os (Down saved) = Unit {0}
 
--- the effect of an invocation
+-- the outcome of an invocation with this effect
 abbrev invoked : Running → Option Effect → Outcome
 invoked s found = elim found [
   | None ↦ outcome answer.Done s
@@ -175,18 +175,18 @@ store_keeps g inside os s p address value (Ok page) is in_p fits h =
     }
 store_keeps g inside os s p address value (Err why) is in_p fits h = h
 
--- a turn whose line is such a command, or no command
+-- a turn whose line is no command, or a command of a member
 abbrev IsTurnBy : (ℕ → Bool) → Turn → Type 0
 IsTurnBy inside t = (l : Line) → Says t.line l → IsLineBy inside l
 
--- the answer to a command, by the refusal if there is one
+-- a and `after` are the answer and the machine after a command: refused for this reason or, if there is none, carried out
 abbrev IsAnswer : Geometry → Running → Command → Answer → Machine → Option Refusal → Type 0
 IsAnswer g s c a after refused = elim refused [
   | Some why ↦ (a ≡ answer.Refused why) × (after ≡ Up s)
   | None ↦ (a ≡ (carried_out g s c).answer) × (after ≡ Up (carried_out g s c).after)
 ]
 
--- so a machine that is down stays so
+-- a machine that is down stays down, because only `restart` and `cut` open it
 down_keeps : (g : Geometry) (inside : ℕ → Bool) (os : List Object) (saved : List Saved) (c : Command) (a : Answer) (after : Machine)
     → IsBy inside c → Step g (Down saved) c a after → MachineWithin g inside os after
 down_keeps g inside os saved c a after by is = grind (arith, nat_tests)
@@ -203,7 +203,7 @@ module _ (by_invocation : InvocationIsConfined) where
         (by_invocation g s.now i e inside h.sound fits runs h.stays.encloses in_p is);
   }
 
-  -- a command that isn't refused
+  -- a command that isn't refused keeps the world sound, and everything outside the set
   carried_keeps : (g : Geometry) (inside : ℕ → Bool) (os : List Object) (s : Running) (c : Command) → IsBy inside c → Fits c →
       refusal_of g s c ≡ None → IsWithin g inside os s → IsWithin g inside os (carried_out g s c).after
   unfolding carried_out refusal_of
@@ -243,7 +243,7 @@ module _ (by_invocation : InvocationIsConfined) where
       turns_keep g inside os t.after ts last (All-tail (IsTurnBy inside) t ts by)
       (turn_keeps g inside os t (All-head (IsTurnBy inside) t ts by) (subst (λ m. MachineWithin g inside os m) (sym run.0) h) run.1) run.2
 
-  -- the authority bound, from that of an invocation
+  -- a run by members is confined, because each of its invocations is
   pub run_confined_by : RunIsConfined
   run_confined_by g inside s t turns sound closed run by n out =
       let os = s.now.objects in
@@ -252,6 +252,6 @@ module _ (by_invocation : InvocationIsConfined) where
       let end = turns_keep g all os (Up s) turns (Up t) by start run in
       kept_inside g os s.now.age inside n (object_at t.now.objects n) sound (end.stays.kept n out)
 
--- the authority bound
+-- the authority bound holds
 pub run_confined : RunIsConfined
 run_confined = run_confined_by invocation_confined

@@ -9,7 +9,7 @@ use Rattle.model_laws.proofs.SoundWorlds.{Each, each_after, each_at, holds_set, 
 use Rattle.model_laws.proofs.Rows.{IsRight, machine, rows_hold}
 use Rattle.model.specs.declared.object.Content.TheVariants as content
 
--- a property of each member
+-- a property of 3, 4 and 6 holds of each member of the confined set
 members : (P : ℕ → Type 0) → P 3 → P 4 → P 6 → (n : ℕ) → IsTrue (confined n) → P n
 members P root annex bank zero inside = cc
 members P root annex bank (suc zero) inside = cc
@@ -51,7 +51,7 @@ confined_closed = record {
   spaces = members (λ p. StaysInside confined (root_at c0.objects p).space) (inl tt) (inl tt) (inl tt);
 }
 
--- a capability to node 5 that isn't weak
+-- a capability to node 5 that isn't weak doesn't stay inside
 outward : (a : Access) → (a.0 ≡ 3 → ⊥) → StaysInside confined (Node 5 a) → ⊥
 outward a strong stays = ⊎_elim strong (λ named. cc) stays
 

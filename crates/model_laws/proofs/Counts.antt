@@ -18,13 +18,13 @@ count_both p q r k (x ∷ xs) (y ∷ ys) d e each =
     ) (omega (arith, rest, each 0 k (omega arith)))
 count_both p q r k xs ys d e each = absurd (omega arith)
 
--- a test that fails at each number
+-- if a test fails at each number, it counts nothing
 pub count_none : {X : Type 0} (p : ℕ × X → Bool) (xs : List X) (d : X) → ((i : ℕ) → p (i, get_or xs i d) ≡ false) →
     count_by p (enumerate_from 0 xs) ≡ 0
 count_none p xs d fails =
     omega (arith, count_both p p p 0 xs xs d refl (λ i j e. let same : i ≡ j = omega (arith, e) in rw (same, fails j) refl))
 
--- two tests that agree at each number of two lists
+-- two tests that agree at each number count the same
 pub count_alike : {X : Type 0} (p q : ℕ × X → Bool) (xs ys : List X) (d : X) → length ys ≡ length xs →
     ((i : ℕ) → p (i, get_or ys i d) ≡ q (i, get_or xs i d)) → count_by p (enumerate_from 0 ys) ≡ count_by q (enumerate_from 0 xs)
 count_alike p q xs ys d size agree =
@@ -40,7 +40,7 @@ none_before {X} m k (x ∷ xs) e =
     rw (sum_by-cons (λ (z : ℕ × X). cond (z.0 == m) 1 0) (k, x) (enumerate_from (k + 1) xs), ne_eqb k m (λ same. omega (arith, e, same)))
     (zero-add _ ∙ none_before m (k + 1) xs (omega (arith, e)))
 
--- counting one number
+-- exactly one item of a list has the number m
 pub one_within : {X : Type 0} (m k : ℕ) (xs : List X) → k ≤ m → m < k + length xs → count_by (λ p. p.0 == m) (enumerate_from k xs) ≡ 1
 one_within m k [] from below = absurd (omega (arith, from, below))
 one_within {X} m k (x ∷ xs) from below =
@@ -50,7 +50,7 @@ one_within {X} m k (x ∷ xs) from below =
       | inr other ↦ rw (ne_eqb k m other) (zero-add _ ∙ one_within m (k + 1) xs (grind (arith, from, other)) (omega (arith, below)))
     ])
 
--- counting one number if a condition holds
+-- among numbered items, the count of those with number m where b holds is one if b holds, else zero
 pub count_where : {X : Type 0} (m : ℕ) (b : Bool) (xs : List X) (d : X) → m < length xs
     → count_by (λ p. (p.0 == m) && b) (enumerate_from 0 xs) ≡ (if b then 1 else 0)
 count_where {X} m true xs d below =

@@ -1,4 +1,4 @@
--- An order gives up exactly the objects that it rescinds.
+-- An order frees exactly the objects that it rescinds.
 use Rattle.model_laws.proofs.Names.{nat_tests, ℕ, Bool, true, false, List, [], inl, inr, refl, ap, arith, IsTrue, slice_index_or, range_with_len, cases_Bool}
 use Rattle.model_laws.proofs.Names.{ext_get_or, get_or-set_other, get_or-set_same, get_or-map-range_with_len, length-map-range_with_len, Capability, Void}
 use Rattle.model_laws.proofs.Names.{Geometry, Content, Object, Arguments, BankOrder, ResultCode, freed, freed_by, on_bank, under, with_new, renewing, free}
@@ -20,12 +20,12 @@ use Rattle.model_laws.proofs.SoundOrders.{IsNow}
 use Rattle.model_laws.proofs.SoundParts.{nearly_from}
 use Rattle.model_laws.proofs.Usage.{SameFrame, tests_at}
 
--- if no object that was in use becomes free, nothing is given up
+-- if object n doesn't become free, it isn't given up
 pub none_given_up : (os us : List Object) (n : ℕ) → (is_free (content_at os n) ≡ false → is_free (content_at us n) ≡ false) →
     is_given_up os us n ≡ false
 none_given_up os us n stays = grind (arith, nat_tests)
 
--- after a rescind the members are free, and all else as before
+-- a number is free after a rescind exactly if it is a member or was free
 pub free_rescinded : (set : List ℕ) (os : List Object) (n : ℕ) →
     is_free (content_at (rescind set os) n) ≡ (if is_member set n then true else is_free (content_at os n))
 free_rescinded set os n = elim (cases_Bool (is_member set n)) [
@@ -33,7 +33,7 @@ free_rescinded set os n = elim (cases_Bool (is_member set n)) [
   | inr e ↦ rw e ((kept_tests os set n e).free)
 ]
 
--- a rescind gives up exactly the members, if all of them were in use
+-- if all members of a set are in use, a rescind frees exactly the members
 pub rescinded_given_up : (set : List ℕ) (os : List Object) → ((n : ℕ) → is_member set n ≡ true → is_free (content_at os n) ≡ false)
     → (n : ℕ) → is_given_up os (rescind set os) n ≡ is_member set n
 rescinded_given_up set os used n = grind (arith, nat_tests, free_rescinded)
@@ -44,11 +44,11 @@ pub new_used : (os : List Object) (n b : ℕ) (c : Content Capability) → is_fr
 unfolding with_new
 new_used os n b c some m used = grind (arith, nat_tests, get_or-set_other, get_or-set_same, used_within)
 
--- between objects of the same frame nothing is given up
+-- if two lists of objects have the `SameFrame`, no number is given up between them
 pub none_in_frame : (os us : List Object) → SameFrame os us → (n : ℕ) → is_given_up os us n ≡ false
 none_in_frame os us frame n = none_given_up os us n (λ used. (tests_at os us frame n).free ∙ used)
 
--- an order gives up exactly a list if it is done, and nothing otherwise
+-- an order that is done frees n exactly if n is in the list; one that isn't done frees nothing
 abbrev GivesUp : List Object → ℕ → List ℕ → OrderOutcome → Type 0
 GivesUp os n list o = (o.code ≡ code.Done → is_given_up os o.objects n ≡ is_member list n)
     × ((o.code ≡ code.Done → ⊥) → is_given_up os o.objects n ≡ false)
@@ -65,7 +65,7 @@ module _ (os : List Object) (n : ℕ) where
       GivesUp os n list (freed os b list)
   freed_gives b list used = grind (arith, nat_tests, by_none, one_of, rescinded_given_up)
 
-  -- destroying or returning a bank other than the prime bank
+  -- an order that destroys or returns a bank other than the prime bank frees exactly its set
   ended_gives : (b : ℕ) (vs : List Object) (set written : List ℕ) → (b ≢ 0 → (m : ℕ) → content_at vs m ≡ content_at os m)
       → (b ≢ 0 → (m : ℕ) → is_member set m ≡ true → is_free (content_at os m) ≡ false)
       → GivesUp os n set (if b == 0 then refused os code.PrimeBank else made (rescind set vs) written Void)
@@ -76,7 +76,7 @@ freed_used : (g : Geometry) (os : List Object) (c : Capability) → IsNow g os �
     → (n : ℕ) → is_member list n ≡ true → is_free (content_at os n) ≡ false
 freed_used g os c h names list frees n member = grind (arith, nat_tests)
 
--- the objects that an order of a bank gives up
+-- an order of a bank that is done frees exactly the objects that it rescinds; one that isn't done frees nothing
 pub order_gives_up : (g : Geometry) (os : List Object) (b : ℕ) (requested : BankOrder) (args : Arguments) (n : ℕ) → IsNow g os →
     IsTrue (is_bank (content_at os b)) → NamesItsKind os args.capability
     → GivesUp os n (rescinded_by os b requested args) (on_bank g os b requested args)
@@ -98,7 +98,7 @@ gives_up_rescinded g w b requested args n sound is held = order_gives_up g w.obj
 pub gives_up_nothing : GivesUpNothing
 gives_up_nothing g w i e n sound fits runs other done = search (arith, nat_tests, none_in_frame, invocation_frame, nearly_from)
 
--- if nothing is given up, no number becomes renewed
+-- if no number is given up, none becomes renewed
 pub renewing_none : (renewed : List Bool) (os us : List Object) → ((n : ℕ) → is_given_up os us n ≡ false) → renewing renewed os us ≡ renewed
 unfolding renewing
 renewing_none renewed os us none =

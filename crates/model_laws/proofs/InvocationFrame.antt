@@ -20,7 +20,7 @@ pub use Rattle.model_laws.proofs.SoundEdits.{root_frame, state_frame}
 use Rattle.model_laws.proofs.SoundOrders.{IsNow}
 use Rattle.model_laws.proofs.SoundGates.{after_state}
 
--- edits of one object
+-- setting a word keeps owners, roles, annexes and limits: the `SameFrame`
 
 pub word_frame : (os : List Object) (n i w : ℕ) → SameFrame os (with_word os n i w)
 unfolding with_word
@@ -34,7 +34,7 @@ slots_frame : (os : List Object) (n i : ℕ) (cs : List Capability) → SameFram
 slots_frame os n i [] = frame_refl os
 slots_frame os n i (c ∷ cs) = search (arith, nat_tests, frame_trans, slot_frame, slots_frame (with_slot os n i c) n (i + 1) cs)
 
--- a message is delivered: the frame stays
+-- delivering a message keeps the `SameFrame`
 pub deliver_frame : (os : List Object) (p : ℕ) (m : Message) → IsTrue (is_process os p) → SameFrame os (deliver os p m)
 unfolding deliver
 deliver_frame os p m is =
@@ -46,7 +46,7 @@ deliver_frame os p m is =
 
 -- orders
 
--- an outcome whose objects have the frame of some others
+-- the objects of an outcome have the `SameFrame` as os
 abbrev LeavesFrame : List Object → OrderOutcome → Type 0
 LeavesFrame os o = SameFrame os o.objects
 
@@ -101,7 +101,7 @@ bank_refused : (g : Geometry) (os : List Object) (b w : ℕ) (args : Arguments) 
 unfolding order
 bank_refused g os b w args is = grind (arith, nat_tests)
 
--- an order that isn't a bank's keeps the frame
+-- an order that isn't a bank's keeps the `SameFrame`
 pub order_frame : (g : Geometry) (W : ℕ → Type 0) (os : List Object) (c : Capability) (w : ℕ) (args : Arguments) → IsHeld os W c →
     IsNoBankOrder c w → SameFrame os (order g os c w args).objects
 unfolding order
@@ -121,13 +121,13 @@ order_frame g W os (Bank b) w args held other = subst (λ (o : OrderOutcome). Sa
 order_frame g W os Discrim w args held other = one_of (LeavesFrame os) (w == 1) _ _ (frame_refl os) (frame_refl os)
 order_frame g W os c w args held other = frame_refl os
 
--- a reply is delivered or dropped: the frame stays
+-- a reply, delivered or dropped, keeps the `SameFrame`
 pub replied_frame : (i : Invocation) (o : OrderOutcome) → SameFrame o.objects (replied o.objects i o)
 replied_frame i o = replied_by (SameFrame o.objects) o.objects i o (frame_refl o.objects) (λ runs.
     deliver_frame o.objects i.process (reply_of o) (and_parts (is_process o.objects i.process) (is_running (state_at o.objects i.process))
     runs).0)
 
--- invocations
+-- the change of the invoker's state keeps the `SameFrame`
 
 after_gate_frame : (os : List Object) (i : Invocation) → IsTrue (is_process os i.process) → SameFrame os (after_gate os i)
 after_gate_frame os i is = after_gate_by (SameFrame os) os i (frame_refl os) (λ s. state_frame os i.process s is)
@@ -158,7 +158,7 @@ kernel_frame g W os i is held other =
     (held_on os us W W c frame (λ p w. w) held) other in
     frame_trans os us (replied o.objects i o) frame (frame_trans us o.objects (replied o.objects i o) by_order (replied_frame i o))
 
--- an invocation with no bank's order: the frame stays
+-- an invocation that is no order of a bank keeps the `SameFrame`
 pub invocation_frame : (g : Geometry) (os : List Object) (i : Invocation) (e : Effect) → IsNow g os → Fits (command.Invoke i) →
     IsTrue (is_running_process os i.process)
     → IsNoBankOrder (register_at os i.process i.register) (slice_index i.words 0) → invoke g os i ≡ Some e → SameFrame os e.objects
@@ -170,12 +170,12 @@ invocation_frame g os i e h fits runs other =
     frame_trans os us (consume q us) (gate_frame os i q 0 is by.names.0) (frame_consume q us))
     (kernel_frame g (Waits os) os i is held other)
 
--- a running process becomes available: sound objects stay sound
+-- sound objects stay sound if a running process becomes available
 pub state_now : (g : Geometry) (os : List Object) (p : ℕ) → IsNow g os → IsTrue (is_process os p) → IsTrue (is_running (state_at os p))
     → IsNow g (with_state os p Available)
 state_now g os p h is runs = (after_state g os p Available h (rw (is, runs) refl)).now
 
--- a sound world with a process in another state, at the same age, stays sound
+-- a sound world stays sound if a running process gets another state at the same age
 pub state_sound : (g : Geometry) (os : List Object) (p age : ℕ) → IsSound g (record { objects = os; age = age }) → IsTrue (is_process os p)
     → IsTrue (is_running (state_at os p)) → IsSound g (record { objects = with_state os p Available; age = age })
 state_sound g os p age h is runs = search (arith, nat_tests, nearly_to, state_now, nearly_from)

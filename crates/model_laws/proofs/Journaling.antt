@@ -24,7 +24,7 @@ filled_page : (os : List Object) (W : ℕ → Type 0) (words : List ℕ) → len
     IsFilled os W (content.Page words)
 filled_page os W words count fit = grind (arith, nat_tests)
 
--- replacing the words of a page
+-- nearly sound objects stay nearly sound if the words of a page are replaced
 pub edited_page : (g : Geometry) (W : ℕ → Type 0) (os : List Object) (n : ℕ) (words : List ℕ) → IsNearlySound g W os →
     is_page (content_at os n) ≡ true → length words ≡ 512 → ((i : ℕ) → slice_index words i < 2 ^ 64) →
     IsEdited g W os (with_content os n (content.Page words))
@@ -37,7 +37,7 @@ edited_page g W os n words h is count fit =
       states = λ q. at_content (λ m d. (root_in d).state ≡ state_at os m) os n q c (state_of_page (content_at os n) is) refl;
     }
 
--- replacing the words of a page in a sound world, at another age
+-- a sound world stays sound if the words of a page are replaced, at any age up to 2^62
 pub world_with_page : (g : Geometry) (w : World) (n age : ℕ) (words : List ℕ) → IsSound g w → is_page (content_at w.objects n) ≡ true
     → length words ≡ 512 → ((i : ℕ) → slice_index words i < 2 ^ 64) → age ≤ 2 ^ 62
     → IsSound g (record { objects = with_content w.objects n (content.Page words); age = age })
@@ -48,11 +48,11 @@ world_with_page g w n age words sound is count fit most =
     (nearly_weaken g (Waits w.objects) (Waits us) us (λ p waits. ap is_waiting (edited.states p) ∙ waits) edited.sound)
     most
 
--- a check that does not refuse is passed, and so is the next
+-- if `unless` refuses nothing, its check passes, and so does the next
 pub unless_passes : (b : Bool) (why : Refusal) (next : Option Refusal) → unless b why next ≡ None → (b ≡ true) × (next ≡ None)
 unless_passes b why next e = grind (arith, nat_tests)
 
--- if no refusal applies, both objects are pages
+-- if nothing refuses the journaling of n, it is a page now and in the saved state
 pub both_pages : (s : Running) (n : ℕ) → unjournaled s n ≡ None →
     (is_page (content_at s.now.objects n) ≡ true) × (is_page (content_at s.saved.world.objects n) ≡ true)
     × (slice_index_or s.renewed n false ≡ false)

@@ -19,7 +19,7 @@ pub record MayStand (inside : ℕ → Bool) (os : List Object) (n : ℕ) (c : Co
   pub slots : (i : ℕ) → StaysInside inside (slice_index_or (slots_in c) i Void)
   pub space : StaysInside inside (root_in c).space
 
--- making some capabilities void, in lists and contents
+-- if no capability is made void, a list is unchanged
 
 map_same : (cs : List Capability) → cs ≡ map (void_where (λ c. false)) cs
 map_same [] = refl
@@ -53,7 +53,7 @@ kept_refl inside o = (
       (content_same o.content),
 )
 
--- an object that is kept twice is kept
+-- an object that two changes in a row keep is kept by both together
 pub kept_trans : (inside : ℕ → Bool) (o p q : Object) → IsKept inside o p → IsKept inside p q → IsKept inside o q
 kept_trans inside o p q a b = grind (arith, nat_tests, content_twice)
 
@@ -85,7 +85,7 @@ kept_content inside os n c in_n m =
     at_set (λ k o. inside k ≡ false → IsKept inside (object_at os k) o) os n m (record { owner = owner_at os n; content = c }) free
     (λ out. absurd (let both : false ≡ true = sym out ∙ in_n in cc)) (λ out. kept_refl inside (object_at os m))
 
--- putting such a content at a member changes objects only within the set
+-- replacing the content of a member by one that `MayStand` there changes objects only within the set
 pub stays_content : (inside : ℕ → Bool) (os : List Object) (n : ℕ) (c : Content Capability) → Encloses inside os → IsTrue (inside n)
     → MayStand inside os n c → StaysWithin inside os (with_content os n c)
 stays_content inside os n c h in_n may = record {
@@ -106,7 +106,7 @@ stays_content inside os n c h in_n may = record {
   kept = λ m out. kept_content inside os n c in_n m out;
 }
 
--- the content of a member may be put back there
+-- the present content of a member `MayStand` there
 may_stay : (inside : ℕ → Bool) (os : List Object) (n : ℕ) → Encloses inside os → IsTrue (inside n) → MayStand inside os n (content_at os n)
 may_stay inside os n h in_n = grind (arith, nat_tests)
 
@@ -114,7 +114,7 @@ word_may : (inside : ℕ → Bool) (os : List Object) (n i w : ℕ) (c : Content
     MayStand inside os n (with_word_in c i w)
 word_may inside os n i w c h = grind (arith, nat_tests)
 
--- setting a word of a member
+-- setting a word of a member changes objects only within the set
 pub stays_word : (inside : ℕ → Bool) (os : List Object) (n i w : ℕ) → Encloses inside os → IsTrue (inside n) →
     StaysWithin inside os (with_word os n i w)
 unfolding with_word
@@ -136,13 +136,13 @@ slot_may inside os n i k (content.Annex slots) stays h = record {
 }
 slot_may inside os n i k c stays h = h
 
--- setting a slot of a member
+-- setting a slot of a member changes objects only within the set
 pub stays_slot : (inside : ℕ → Bool) (os : List Object) (n i : ℕ) (c : Capability) → Encloses inside os → IsTrue (inside n) →
     StaysInside inside c → StaysWithin inside os (with_slot os n i c)
 unfolding with_slot
 stays_slot inside os n i c h in_n stays = search (arith, nat_tests, stays_content, slot_may, may_stay)
 
--- setting slots of a member
+-- setting slots of a member changes objects only within the set
 pub stays_slots : (inside : ℕ → Bool) (os : List Object) (n i : ℕ) (cs : List Capability) → Encloses inside os → IsTrue (inside n)
     → ((j : ℕ) → StaysInside inside (slice_index_or cs j Void)) → StaysWithin inside os (with_slots_from os n i cs)
 stays_slots inside os n i [] h in_n stays = stays_refl inside os h
@@ -152,7 +152,7 @@ stays_slots inside os n i (c ∷ cs) h in_n stays =
     stays_trans inside os us (with_slots_from us n (i + 1) cs) one (stays_slots inside us n (i + 1) cs one.encloses in_n
     (λ j. stays (suc j)))
 
--- replacing the root of a member
+-- replacing the root of a member changes objects only within the set
 pub stays_root : (inside : ℕ → Bool) (os : List Object) (p : ℕ) (r : Root Capability) → Encloses inside os → IsTrue (inside p)
     → IsTrue (inside r.annex) → StaysInside inside r.space → StaysWithin inside os (with_root os p r)
 unfolding with_root
@@ -163,14 +163,14 @@ stays_root inside os p r h in_p in_annex space = stays_content inside os p (cont
   space = space;
 })
 
--- changing the state of a member process
+-- changing the state of a member process changes objects only within the set
 pub stays_state : (inside : ℕ → Bool) (os : List Object) (p : ℕ) (s : State) → Encloses inside os → IsTrue (inside p)
     → IsTrue (is_process os p) → StaysWithin inside os (with_state os p s)
 unfolding with_state
 stays_state inside os p s h in_p is =
     stays_root inside os p (record (root_at os p) { state = s }) h in_p (h.closed.annexes p in_p is) (h.closed.spaces p in_p)
 
--- making capabilities void
+-- a capability that stays inside still does if it may become void
 
 stays_void : (inside : ℕ → Bool) (goes : Capability → Bool) (c : Capability) → StaysInside inside c → StaysInside inside (void_where goes c)
 stays_void inside goes c stays = one_of (StaysInside inside) (goes c) Void c (inl tt) stays
@@ -180,7 +180,7 @@ annex_without : (inside : ℕ → Bool) (goes : Capability → Bool) (o : Object
     IsTrue (inside (root_in (without goes o).content).annex)
 annex_without inside goes o h is = grind (arith, nat_tests)
 
--- freeing members, and making capabilities void that name members
+-- freeing members, and voiding capabilities that name members, changes objects only within the set
 pub stays_without : (inside : ℕ → Bool) (os us : List Object) (goes : Capability → Bool) (set : List ℕ) → Encloses inside os
     → ((n : ℕ) → is_member set n ≡ true → IsTrue (inside n)) → ((c : Capability) → goes c ≡ true → NamesInside inside c)
     → ((n : ℕ) → object_at us n ≡ (if is_member set n then free else without goes (object_at os n))) → StaysWithin inside os us
@@ -215,7 +215,7 @@ stays_without inside os us goes set h members names at = record {
     was_bank : (b : ℕ) → IsTrue (is_bank (content_at us b)) → IsTrue (is_bank (content_at os b))
     was_bank b is = grind (arith, nat_tests, at_us, without_mapped)
 
--- consuming the resume capabilities of a member
+-- consuming the resume capabilities of a member changes objects only within the set
 pub stays_consume : (inside : ℕ → Bool) (os : List Object) (p : ℕ) → Encloses inside os → IsTrue (inside p) →
     StaysWithin inside os (consume p os)
 stays_consume inside os p h in_p = stays_without inside os (consume p os) (resumes p) [] h (λ n m. cc) names (object_consume p os)
@@ -227,7 +227,7 @@ stays_consume inside os p h in_p = stays_without inside os (consume p os) (resum
 abbrev IsSomeInside : (ℕ → Bool) → Option ℕ → Type 0
 IsSomeInside inside o = elim o [ None ↦ ⊥ | Some n ↦ IsTrue (inside n) ]
 
--- rescinding members
+-- rescinding members changes objects only within the set
 pub stays_rescind : (inside : ℕ → Bool) (os : List Object) (set : List ℕ) → Encloses inside os
     → ((n : ℕ) → is_member set n ≡ true → IsTrue (inside n)) → StaysWithin inside os (rescind set os)
 stays_rescind inside os set h members =

@@ -27,7 +27,7 @@ pub record IsMapped (f : Capability → Capability) (c d : Content Capability) :
 pub mapped : (f : Capability → Capability) (c : Content Capability) → IsMapped f c (map_content f c)
 mapped f c = grind (arith, nat_tests, at_map)
 
--- an object with some capabilities made void is a mapped one
+-- voiding some capabilities of an object maps its content (`IsMapped`)
 pub without_mapped : (goes : Capability → Bool) (o : Object) → IsMapped (void_where goes) o.content (without goes o).content
 without_mapped goes o = mapped (void_where goes) o.content
 

@@ -15,7 +15,7 @@ member_cases m ms n e = elim (or_cases (nat_eq n m) (is_member ms n) e) [ inl sa
 pub no_member : (m : ℕ) (ms : List ℕ) (n : ℕ) → n ≢ m → is_member ms n ≡ false → is_member (m ∷ ms) n ≡ false
 no_member m ms n other none = or_from (nat_eq n m) (is_member ms n) (ne_eqb n m other) none
 
--- the only member of a list of one number
+-- the list of one number has no other member
 pub only_member : (o n : ℕ) → is_member (o ∷ []) n ≡ true → n ≡ o
 only_member o n e = elim (member_cases o [] n e) [ inl same ↦ same | inr later ↦ absurd (false≢true later) ]
 
@@ -24,7 +24,7 @@ pub all_members : (P : ℕ → Type 0) (xs : List ℕ) → ((n : ℕ) → is_mem
 all_members P xs each k d within = each (get_or xs k d) (list_any_at (nat_eq (get_or xs k d)) xs k d within
     (eq-eqb (get_or xs k d) (get_or xs k d) refl))
 
--- the numbers from a on that pass a test
+-- if a number is among those from `a` on that pass a test, it lies in the range and passes the test
 
 pub found_in : (f : ℕ → Bool) (a count n : ℕ) → is_member (filter f (range_with_len a count)) n ≡ true →
     (a ≤ n) × (n < a + count) × (f n ≡ true)

@@ -8,18 +8,18 @@ use Rattle.model_laws.proofs.Cases.{chosen, one_of}
 use Rattle.model_laws.proofs.SoundEdits.{object_consume}
 
 module _ (goes : Capability → Bool) (void_stays : goes Void ≡ false) where
-  -- such a capability is made void
+  -- after the change a capability no longer passes the test `goes`
   gone : (c : Capability) → goes (void_where goes c) ≡ false
   gone c = chosen (λ k. goes k ≡ false) (goes c) Void c (λ _. void_stays) (λ e. e)
 
-  -- after the change no slot and no address space of the object holds such a capability
+  -- after the change no slot and no address space of the object holds a capability that passes the test
   pub gone_from_slot : (o : Object) (i : ℕ) → goes (slice_index_or (slots_in (without goes o).content) i Void) ≡ false
   gone_from_slot o i = ap goes ((without_mapped goes o).slot (void_void goes) i) ∙ gone (slice_index_or (slots_in o.content) i Void)
 
   pub gone_from_space : (o : Object) → goes (root_in (without goes o).content).space ≡ false
   gone_from_space o = ap goes ((without_mapped goes o).space (void_void goes)) ∙ gone (root_in o.content).space
 
--- the object at a number after a consume
+-- a consume only makes capabilities void, and after it none resumes the process
 pub consumes_all : ConsumesAll
 consumes_all p os = grind (arith, nat_tests, object_consume, gone_from_slot, gone_from_space)
 
@@ -39,7 +39,7 @@ at_rescind_from set (o ∷ os) k (suc n) =
     let same : k + 1 + n ≡ k + suc n = omega arith in
     at_rescind_from set os (k + 1) n ∙ ap (λ j. after_rescind set (j, object_at os n)) same
 
--- the object at a number after a rescind
+-- the object at a number after a rescind: free if the number is a member, else without capabilities to members
 pub at_rescind : (set : List ℕ) (os : List Object) (n : ℕ) →
     object_at (rescind set os) n ≡ (if is_member set n then free else without (names_member set) (object_at os n))
 unfolding rescind

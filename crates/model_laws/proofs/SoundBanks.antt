@@ -39,7 +39,7 @@ record IsGrown (g : Geometry) (os us : List Object) : Type 0 where
       (p : ℕ) × IsTrue (is_process us p) × (annex_at us p ≡ a)
 
 module _ (g : Geometry) (os us : List Object) (h : IsNow g os) (k : IsGrown g os us) where
-  -- a property of the new objects at their numbers, and of the old ones, holds of all
+  -- a property of all new objects and of all old ones holds of every object
   at_each : (P : ℕ → Object → Type 0) → ((n : ℕ) → IsTrue (is_free (content_at os n)) → P n (object_at us n))
       → ((n : ℕ) → is_free (content_at os n) ≡ false → P n (object_at os n)) → (n : ℕ) → P n (object_at us n)
   at_each P new old n = elim (cases_Bool (is_free (content_at os n))) [
@@ -138,7 +138,7 @@ module _ (g : Geometry) (os us : List Object) (h : IsNow g os) (k : IsGrown g os
 
 -- new contents
 
--- a content that holds no capability
+-- a content in which all capabilities are void is filled
 filled_void : (us : List Object) (W : ℕ → Type 0) (c : Content Capability) → HasShape c → ((i : ℕ) → slice_index (words_in c) i < 2 ^ 64)
     → ((i : ℕ) → slice_index_or (slots_in c) i Void ≡ Void) → (root_in c).space ≡ Void → IsFilled us W c
 filled_void us W c shape words slots space = grind (arith, nat_tests)
@@ -173,7 +173,7 @@ member_passes test (y ∷ ys) x all member =
       | inr differ ↦ member_passes test ys x parts.1 (sym (member_tail x y ys differ) ∙ member)
     ]
 
--- if the quota allows a new object, it makes no usage in the chain exceed its limit
+-- if the quota of bank b allows `count` more objects, each bank in its chain can own that many more
 spare_body_at : (os : List Object) (b count x : ℕ) → has_quota os b count ≡ true → is_member (chain os b) x ≡ true →
     usage os x + count ≤ limit_in (content_at os x)
 unfolding has_quota
@@ -216,7 +216,7 @@ module _ (os : List Object) (from count : ℕ) where
 module _ (g : Geometry) (os : List Object) (n b : ℕ) (c : Content Capability) (h : IsNow g os) (bank : IsTrue (is_bank (content_at os b)))
     (inside : n < length os)
     (unused : IsTrue (is_free (content_at os n))) (used : is_free c ≡ false) (short : IsTrue (is_bank c) → length (chain os b) < 16) where
-  -- a property of the new object, and of the others at their numbers, holds of all
+  -- a property of the new object and of all others holds of every object
   one_at : (P : ℕ → Object → Type 0) → P n (record { owner = b; content = c }) → ((x : ℕ) → x ≢ n → P x (object_at os x)) → (x : ℕ) →
       P x (object_at (with_new os n b c) x)
   one_at P new old x = grind (arith, nat_tests, at_new, at_other)
@@ -294,7 +294,7 @@ module _ (g : Geometry) (os : List Object) (p a b : ℕ) (h : IsNow g os) (bank 
   old_there : (x : ℕ) → x ≢ a → x ≢ p → object_at whole x ≡ object_at os x
   old_there x no_annex no_root = at_other rooted a b new_annex x no_annex ∙ at_other os p b (new_root a) x no_root
 
-  -- a property of both new objects at their numbers, and of the old ones, holds of all
+  -- a property of both new objects and of all others holds of every object
   two_at : (P : ℕ → Object → Type 0) → P p (record { owner = b; content = new_root a }) → P a (record { owner = b; content = new_annex })
       → ((x : ℕ) → P x (object_at os x)) → (x : ℕ) → P x (object_at whole x)
   two_at P root annex old x = grind (arith, nat_tests, annex_there, root_there, old_there)
@@ -319,7 +319,7 @@ module _ (g : Geometry) (os : List Object) (p a b : ℕ) (h : IsNow g os) (bank 
         spare_body_at,
       )
 
-  -- the only new process
+  -- the only new process is p
   only_process : (q : ℕ) → IsTrue (is_free (content_at os q)) → IsTrue (is_process whole q) → q ≡ p
   only_process = two_at (λ q o. IsTrue (is_free (content_at os q)) → IsTrue (is_root o.content) → q ≡ p) (λ gone is. refl) (λ gone is. cc)
       (λ q gone is. let both : true ≡ false = sym gone ∙ used_where is_root refl (content_at os q) is in cc)
@@ -365,7 +365,7 @@ module _ (g : Geometry) (os : List Object) (p a b : ℕ) (h : IsNow g os) (bank 
 module _ (g : Geometry) (os : List Object) (b : ℕ) (args : Arguments) (h : IsNow g os) (is : IsTrue (is_bank (content_at os b)))
     (fits : AreArguments os args)
   where
-    -- an order that writes objects and gives a capability
+    -- an outcome with sound objects, and a capability that may be held, is valid
     made_keeps : (us : List Object) (written : List ℕ) (c : Capability) → IsNow g us → IsHeld us (Waits us) c →
         IsOutcome g (made us written c)
     made_keeps us written c now held = let k = given_keeps g us c now held in
@@ -374,7 +374,7 @@ module _ (g : Geometry) (os : List Object) (b : ℕ) (args : Arguments) (h : IsN
     node_within : (n : ℕ) → n < 0 + g.nodes → n < length os
     node_within n lt = omega (arith, h.frame.size)
 
-    -- a new page
+    -- making a page keeps sound objects sound
     pub page_allocated_keeps : IsOutcome g (on_bank g os b bank.NewPage args)
     unfolding on_bank free_pages
     page_allocated_keeps =
@@ -390,7 +390,7 @@ module _ (g : Geometry) (os : List Object) (b : ℕ) (args : Arguments) (h : IsN
             (one_now g os n b new_page h is inside found.2 refl (λ e. cc) room (found.0, found.1) (filled_page _ _) refl refl)
             (record { well_formed = inl refl; names = ap (λ (o : Object). is_page o.content) (at_new os n b new_page inside) })
 
-    -- a new node
+    -- making a node keeps sound objects sound
     pub node_allocated_keeps : IsOutcome g (on_bank g os b bank.NewNode args)
     unfolding on_bank free_nodes
     node_allocated_keeps =
@@ -406,7 +406,7 @@ module _ (g : Geometry) (os : List Object) (b : ℕ) (args : Arguments) (h : IsN
             (one_now g os n b new_node h is inside found.2 refl (λ e. cc) room (omega (arith, found.1)) (filled_node _ _) refl refl)
             (record { well_formed = inl refl; names = ap (λ (o : Object). is_node o.content) (at_new os n b new_node inside) })
 
-    -- a new bank
+    -- making a bank keeps sound objects sound
     pub bank_allocated_keeps : IsOutcome g (on_bank g os b bank.NewBank args)
     unfolding on_bank free_nodes
     bank_allocated_keeps =
@@ -426,7 +426,7 @@ module _ (g : Geometry) (os : List Object) (b : ℕ) (args : Arguments) (h : IsN
             (record { well_formed = tt; names = ap (λ (o : Object). is_bank o.content) (at_new os n b (content.Bank args.first) inside) }))
             (λ _. refused_keeps g os code.TooDeep h)
 
-    -- a new process
+    -- making a process keeps sound objects sound
     pub process_allocated_keeps : IsOutcome g (on_bank g os b bank.NewProcess args)
     unfolding on_bank free_nodes
     process_allocated_keeps =
@@ -449,12 +449,12 @@ module _ (g : Geometry) (os : List Object) (b : ℕ) (args : Arguments) (h : IsN
               names = ap (λ (o : Object). is_root o.content) (root_there g os p a b h is differ root_inside annex_inside root.2 annex.0.2);
             })
 
-    -- the least number isn't greater than the first
+    -- the least of n and other numbers is at most n
     least_below : (n : ℕ) (ms : List ℕ) → least n ms ≤ n
     least_below n [] = omega arith
     least_below n (m ∷ ms) = omega (arith, least_below (min n m) ms)
 
-    -- the order for what remains
+    -- the order `Remaining` keeps sound objects sound
     pub remaining_keeps : IsOutcome g (on_bank g os b bank.Remaining args)
     unfolding on_bank remaining
     remaining_keeps = grind (arith, nat_tests, three_words, least_below, held_void)

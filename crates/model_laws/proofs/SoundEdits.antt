@@ -14,7 +14,7 @@ pub at_set : {X : Type 0} (P : ℕ → X → Type 0) (xs : List X) (n m : ℕ) (
     P m (get_or (set xs n x) m d)
 at_set {X} P xs n m x d new old = grind (arith, nat_tests, get_or-set_other, get_or-set_same, set_past)
 
--- replacing a content by a similar one
+-- replacing a content by one of the same role, annex and limit keeps the `SameFrame`
 
 pub frame_content : (os : List Object) (n : ℕ) (c : Content Capability) → AreAlike (object_at os n)
     (record { owner = owner_at os n; content = c }) → SameFrame os (with_content os n c)
@@ -45,7 +45,7 @@ pub record IsEdited (g : Geometry) (W : ℕ → Type 0) (os us : List Object) : 
 pub edited_trans : (g : Geometry) (W : ℕ → Type 0) (os us vs : List Object) → IsEdited g W os us → IsEdited g W us vs → IsEdited g W os vs
 edited_trans g W os us vs a b = search (arith, nat_tests, frame_trans)
 
--- a slot
+-- an object is alike after one of its slots was set
 
 pub alike_slot : (b i : ℕ) (k : Capability) (c : Content Capability) →
     AreAlike (record { owner = b; content = c }) (record { owner = b; content = with_slot_in c i k })
@@ -88,7 +88,7 @@ edited_slot g W os n i k h held differ =
           refl;
     }
 
--- a word
+-- an object is alike after one of its words was set
 
 pub alike_word : (b i w : ℕ) (c : Content Capability) → AreAlike (record { owner = b; content = c })
     (record { owner = b; content = with_word_in c i w })
@@ -123,13 +123,13 @@ edited_word g W os n i w h fits =
           refl;
     }
 
--- a root
+-- an object is alike after its root was replaced by one with the same annex
 
 pub alike_root : (b : ℕ) (r : Root Capability) (c : Content Capability) → IsTrue (is_root c) → r.annex ≡ (root_in c).annex
     → AreAlike (record { owner = b; content = c }) (record { owner = b; content = content.Root r })
 alike_root b r c is e = grind (arith, nat_tests)
 
--- a root that fits a process
+-- a valid root for process p
 pub record IsRootOf (os : List Object) (W : ℕ → Type 0) (p : ℕ) (r : Root Capability) : Type 0 where
   pub is_process : IsTrue (is_process os p)
   pub annex : r.annex ≡ annex_at os p
@@ -147,7 +147,7 @@ pub root_frame : (os : List Object) (p : ℕ) (r : Root Capability) → IsTrue (
 unfolding with_root
 root_frame os p r is same = frame_content os p (content.Root r) (alike_root (owner_at os p) r (content_at os p) is same)
 
--- a process goes into another state: the frame stays
+-- changing the state of a process keeps the `SameFrame`
 pub state_frame : (os : List Object) (p : ℕ) (s : State) → IsTrue (is_process os p) → SameFrame os (with_state os p s)
 unfolding with_state
 state_frame os p s is = root_frame os p _ is refl
@@ -167,7 +167,7 @@ pub root_other : (os : List Object) (p q : ℕ) (r : Root Capability) → q ≢ 
 unfolding with_root with_content
 root_other os p q r differ = grind (arith, nat_tests, get_or-set_other)
 
--- replacing a root by one of the same state
+-- nearly sound objects stay nearly sound if a root is replaced by one of the same state
 pub edited_root : (g : Geometry) (W : ℕ → Type 0) (os : List Object) (p : ℕ) (r : Root Capability) → IsNearlySound g W os →
     IsRootOf os W p r → r.state ≡ state_at os p → IsEdited g W os (with_root os p r)
 edited_root g W os p r h fits e = record {
@@ -190,7 +190,7 @@ module _ (os us : List Object) (W V : ℕ → Type 0) (f : Capability → Capabi
   pub filled_map : (c : Content Capability) → IsFilled os W c → IsFilled us V (map_content f c)
   filled_map c h = grind (arith, nat_tests, length-map, slots_map, held_void, at_map)
 
--- consuming a resume capability
+-- after a consume each object has lost its capabilities that resume p, and nothing else
 
 pub object_consume : (p : ℕ) (os : List Object) (n : ℕ) → object_at (consume p os) n ≡ without (resumes p) (object_at os n)
 unfolding consume
@@ -202,7 +202,7 @@ frame_consume p os = record {
   alike = λ n. rw (object_consume p os n) (alike_without (resumes p) (object_at os n));
 }
 
--- all of these processes except one
+-- the processes in W, except p
 abbrev pub But : (ℕ → Type 0) → ℕ → ℕ → Type 0
 But W p q = W q × (q ≢ p)
 

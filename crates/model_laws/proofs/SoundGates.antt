@@ -15,12 +15,12 @@ use Rattle.model_laws.proofs.SoundEdits.{root_other, state_consume, state_frame}
 use Rattle.model_laws.proofs.SoundObjects.{order_keeps}
 use Rattle.model_laws.proofs.SoundOrders.{IsNow, IsOutcome, root_now, nearly_state, state_other}
 
--- states
+-- a running process isn't waiting
 
 running_is_not_waiting : (s : State) → is_running s ≡ true → is_waiting s ≡ true → ⊥
 running_is_not_waiting s p q = grind (arith, nat_tests)
 
--- a process that waits is another than one that runs
+-- a waiting process isn't the running one
 other_than_running : (os : List Object) (p x : ℕ) → IsTrue (is_running (state_at os p)) → Waits os x → x ≢ p
 other_than_running os p x runs waits e = running_is_not_waiting (state_at os p) runs (subst (λ k. Waits os k) e waits)
 
@@ -59,7 +59,7 @@ after_order_keeps g os i h runs = after_order_by (IsAfter g os) os i (after_none
 held_after : (g : Geometry) (os us : List Object) (c : Capability) → IsAfter g os us → IsHeld os (Waits os) c → IsHeld us (Waits us) c
 held_after g os us c a h = held_on os us (Waits os) (Waits us) c a.frame a.waits h
 
--- delivery
+-- unchanged objects count as edited
 
 edited_none : (g : Geometry) (W : ℕ → Type 0) (os : List Object) → IsNearlySound g W os → IsEdited g W os os
 edited_none g W os h = record { frame = frame_refl os; sound = h; states = λ q. refl }
@@ -102,12 +102,12 @@ deliver_keeps g W os p m h is fits =
       others = λ q differ. e.states q ∙ ap (λ (r : Root Capability). r.state) (root_other os p q new differ);
     }
 
--- if no waiting process was started, all is sound
+-- objects are sound after a process was started, if it wasn't waiting
 started_now : (g : Geometry) (os : List Object) (p : ℕ) (us : List Object) → IsStarted g (Waits os) os p us → (Waits os p → ⊥) → IsNow g us
 started_now g os p us s idle =
     nearly_weaken g (Waits os) (Waits us) us (λ x w. ap is_waiting (s.others x (λ e. idle (subst (λ k. Waits os k) e w))) ∙ w) s.sound
 
--- if the resume capabilities of a resumed process were consumed, all is sound
+-- objects are sound after a waiting process was started, if its resume capabilities were then consumed
 resumed_now : (g : Geometry) (os : List Object) (p : ℕ) (us : List Object) → IsStarted g (Waits os) os p us → IsNow g (consume p us)
 resumed_now g os p us s =
     nearly_weaken g (But (Waits os) p) (Waits (consume p us)) (consume p us)
@@ -192,7 +192,7 @@ resume_keeps : (g : Geometry) (os : List Object) (i : Invocation) (q : ℕ) → 
 resume_keeps g os i q h fits runs is =
     resumed_now g (after_gate os i) q (through_gate os i q 0).objects (gate_keeps g os i q 0 h fits runs is (omega arith))
 
--- kernel objects
+-- the reply of a valid outcome may be delivered
 
 reply_message : (g : Geometry) (o : OrderOutcome) → IsOutcome g o → IsMessage o.objects (Waits o.objects) (reply_of o)
 reply_message g o h = grind (arith, nat_tests)
@@ -222,7 +222,7 @@ kernel_keeps : (g : Geometry) (os : List Object) (i : Invocation) → IsNow g os
 unfolding on_kernel_object
 kernel_keeps g os i h fits runs = replied_keeps g i (ordered g os i) (ordered_keeps g os i h fits runs)
 
--- invocations
+-- an invocation keeps sound objects sound
 
 invoked_now : (g : Geometry) (os : List Object) (i : Invocation) (e : Effect) → IsNow g os → Fits (command.Invoke i) →
     IsTrue (is_running_process os i.process) → invoke g os i ≡ Some e → IsNow g e.objects

@@ -16,7 +16,7 @@ use Rattle.model_laws.proofs.SoundEdits.{state_consume}
 abbrev pub IsNow : Geometry → List Object → Type 0
 IsNow g os = IsNearlySound g (Waits os) os
 
--- an outcome that a process may get as a reply
+-- a valid outcome: its objects are sound, and its words and capability may be delivered
 pub record IsOutcome (g : Geometry) (o : OrderOutcome) : Type 0 where
   pub now : IsNow g o.objects
   pub count : length o.words ≡ 3
@@ -67,7 +67,7 @@ wrote_keeps g os n h = record {
 pub edited_now : (g : Geometry) (os us : List Object) → IsEdited g (Waits os) os us → IsNow g us
 edited_now g os us e = nearly_weaken g (Waits os) (Waits us) us (λ p w. ap is_waiting (e.states p) ∙ w) e.sound
 
--- accesses
+-- if a capability may be held, so may the diminished one
 
 held_diminished : (os : List Object) (W : ℕ → Type 0) (c : Capability) → IsHeld os W c → IsHeld os W (diminished c)
 held_diminished os W c h = grind (arith, nat_tests)
@@ -75,7 +75,7 @@ held_diminished os W c h = grind (arith, nat_tests)
 held_fetched : (os : List Object) (W : ℕ → Type 0) (a : Access) (c : Capability) → IsHeld os W c → IsHeld os W (fetched a c)
 held_fetched os W a c h = one_of (IsHeld os W) (a.0 == 3) (diminished c) c (held_diminished os W c h) h
 
--- pages
+-- an order of a page keeps sound objects sound
 
 pub on_page_keeps : (g : Geometry) (os : List Object) (o : ℕ) (a : Access) (requested : PageOrder) (args : Arguments) → IsNow g os
     → IsHeld os (Waits os) (Page o a) → AreArguments os args → IsOutcome g (on_page os o a requested args)
@@ -87,7 +87,7 @@ on_page_keeps g os o a page.Write args h held fits =
     (λ _. refused_keeps g os _ h))
 on_page_keeps g os o a which args h held fits = grind (arith, nat_tests, chosen, replying_keeps, refused_keeps, given_keeps)
 
--- nodes
+-- a node isn't an annex
 
 node_is_no_annex : (c : Content Capability) → IsTrue (is_node c) → IsTrue (is_annex c) → ⊥
 node_is_no_annex c p q = grind (arith, nat_tests)
@@ -112,7 +112,7 @@ on_node_keeps g os o a node.Store args h held fits = stored_keeps g os o a args.
 on_node_keeps g os o a node.PutNumber args h held fits = search (arith, nat_tests, stored_keeps)
 on_node_keeps g os o a which args h held fits = grind (arith, nat_tests, chosen, given_keeps, refused_keeps)
 
--- processes
+-- a root has 4 words of 64 bits and a key of 16 bits
 
 root_shape : (c : Content Capability) → IsTrue (is_root c) → HasShape c
     → (length (root_in c).words ≡ 4) × ((i : ℕ) → slice_index (root_in c).words i < 2 ^ 64) × ((root_in c).key < 2 ^ 16)
@@ -133,7 +133,7 @@ root_now g W os p h is =
       is_space = (h.filled p).is_space;
     }
 
--- a process in another state, if only waiting processes may be resumed
+-- nearly sound objects stay nearly sound if a process changes its state
 pub nearly_state : (g : Geometry) (W : ℕ → Type 0) (os : List Object) (p : ℕ) (s : State) → IsNearlySound g W os →
     IsTrue (is_process os p) → IsNearlySound g W (with_state os p s)
 unfolding with_state
@@ -153,7 +153,7 @@ pub state_other : (os : List Object) (p q : ℕ) (s : State) → q ≢ p → sta
 unfolding with_state
 state_other os p q s differ = ap (λ (r : Root Capability). r.state) (root_other os p q _ differ)
 
--- after its resume capabilities were consumed, a process may have any state
+-- if the resume capabilities of a process are consumed, it may get any state
 consumed_now : (g : Geometry) (os : List Object) (p : ℕ) (s : State) → IsNow g os → IsTrue (is_process os p) →
     IsNow g (consume p (with_state os p s))
 consumed_now g os p s h is =

@@ -13,17 +13,17 @@ state_at os p = (root_at os p).state
 abbrev pub Waits : List Object → ℕ → Type 0
 Waits os p = IsTrue (is_waiting (state_at os p))
 
--- a capability names an object of its kind, and if it resumes a process, one of some processes
+-- a capability names an object of its kind; a resume capability names a process in W
 abbrev pub NamesAmong : List Object → (ℕ → Type 0) → Capability → Type 0
 NamesAmong os W (Resume p) = IsTrue (is_process os p) × W p
 NamesAmong os W c = NamesItsKind os c
 
--- a capability that may be held, where these processes may be resumed
+-- a capability that may be held if exactly the processes in W may be resumed
 pub record IsHeld (os : List Object) (W : ℕ → Type 0) (c : Capability) : Type 0 where
   pub well_formed : IsWellFormed c
   pub names : NamesAmong os W c
 
--- a content with such capabilities
+-- a content of valid shape, in which each capability satisfies `IsHeld`
 pub record IsFilled (os : List Object) (W : ℕ → Type 0) (c : Content Capability) : Type 0 where
   pub shape : HasShape c
   pub words : (i : ℕ) → slice_index (words_in c) i < 2 ^ 64
@@ -32,7 +32,7 @@ pub record IsFilled (os : List Object) (W : ℕ → Type 0) (c : Content Capabil
   pub space : IsHeld os W (root_in c).space
   pub is_space : IsSpace (root_in c).space
 
--- the part of soundness that depends on the frame
+-- the part of soundness that depends only on owners, roles, annexes and limits (the frame of the objects)
 pub record IsFramed (g : Geometry) (os : List Object) : Type 0 where
   pub size : length os ≡ object_count g
   pub kinds : (n : ℕ) → IsOfKind g n (content_at os n)
@@ -46,7 +46,7 @@ pub record IsFramed (g : Geometry) (os : List Object) : Type 0 where
   pub chains : (b : ℕ) → IsTrue (is_bank (content_at os b)) → Contains (chain os b) 0
   pub limits : (b : ℕ) → IsTrue (is_bank (content_at os b)) → usage os b ≤ limit_in (content_at os b)
 
--- objects that are sound, except for which processes may be resumed
+-- sound objects, except that the processes in W may be resumed, not the waiting ones
 pub record IsNearlySound (g : Geometry) (W : ℕ → Type 0) (os : List Object) : Type 0 where
   pub frame : IsFramed g os
   pub filled : (n : ℕ) → IsFilled os W (content_at os n)
@@ -57,8 +57,8 @@ held_from os c h = grind (arith, nat_tests)
 pub held_to : (os : List Object) (c : Capability) → IsHeld os (Waits os) c → MayBeHeld os c
 held_to os c h = grind (arith, nat_tests)
 
--- a capability may be held among other objects if the object that it names has the same role, and may be resumed if
--- it could
+-- a capability that may be held among os may be held among us, if the object that it names has the same role there, and may still be
+-- resumed
 pub held_alike : (os us : List Object) (W V : ℕ → Type 0) (c : Capability) →
     ((n : ℕ) → named c ≡ Some n → role_of (content_at us n) ≡ role_of (content_at os n))
     → ((p : ℕ) → named c ≡ Some p → W p → V p) → IsHeld os W c → IsHeld us V c
@@ -94,7 +94,7 @@ framed_on g os us s h =
       limits = λ b is. rw (usage_same os us s b, (s.alike b).limit) (h.limits b (sym (t b).bank ∙ is));
     }
 
--- objects with the same frame are as sound as the contents that they hold
+-- if os satisfies `IsFramed`, us has the `SameFrame`, and all contents of us are filled, us is nearly sound
 pub nearly_on : (g : Geometry) (W : ℕ → Type 0) (os us : List Object) → SameFrame os us → IsFramed g os
     → ((n : ℕ) → IsFilled os W (content_at us n)) → IsNearlySound g W us
 nearly_on g W os us s h filled = record {
@@ -109,7 +109,7 @@ nearly_weaken g W V os f h = record {
   filled = λ n. filled_on os os W V (content_at os n) (frame_refl os) f (h.filled n);
 }
 
--- a sound world is nearly sound, where waiting processes may be resumed
+-- a sound world is nearly sound, with the waiting processes as those that may be resumed
 pub nearly_from : (g : Geometry) (w : World) → IsSound g w → IsNearlySound g (Waits w.objects) w.objects
 nearly_from g w h = record {
   frame = grind (arith, nat_tests);

@@ -8,7 +8,7 @@ use Rattle.std.proofs.Common.{◌≡◌, ◌≢◌, ◌⊎◌, ◌+◌, ◌^◌,
 use Rattle.model.specs.declared.object.Content.TheVariants as content
 use Rattle.model_laws.proofs.SoundEdits.{at_set}
 
--- a property of all elements of a list, and of its default, holds after a set of an element that has it
+-- if all elements of a list and its default have a property, they still do after an element with it is set
 pub holds_set : {C : Type 0} (P : C → Type 0) (xs : List C) (i : ℕ) (c d : C) → P c → ((j : ℕ) → P (slice_index_or xs j d))
     → (j : ℕ) → P (slice_index_or (slice_set xs i c) j d)
 holds_set P xs i c d new old j = at_set (λ k x. P x) xs i j c d new (old j)
@@ -18,7 +18,7 @@ holds_replicate P zero c d new old j = old
 holds_replicate P (suc n) c d new old zero = new
 holds_replicate P (suc n) c d new old (suc j) = holds_replicate P n c d new old j
 
--- a new node holds no capability, and a new page only 0
+-- a property of void holds of each slot of a new node
 pub holds_void : (P : Capability → Type 0) → P Void → (i : ℕ) → P (slice_index_or (all_slots Void) i Void)
 unfolding all_slots
 holds_void P void i = holds_replicate P 32 Void Void void void i
@@ -47,7 +47,7 @@ each_at P k [] each blank n m e = blank m
 each_at P k (o ∷ os) each blank zero m e = grind (arith, nat_tests)
 each_at P k (o ∷ os) each blank (suc n) m e = each_at P (k + 1) os each.1 blank n m (omega (arith, e))
 
--- free objects before others
+-- such a property holds of m free objects followed by others
 pub each_after : (P : ℕ → Object → Type 0) (m k j : ℕ) (os : List Object) → ((n : ℕ) → P n free) → j ≡ k + m → Each P j os
     → Each P k (replicate m free ++ os)
 each_after P zero k j os blank e each = grind (arith, nat_tests)
@@ -57,7 +57,7 @@ each_after P (suc m) k j os blank e each = (blank k, each_after P m (k + 1) j os
 abbrev AreRegisters : List Capability → Type 0
 AreRegisters registers = (length registers ≡ 32) × (slice_index_or registers 0 Void ≡ Void)
 
--- an object in its place among others, whose slots hold such capabilities; an annex comes directly after its root
+-- object n is valid: its slots hold only capabilities in H, and an annex comes directly after its root
 record IsInPlace (g : Geometry) (os : List Object) (H : Capability → Type 0) (n : ℕ) (o : Object) : Type 0 where
   kind : IsOfKind g n o.content
   shape : HasShape o.content
@@ -74,7 +74,7 @@ record IsInPlace (g : Geometry) (os : List Object) (H : Capability → Type 0) (
   chains : IsTrue (is_bank o.content) → Contains (chain os n) 0
   limits : IsTrue (is_bank o.content) → usage os n ≤ limit_in o.content
 
--- a world is sound if each object is in its place, and may hold its capabilities
+-- a world is sound if each object is valid in this sense, and may hold its capabilities
 sound_from : (g : Geometry) (w : World) (H : Capability → Type 0) → length w.objects ≡ object_count g
     → IsTrue (is_bank (content_at w.objects 0)) → owner_at w.objects 0 ≡ 0 → w.age ≤ 2 ^ 62
     → ((c : Capability) → H c → MayBeHeld w.objects c) → ((n : ℕ) → IsInPlace g w.objects H n (object_at w.objects n)) → IsSound g w
@@ -98,7 +98,7 @@ sound_from g w H size bank own age may at = record {
 }
 
 module _ (g : Geometry) (os : List Object) (H : Capability → Type 0) (bank : IsTrue (is_bank (content_at os 0))) (void : H Void) where
-  -- an object that is no bank, root or annex
+  -- an object that is no bank, root or annex is valid in this sense
   plain_in_place : (n : ℕ) (c : Content Capability) → is_bank c ≡ false → is_root c ≡ false → is_annex c ≡ false → (root_in c).space ≡ Void
       → IsOfKind g n c → HasShape c → ((i : ℕ) → slice_index (words_in c) i < 2 ^ 64) → ((i : ℕ) → H (slice_index_or (slots_in c) i Void))
       → IsInPlace g os H n (of_prime_bank c)

@@ -39,7 +39,7 @@ length-spaced (w ∷ v ∷ words) all =
     let joined = length-append w (32 ∷ spaced (v ∷ words)) in
     omega arith
 
--- decimal digits
+-- a digit isn't a space
 digit_is_no_space : (d : ℕ) → ((48 + d) == 32) ≡ false
 digit_is_no_space d = ne_eqb (48 + d) 32 (λ e. omega arith)
 
@@ -55,7 +55,7 @@ decimal_is_word n h = (
 pub decimals_are_words : (ns : List ℕ) → All (λ n. n < 2 ^ 64) ns → All IsWord (map decimal ns)
 decimals_are_words ns all = All-map IsWord decimal ns (All-weaker (λ n. n < 2 ^ 64) (λ n. IsWord (decimal n)) decimal_is_word ns all)
 
--- a text that is written out
+-- a text is spaceless if a test finds no space in it
 spaceless_by_test : (text : List ℕ) → list_any (λ b. b == 32) text ≡ false → IsSpaceless text
 spaceless_by_test [] e = All-nil (λ b. (b == 32) ≡ false)
 spaceless_by_test (b ∷ text) e = All-cons (λ b. (b == 32) ≡ false) b text (parts (b == 32) e).0
@@ -188,7 +188,7 @@ same_invocation : (o : Operation) (p q r s : ℕ) (words ws sent ss : List ℕ) 
     invocation o p r words sent ≡ invocation o q s ws ss
 same_invocation o p q r s words ws sent ss e f g h = λ k. invocation o (e k) (f k) (g k) (h k)
 
--- the words of an invocation, by their parts
+-- an invocation is read from the words of its parts
 reads_parts : (o : Operation) (p r : ℕ) (rest : List (List ℕ)) →
     command_of (operation_name o ∷ decimal p ∷ decimal r ∷ rest)
     ≡ invocation o (digits_value 10 (decimal p)) (digits_value 10 (decimal r)) (numbers (take 4 rest)) (numbers (drop 4 rest))
@@ -199,7 +199,7 @@ pub reads_words : (c : Command) → Fits c → command_of (command_words c) ≡ 
 unfolding command_of command_words
 reads_words c fits = grind (arith, nat_tests, reads_parts, same_invocation, value_of, first_four, others)
 
--- from its spelling the command is read back
+-- a command is read back from its spelling
 pub reads_spelling : (c : Command) → Fits c → command_of (split (spelling c)) ≡ c
 reads_spelling c fits = ap command_of (split_spelling c fits) ∙ reads_words c fits
 
@@ -213,7 +213,7 @@ spelling_is_no_skip : (c : Command) → IsSkipped (spelling c) → ⊥
 unfolding spelling command_words
 spelling_is_no_skip c skipped = grind (arith, nat_tests)
 
--- a line that is skipped or spells a command is not bad, and no spelling is skipped
+-- a line that is skipped is not bad
 pub skip_is_not_bad : (text : List ℕ) → Says text line.Skip → Says text line.Bad → ⊥
 skip_is_not_bad text skip bad = elim bad [ inl long ↦ omega arith | inr none ↦ none.0 skip.1 ]
 

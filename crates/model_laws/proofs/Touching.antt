@@ -1,4 +1,4 @@
--- The numbers touched, and when an invocation or a store is refused since the log is full.
+-- The touched numbers, and when a full log refuses an invocation or a store.
 use Rattle.model_laws.proofs.Names.{nat_tests, ℕ, zero, suc, Bool, true, not, List, [], length, slice_get, Some, None, Ok, Err, Option, Result, inl, inr, refl}
 use Rattle.model_laws.proofs.Names.{ap, arith, zero-lt-suc, Contains, Contains-append_right, MemoryFault, Refusal, Invocation, Geometry, is_running_process}
 use Rattle.model_laws.proofs.Names.{Effect, invoke, touching, overfills, reached, refusal_of, unless, writable, TouchesWritten, LogFullIsExact}
@@ -8,7 +8,7 @@ use Rattle.model.specs.Machine.{Running}
 use Rattle.model.specs.declared.answer.Refusal.TheVariants as refusal
 use Rattle.model.specs.declared.command.Command.TheVariants as command
 
--- a mark is read at the place where it was set, and earlier marks stay
+-- a number that is marked after m was marked is m, or was marked before
 marked : (xs : List Bool) (m n : ℕ) → slice_get (slice_set xs m true) n ≡ Some true → (slice_get xs n ≡ Some true) ⊎ (m ≡ n)
 marked [] m n e = inl e
 marked (x ∷ xs) zero zero e = inr refl
@@ -40,7 +40,7 @@ pub stays_touched : (xs : List Bool) (ns : List ℕ) (n : ℕ) → slice_get xs 
 stays_touched xs [] n e = e
 stays_touched xs (m ∷ ns) n e = stays_touched (slice_set xs m true) ns n (stays_marked xs m n e)
 
--- the k-th of the numbers written is touched
+-- each of the written numbers is touched
 is_touched : (xs : List Bool) (ns : List ℕ) (n k : ℕ) → n < length xs → k < length ns → slice_index_or ns k n ≡ n →
     slice_get (touching xs ns) n ≡ Some true
 is_touched xs [] n k h l e = absurd (omega arith)
@@ -59,7 +59,7 @@ refusal_is g s i e p young effect = grind (arith, nat_tests)
 pub log_full_is_exact : LogFullIsExact
 log_full_is_exact g s i e p young effect = grind (arith, nat_tests, refusal_is)
 
--- the conditions of a store that are left once its page is known
+-- if the process exists and runs, the refusal of a store is that of the later conditions
 acts : (process running : Bool) (next : Option Refusal) → (process && running) ≡ true
     → unless process refusal.NoProcess (unless (process && running) refusal.NotRunning next) ≡ next
 acts process running next p = grind (arith, nat_tests)

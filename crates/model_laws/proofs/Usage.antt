@@ -4,14 +4,14 @@ use Rattle.model_laws.proofs.Names.{chain, is_under, usage, IsOfKind}
 use Rattle.std.proofs.Common.{◌≡◌, ◌==◌, ◌&&◌}
 use Rattle.model_laws.proofs.Counts.{count_alike}
 
--- two objects that differ in no more than words, slots, a state, a key or an address space
+-- two objects with the same owner, role, annex and limit; the rest may differ
 pub record AreAlike (x y : Object) : Type 0 where
   pub owner : y.owner ≡ x.owner
   pub role : role_of y.content ≡ role_of x.content
   pub annex : (root_in y.content).annex ≡ (root_in x.content).annex
   pub limit : limit_in y.content ≡ limit_in x.content
 
--- two lists of such objects
+-- two lists of objects have the same frame: at each number the objects are alike
 pub record SameFrame (os us : List Object) : Type 0 where
   pub size : length us ≡ length os
   pub alike : (n : ℕ) → AreAlike (object_at os n) (object_at us n)

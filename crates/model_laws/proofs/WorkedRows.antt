@@ -35,7 +35,7 @@ pub refusals_hold : All IsRow refusals
 unfolding machine refusals
 refusals_hold = rows_hold refusals (All-from_recursion IsRight refusals (refl, (refl, (refl, (refl, (refl, (refl, (refl, tt))))))))
 
--- the answer that a refusal or an outcome gives is that of a step
+-- the outcome of a command with this refusal or, if there is none, with this outcome
 abbrev comes_to : Machine → Outcome → Option Refusal → Outcome
 comes_to s o r = elim r [ Some why ↦ outcome (answer.Refused why) s | None ↦ o ]
 
@@ -80,11 +80,11 @@ says_commands = (
 pub says_nothing : SaysNothing
 says_nothing = ((omega arith, tt), (omega arith, refl), (omega arith, refl))
 
--- if a text spells a command, this is the one that its words name
+-- if a text spells a command, it is the one that its words name
 replying_by_words : (text : List ℕ) (c : Command) → Fits c → text ≡ spelling c → command_of (split text) ≡ c
 replying_by_words text c fits e = ap (λ t. command_of (split t)) e ∙ reads_spelling c fits
 
--- a text that isn't the spelling of the command that its words name spells no command
+-- if a text isn't the spelling of the command that its words name, it spells no command
 spells_another : (text : List ℕ) → bytes_eq text (spelling (command_of (split text))) ≡ false → (c : Command) → Fits c → text ≢ spelling c
 spells_another text differs c fits e =
     let spelled : text ≡ spelling (command_of (split text)) = e ∙ ap spelling (sym (replying_by_words text c fits e)) in
@@ -92,7 +92,7 @@ spells_another text differs c fits e =
     spelled in
     cc
 
--- if the command that its words name has no spelling, a text spells no command
+-- if the command that a text's words name has no spelling, the text spells no command
 does_not_fit : (text : List ℕ) → (Fits (command_of (split text)) → ⊥) → (c : Command) → Fits c → text ≢ spelling c
 does_not_fit text unfit c fits e = unfit (subst Fits (sym (replying_by_words text c fits e)) fits)
 
@@ -114,7 +114,7 @@ says_bad = (
 pub cuts_lines : CutsLines
 cuts_lines = (refl, refl, refl, refl)
 
--- the answers to a bad line, and to a line that shows an object, in a run
+-- a run over two bad lines and a line that shows an object gives the worked replies
 pub runs_script : RunsScript
 unfolding machine command_of
 runs_script = (

@@ -1,4 +1,5 @@
--- What processes can change if they have authority over a set of numbers only: that set, and free numbers.
+-- What processes can change if they have authority only over a set of numbers: the objects in the set, and free
+-- numbers.
 use Rattle.model_laws.specs.Names.{ℕ, Bool, true, false, None, Some, List, IsTrue, All, Capability, Command, Invocation}
 use Rattle.model_laws.specs.Names.{Geometry, Line, Object, named, IsClosed, Effect, invoke, Up, is_free, without, IsRun}
 use Rattle.model_laws.specs.Names.{Turn, IsSound, Fits, Says, World, content_at, object_at, is_running_process}
@@ -16,7 +17,7 @@ abbrev pub IsKept : (ℕ → Bool) → Object → Object → Type 0
 IsKept inside old new = (goes : Capability → Bool) × ((c : Capability) → goes c ≡ true → NamesInside inside c) ×
     (new ≡ without goes old)
 
--- a closed set that has all free numbers
+-- a closed set that contains all free numbers
 pub record Encloses (inside : ℕ → Bool) (os : List Object) : Type 0 where
   pub closed : IsClosed os inside
   pub free : (n : ℕ) → is_free (content_at os n) ≡ true → IsTrue (inside n)
@@ -26,7 +27,7 @@ pub record StaysWithin (inside : ℕ → Bool) (os us : List Object) : Type 0 wh
   pub encloses : Encloses inside us
   pub kept : (n : ℕ) → inside n ≡ false → IsKept inside (object_at os n) (object_at us n)
 
--- an invocation by a process of an enclosing set stays within it
+-- the law: an invocation by a process of an enclosing set stays within the set
 abbrev pub InvocationIsConfined : Type 0
 InvocationIsConfined = (g : Geometry) (w : World) (i : Invocation) (e : Effect) (inside : ℕ → Bool) →
     IsSound g w → Fits (command.Invoke i) → IsTrue (is_running_process w.objects i.process) →
@@ -37,14 +38,14 @@ InvocationIsConfined = (g : Geometry) (w : World) (i : Invocation) (e : Effect) 
 abbrev pub with_free : List Object → (ℕ → Bool) → ℕ → Bool
 with_free os inside n = inside n || is_free (content_at os n)
 
--- an invocation or a memory reference of a process of a set
+-- an invocation, load or store by a process of the set
 abbrev pub IsBy : (ℕ → Bool) → Command → Type 0
 IsBy inside (command.Invoke i) = IsTrue (inside i.process)
 IsBy inside (command.Load p address) = IsTrue (inside p)
 IsBy inside (command.Store p address value) = IsTrue (inside p)
 IsBy inside _ = ⊥
 
--- a line that says such a command or no command; turns with only such lines
+-- a line that is such a command, or no command; turns with only such lines
 abbrev pub IsLineBy : (ℕ → Bool) → Line → Type 0
 IsLineBy inside line.Skip = Unit {0}
 IsLineBy inside line.Bad = Unit {0}
@@ -53,9 +54,9 @@ IsLineBy inside (line.Command c) = IsBy inside c
 abbrev pub AreBy : (ℕ → Bool) → List Turn → Type 0
 AreBy inside turns = All (λ t. (l : Line) → Says t.line l → IsLineBy inside l) turns
 
--- the authority bound: over any run of invocations and memory references by processes of a closed set, and by those
--- that they make of free numbers, each object outside the set that wasn't free keeps its content and owner, but
--- capabilities in it that name a member may become void (EROS: confinement)
+-- The authority bound (EROS: confinement). Take any run of invocations, loads and stores by processes of a closed set,
+-- and by those that they make of free numbers. Each object outside the set that wasn't free keeps its content and
+-- owner, but its capabilities that name a member may become void.
 abbrev pub RunIsConfined : Type 0
 RunIsConfined = (g : Geometry) (inside : ℕ → Bool) (s t : Running) (turns : List Turn) →
     IsSound g s.now → IsClosed s.now.objects inside → IsRun g (Up s) turns (Up t) →

@@ -35,8 +35,8 @@ DiminishesOnce = (c : Capability) → diminished (diminished c) ≡ diminished c
 abbrev pub FetchesWeak : Type 0
 FetchesWeak = (a : Access) (c : Capability) → a.0 ≡ 3 → IsWeak (fetched a c)
 
--- after a rescind the members are free, no slot or address space names one, and nothing else has changed
--- except that capabilities to members are void
+-- after a rescind the members are free, no slot or address space names one, and nothing else has changed, except that
+-- capabilities to members are void
 abbrev pub RescindsAll : Type 0
 RescindsAll = (set : List ℕ) (os : List Object) →
     ((n : ℕ) → is_member set n ≡ true → is_free (content_at (rescind set os) n) ≡ true)
@@ -58,7 +58,7 @@ rescinded_by os b bank.Destroy args = under os b
 rescinded_by os b bank.ReturnToParent args = b ∷ []
 rescinded_by os b _ args = []
 
--- an order of a bank gives up exactly the objects that it rescinds if its code is `Done`, else none
+-- an order of a bank whose code is `Done` frees exactly the objects that it rescinds; any other frees none
 abbrev pub GivesUpRescinded : Type 0
 GivesUpRescinded = (g : Geometry) (w : World) (b : ℕ) (requested : BankOrder) (args : Arguments) (n : ℕ) →
     IsSound g w → IsTrue (is_bank (content_at w.objects b)) → MayBeHeld w.objects args.capability →
@@ -68,7 +68,7 @@ GivesUpRescinded = (g : Geometry) (w : World) (b : ℕ) (requested : BankOrder) 
     × (((on_bank g w.objects b requested args).code ≡ code.Done → ⊥) →
     is_given_up w.objects (on_bank g w.objects b requested args).objects n ≡ false)
 
--- an invocation by a running process, through a gate or not, gives no object up unless it is an order of a bank
+-- an invocation by a running process frees no object, unless it is an order of a bank
 abbrev pub GivesUpNothing : Type 0
 GivesUpNothing = (g : Geometry) (w : World) (i : Invocation) (e : Effect) (n : ℕ) →
     IsSound g w → Fits (command.Invoke i) → IsTrue (is_running_process w.objects i.process) →
@@ -80,15 +80,15 @@ abbrev pub TouchesWritten : Type 0
 TouchesWritten = (touched : List Bool) (written : List ℕ) (n : ℕ) → n < length touched →
     (slice_get (touching touched written) n ≡ Some true) ↔ ((slice_get touched n ≡ Some true) ⊎ Contains written n)
 
--- an invocation to which no earlier refusal applies is refused as log full exactly if the touched numbers,
--- with those that it writes, are more than half of the log holds
+-- an invocation that no earlier condition refuses is refused as log full exactly if the touched numbers, with those
+-- that it writes, are more than half of the log has slots for
 abbrev pub LogFullIsExact : Type 0
 LogFullIsExact = (g : Geometry) (s : Running) (i : Invocation) (e : Effect) →
     IsTrue (is_running_process s.now.objects i.process) → s.now.age < 2 ^ 62 → invoke g s.now.objects i ≡ Some e →
     (refusal_of g s (command.Invoke i) ≡ Some refusal.LogFull) ↔ (g.log < touched_count (touching s.touched e.written))
 
--- a store to a writable page is refused as log full exactly if the touched numbers and that page are more than
--- half of the log holds; a store that ends in a memory fault isn't refused
+-- a store to a writable page is refused as log full exactly if the touched numbers, with that page, are more than half
+-- of the log has slots for; a store with a memory fault isn't refused
 abbrev pub StoreLogFullIsExact : Type 0
 StoreLogFullIsExact = (g : Geometry) (s : Running) (p address value : ℕ) → IsTrue (is_running_process s.now.objects p) →
     ((page : ℕ) → writable (reached s.now.objects p address) ≡ Ok page →
@@ -97,7 +97,7 @@ StoreLogFullIsExact = (g : Geometry) (s : Running) (p address value : ℕ) → I
     × ((why : MemoryFault) → writable (reached s.now.objects p address) ≡ Err why →
     refusal_of g s (command.Store p address value) ≡ None)
 
--- whether the specification allows a command to fail for lack of memory
+-- whether the specification allows the answer `no memory` to a command
 abbrev pub may_lack_memory : Command → Bool
 may_lack_memory (command.Invoke i) = true
 may_lack_memory (command.Load p address) = true
@@ -105,7 +105,7 @@ may_lack_memory (command.Store p address value) = true
 may_lack_memory (command.Show n) = true
 may_lack_memory c = opens c
 
--- whether the specification allows `no memory` in place of this refusal, or of none
+-- whether the specification allows `no memory` in place of this refusal or, for `None`, of any other answer
 abbrev pub may_give_way : Option Refusal → Bool
 may_give_way (Some refusal.NoProcess) = false
 may_give_way (Some refusal.BadNumber) = false

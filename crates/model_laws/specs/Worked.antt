@@ -20,7 +20,7 @@ with_all_nodes_written w = record (at_world w) { touched = replicate 16 true ++ 
 abbrev pub answered : Machine → Command → Outcome
 answered s c = elim (refusal_of small s c) [ Some why ↦ outcome (answer.Refused why) s | None ↦ carried_out small s c ]
 
--- what is written for commands in a row, one after the other
+-- what is printed for a list of commands
 abbrev pub written_for : Machine → List Command → List (List ℕ)
 written_for s [] = []
 written_for s (c ∷ cs) = printed (answered s c).answer ∷ written_for (answered s c).after cs

@@ -1,4 +1,4 @@
--- A worked world with a confined process: the set with its numbers is closed, and what that forbids.
+-- A worked world with a confined process: its set is closed, and the rows show what it can't do.
 use Rattle.model_laws.specs.Names.{ℕ, Bool, List, [], replicate, slice_set, Void, Page, Node, Process, Start, Bank}
 use Rattle.model_laws.specs.Names.{Running, full, weak, IsClosed, free, all_slots, zero_words, World, with_slot}
 use Rattle.model_laws.specs.Names.{of_prime_bank, fresh_root, prime_bank}
@@ -29,11 +29,11 @@ c0 = record {
 abbrev pub confined : ℕ → Bool
 confined n = n == 3 || n == 4 || n == 6
 
--- these three have no authority except over each other, and to read weakly
+-- the three members own only each other, and have only weak capabilities to anything else
 abbrev pub ConfinedIsClosed : Type 0
 ConfinedIsClosed = IsClosed c0.objects confined
 
--- a capability to node 5 that isn't weak is authority over more, even where it only reads
+-- a set is no longer closed if its process gets a capability to node 5 that is full, or read-only but not weak
 abbrev pub OutwardIsNotClosed : Type 0
 OutwardIsNotClosed =
     (IsClosed (with_slot c0.objects 4 1 (Node 5 full)) confined → ⊥)
@@ -44,7 +44,7 @@ abbrev pub refused : String
 refused =
     "process 3 owner 0 annex 4 running key 0 words 2 0 0 0 space void\nregister 1 node 5 weak\nregister 2 bank 6\nend"
 
--- process 3 can't write through its weak capabilities: code 2 is no access
+-- process 3 can't write through its weak capabilities; code 2 means no access
 abbrev pub only_reads : Row
 only_reads = row (at_world c0) (
     ("call 3 1 1 0 0 0 0 0 0 0", "done") ∷

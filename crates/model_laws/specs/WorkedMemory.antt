@@ -4,7 +4,7 @@ use Rattle.model_laws.specs.Shown.{s0_registers}
 use Rattle.model_laws.specs.Worked.{Row, at_world, row, s0}
 use Prim.Native.String.{◌++◌}
 
--- a space with a hole and an end, and a page reached through a weak node
+-- loads through an empty slot and beyond the end of a space, and through a weak node to a page
 abbrev pub finds_holes : Row
 finds_holes = row (at_world s0) (
     ("call 1 10 4 2 0 0 0 0 0 0", "done") ∷
@@ -61,7 +61,7 @@ descends_by_one = row (at_world s0) (
     ("send 1 1 9 0 0 0 28 0 0 0", "done") ∷ ("load 1 512", "value 0") ∷ ("load 1 0", "memory fault 4") ∷
     [])
 
--- each access on the way to a page restricts it, and each slot on the way is of its kind
+-- each capability on the way to a page restricts the access, and each slot on the way holds the right kind
 abbrev pub restricts_ways : Row
 restricts_ways = row (at_world s0) (
     ("call 1 13 3 1 0 0 0 0 0 0", "done") ∷

@@ -69,7 +69,7 @@ diminishes_page = row (at_world f0) (
     ("call 1 0 1 0 0 0 0 0 0 0", "done") ∷ ("show 1", process_1 "running key 0 words 8 0 0 0" f0_registers) ∷
     [])
 
--- what is fetched through a weak node
+-- what a fetch through a weak node gives for a page, a start capability and a number
 abbrev pub diminishes_all : Row
 diminishes_all = row (at_world s0) (
     ("send 1 10 2 0 0 0 13 0 0 0", "done") ∷
@@ -104,7 +104,7 @@ diminishes_kinds = row (at_world s0) (
     ("show 2", "annex 2 owner 0\n" ++ s0_with_weak ++ "register 28 discrim\nend") ∷
     [])
 
--- a discrim capability answers the kind of the capability that it is sent
+-- a discrim capability replies with the kind of the capability sent to it
 abbrev pub classifies : Row
 classifies = row (at_world s0) (
     ("call 1 8 1 0 0 0 1 0 0 0", "done") ∷ ("show 1", process_1 "running key 0 words 0 5 0 0" s0_registers) ∷
@@ -116,7 +116,7 @@ classifies = row (at_world s0) (
     ("call 1 8 2 0 0 0 1 0 0 0", "done") ∷ ("show 1", process_1 "running key 0 words 1 0 0 0" s0_registers) ∷
     [])
 
--- what others own through a bank counts against its limit
+-- objects of a bank's sub-banks count against its limit
 abbrev pub shows_banks : Row
 shows_banks = row (at_world b0) (
     ("show 0", "bank 0 owner 0 limit 1000 used 5\nend") ∷ ("show 5", "bank 5 owner 0 limit 10 used 2\nend") ∷

@@ -5,7 +5,7 @@ use Rattle.model_laws.specs.Shown.{i0_registers, process_1, process_3}
 use Rattle.model_laws.specs.Worked.{Row, at_world, row}
 use Prim.Native.String.{◌++◌}
 
--- a call starts a process and waits
+-- a process that calls another starts it, and waits
 abbrev pub starts_process : Row
 starts_process = row (at_world i0) (
     ("call 1 3 5 0 0 0 2 0 0 0", "done") ∷
@@ -13,7 +13,7 @@ starts_process = row (at_world i0) (
     ("call 1 2 1 0 0 0 0 0 0 0", "not running") ∷ ("show 1", process_1 "waiting key 0 words 0 0 0 0" i0_registers) ∷
     [])
 
--- a resume capability is gone once it was used, wherever it was sent
+-- once a resume capability is used, every copy of it is void
 abbrev pub answers_once : Row
 answers_once = row (at_world i0) (
     ("call 1 3 5 0 0 0 4 2 0 0", "done") ∷
@@ -47,7 +47,7 @@ sets_state = row (at_world i0) (
     ("send 3 31 1 2 3 4 0 0 0 0", "done") ∷ ("show 1", process_1 "running key 0 words 1 2 3 4" i0_registers) ∷
     [])
 
--- a waiting process that is set running or available is no longer resumed
+-- a waiting process that is set to running or available can no longer be resumed
 abbrev pub sets_state_once : Row
 sets_state_once = row (at_world i0) (
     ("call 1 3 5 0 0 0 1 0 0 0", "done") ∷

@@ -11,7 +11,7 @@ refuses_references = row (at_world i0) (
     ("store 4 0 1", "no process") ∷
     [])
 
--- numbers that no object has, and steps of a checkpoint where none runs
+-- numbers without an object, and stages of a checkpoint when nothing is frozen
 abbrev pub refuses_numbers : Row
 refuses_numbers = row (at_world i0) (
     ("show 24", "bad number") ∷ ("evict 24", "bad number") ∷ ("stabilize 1", "no checkpoint") ∷
@@ -29,7 +29,7 @@ refuses_in_order = row (at_world (aged (2 ^ 62 - 1))) (
     ("call 3 3 5 0 0 0 0 0 0 0", "not running") ∷ ("checkpoint", "worn") ∷
     [])
 
--- nothing makes the age pass its end
+-- at age 2^62 invocations, checkpoints and journals are refused
 abbrev pub wears : Row
 wears = row (at_world (aged (2 ^ 62))) (
     ("call 1 2 1 0 0 0 0 0 0 0", "worn") ∷ ("checkpoint", "worn") ∷ ("journal 24", "worn") ∷
@@ -37,7 +37,7 @@ wears = row (at_world (aged (2 ^ 62))) (
     ("restart", "at 0 4611686018427387904") ∷
     [])
 
--- the last age is reached
+-- the step that reaches age 2^62 is carried out, the next is refused
 abbrev pub ages_once_more : Row
 ages_once_more = row (at_world (aged (2 ^ 62 - 1))) (
     ("call 1 1 6 0 0 0 0 0 0 0", "done") ∷

@@ -43,8 +43,8 @@ stable = after frozen (writes Send 43 ∷ command.Stabilize 5 ∷ [])
 abbrev pub committed : Machine
 committed = after stable (command.Commit ∷ [])
 
--- if the device fails in a commit or a journal, the saved state is the old or the new one; if it fails in the migration
--- of the last object, the saved state has its entries or none; in other commands there is no doubt
+-- if the device fails in a commit or a journal, the old or the new state is saved; if it fails as the last object goes
+-- home, the saved state has its entries or none; in other commands only one state may be saved
 abbrev pub FailsBetween : Type 0
 FailsBetween =
     (replying_saved (candidates (Up stable) ++ second (Up stable) command.Commit) ≡ (0, 0, 0) ∷ (1, 2, 3) ∷ [])
@@ -65,8 +65,8 @@ OpensAgain = (a b : Saved) →
     × Proceeds small (Down (a ∷ b ∷ [])) command.Cut (answer.At b.generation b.world.age) (Up (opened small b))
     × Proceeds small (Down (a ∷ b ∷ [])) command.Restart (answer.At a.generation a.world.age) (Up (opened small a))
 
--- `no memory` may be answered in place of an object's text, and where a machine was to be opened, which is then down;
--- never in place of `bad number`, `no process` or `down`, nor of an answer to `evict` or `journal`
+-- `no memory` may replace the answer to `show`, `restart` and `cut`, after which a machine to be opened is down; it
+-- never replaces `bad number`, `no process` or `down`, nor an answer to `evict` or `journal`
 abbrev pub WantsMemory : Type 0
 WantsMemory =
     let none : Answer = answer.Refused refusal.NoMemory in
@@ -96,7 +96,7 @@ ChainsBanks = (chain b0.objects 6 ≡ 6 ∷ 5 ∷ 0 ∷ []) × (chain b0.objects
 abbrev pub slots_of_bank_5 : List Capability → List Object
 slots_of_bank_5 slots = record { owner = 5; content = content.Node slots } ∷ []
 
--- capabilities that aren't consumed or rescinded stay, and each object keeps its owner
+-- only the consumed or rescinded capabilities become void, and each object keeps its owner
 abbrev pub RevokesOnly : Type 0
 RevokesOnly =
     (consume 1 (slots_of_bank_5 (Resume 1 ∷ Resume 3 ∷ Start 1 7 ∷ Process 1 ∷ []))

@@ -38,7 +38,7 @@ SaysBad =
     × Says (codes "call 1 32 0 0 0 0 0 0 0 0") line.Bad
     × Says (codes "show 18446744073709551616") line.Bad
 
--- the lines of a text; nothing after the last newline is no line
+-- the lines of a text; no line follows a newline at the end
 abbrev pub CutsLines : Type 0
 CutsLines =
     (lines_of [] ≡ [])

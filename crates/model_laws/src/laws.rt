@@ -1,4 +1,4 @@
-//! Laws of the definitions, each the contract of a function that does nothing.
+//! Laws of the definitions. Each is the contract of a function that does nothing.
 
 ghost use Rattle.model_laws.specs.Laws.{DiminishesOnce, FetchesWeak, RescindsAll, ConsumesAll, GivesUpRescinded};
 ghost use Rattle.model_laws.specs.Laws.{GivesUpNothing, TouchesWritten, LogFullIsExact, StoreLogFullIsExact, SpellsOne};
@@ -25,13 +25,13 @@ pub fn consumes_all()
     ensures { ConsumesAll }
 {}
 
-/// An order of a bank gives up exactly the objects that it rescinds, and none if it isn't done.
+/// An order of a bank frees exactly the objects that it rescinds, and none if it isn't done.
 #[tactic(auto, using(crate::proofs::GivenUp::gives_up_rescinded))]
 pub fn gives_up_rescinded()
     ensures { GivesUpRescinded }
 {}
 
-/// An invocation that is not an order of a bank, through a gate or not, gives up no object.
+/// An invocation that is not an order of a bank, through a gate or not, frees no object.
 #[tactic(auto, using(crate::proofs::GivenUp::gives_up_nothing))]
 pub fn gives_up_nothing()
     ensures { GivesUpNothing }
@@ -43,21 +43,22 @@ pub fn touches_written()
     ensures { TouchesWritten }
 {}
 
-/// An invocation that nothing else refuses is refused as log full exactly if, with the numbers that it writes, too
-/// many would be touched.
+/// An invocation that nothing else refuses is refused as log full exactly if the touched numbers, with those
+/// that it writes, are more than half of the log has slots for.
 #[tactic(auto, using(crate::proofs::Touching::log_full_is_exact))]
 pub fn log_full_is_exact()
     ensures { LogFullIsExact }
 {}
 
-/// A store that reaches a page which it may write is refused as log full exactly if that page would be one touched
-/// object too many. A memory fault is answered before a full log.
+/// A store to a page that it may write is refused as log full exactly if the touched numbers, with that page,
+/// are more than half of the log has slots for. If the store has a memory fault too, the answer is the memory
+/// fault.
 pub fn store_log_full_is_exact()
     ensures { StoreLogFullIsExact }
 {}
 
-/// The machine takes only steps that the specification allows. Any invocation, load, store and `show` may be answered
-/// `no memory`, except in place of `no process` and `bad number`.
+/// The machine takes only steps that the specification allows. It allows `no memory` in place of any answer
+/// to an invocation, load, store or `show`, except `no process` and `bad number`.
 #[tactic(auto, using(crate::proofs::Stepping::steps_allowed))]
 pub fn steps_are_allowed()
     ensures { StepsAllowed }

@@ -1,5 +1,6 @@
-//! Theorems about the abstract machine: laws that any right definitions must have, that an invocation keeps a sound
-//! world sound, what processes with authority over a set can change, and what the machine answers to worked scripts.
+//! Theorems about the abstract machine: laws that the definitions must satisfy; an invocation keeps a sound
+//! world sound; what processes with authority over a set can change; what the machine answers to worked
+//! scripts.
 #![tactic(auto)]
 
 pub mod confinement;

@@ -12,7 +12,7 @@ use Rattle.object_cache.proofs.Objects.{of_each, keepable_alike, unwritten_alike
 use Rattle.object_cache.proofs.Outcomes.{IsSeenAs}
 use Rattle.model.specs.declared.object.Role.TheVariants as role
 
--- the entry of one number changes, but neither its object nor its frozen frame
+-- entry n changes so that neither the object nor its frozen frame changes
 pub record Recaches (s : Stored) (m : Memory) (es : List (Option Entry)) (n : ℕ) : Type 0 where
   pub count : length es ≡ length m.entries
   pub entries : (k : ℕ) → k ≢ n → entry_at es k ≡ entry_at m.entries k
@@ -56,14 +56,14 @@ module _ {s : Stored} {m : Memory} {es : List (Option Entry)} {n : ℕ} (change 
       of_each n change.freed (λ k other. rw (change.entries k other) (is.freed k)) in
       search (is, clean_alike cached_alike is, unwritten_alike cached_alike is, keepable_alike cached_alike is, change.count ∙ is.entries)
 
--- ---- an entry that isn't wanted is dropped
+-- ---- an entry is dropped
 
--- an entry without an unwritten frozen body
+-- if the frozen state of an entry is `Nothing`, the object isn't pending, or it was written since the freeze without a copy
 pub nothing_frozen_state : (e : Entry) (pending touched : Bool) → frozen_state_of (Some e) pending touched ≡ Nothing →
     (pending ≡ false) ⊎ ((pending ≡ true) × (touched ≡ true) × (e.kept ≡ None))
 nothing_frozen_state e pending touched is = search arith
 
--- only a pending number's body is in the staging buffer
+-- if a number isn't pending, the staging buffer doesn't have its body
 pub no_staging : {s : Stored} {m : Memory} {all : Bool} {left count : ℕ} → IsCache all s m left count → (n : ℕ) (c : Content Cap) →
     mark_at m.pending n ≡ false → in_staging m.staging n c ≡ c
 no_staging {s} {m} {all} {left} {count} is n c not_pending = search (arith, ne_eqb)
@@ -85,7 +85,7 @@ module _ {s : Stored} {m : Memory} {all : Bool} {left count : ℕ} (is : IsCache
   frozen_state_here : frozen_state_of (Some e) (mark_at m.pending n) (mark_at m.touched n) ≡ Nothing
   frozen_state_here = ap (λ o. frozen_state_of o (mark_at m.pending n) (mark_at m.touched n)) (sym at) ∙ frozen_state
 
-  -- the newest body without the entry is the body in the entry
+  -- the newest body outside the entries is the one in the dropped entry
   newest_is : (t : Bool) → mark_at m.touched n ≡ t → newest_body s m n ≡ content_at s m n
   newest_is t touched = search (arith, nothing_frozen_state, frozen_state_here, no_staging)
 
@@ -101,7 +101,7 @@ module _ {s : Stored} {m : Memory} {all : Bool} {left count : ℕ} (is : IsCache
 module _ {D : Type 0} (disk : D → Disk) (d : DurableState D) {m : Memory} (left : ℕ) (order : List ℕ) (most_entries : ℕ)
     {es : List (Option Entry)} {n : ℕ}
     (change : Recaches (stored_of disk d) m es n) where
-  -- only which numbers have entries, and which frozen bodies these have, differs
+  -- dropping or adding an entry changes only which numbers have entries, and their frozen states
   pub seen_cached : {rs : List Bool} {x : List FrozenState} → cached_in es ≡ rs → frozen_states_in (with_objects m m.headers es) ≡ x →
       cache_of disk d (with_objects m m.headers es) left order most_entries ≡ record
       (cache_of disk d m left order most_entries) { cached = rs; frozen_state = x }
@@ -121,7 +121,7 @@ pub frozen_state_entry : (m : Memory) (n : ℕ) → n < length m.headers → fro
 unfolding frozen_states_in
 frozen_state_entry m n within = get_or-map-range_with_len (frozen_state_in_memory m) 0 (length m.headers) n n Nothing within (omega arith)
 
--- the same for stores that are given as views
+-- the same facts for a store whose view is s
 module _ {D : Type 0} (disk : D → Disk) {d : DurableState D} {m : Memory} {all : Bool} {left count : ℕ} {order : List ℕ} {most_entries : ℕ}
     {s : StoreState D}
     (view : cache_of disk d m left order most_entries ≡ s) (is : IsCache all (stored_of disk d) m left count) {n : ℕ}
@@ -161,7 +161,7 @@ module _ {D : Type 0} (disk : D → Disk) {d : DurableState D} {m : Memory} {all
         state_here masks_here)) ∙ ap (λ (t : StoreState D). record t { cached = set t.cached n false; order = without n t.order }) view,
   )
 
--- ---- a number gets an entry
+-- ---- an entry is added
 
 masked_twice : (r : Role) (c : Content Cap) → masked r (masked r c) ≡ masked r c
 masked_twice other c = search arith
@@ -179,12 +179,12 @@ module _ {s : Stored} {m : Memory} {all : Bool} {left count : ℕ} (is : IsCache
   some_now : entry_at more number ≡ Some e
   some_now = get_or-set_same m.entries number (Some e) None (omega (arith, within, is.headers, is.entries))
 
-  -- a pending number that isn't touched still has its frozen body
+  -- if a number is pending and untouched, the body that was read is its frozen body
   as_frozen : mark_at m.pending number ≡ true → mark_at m.touched number ≡ false →
       c ≡ masked (header_at m.frozen_headers number).role (below_body s m number)
   as_frozen pending untouched = search arith
 
-  -- the frozen frame by the new entry
+  -- the frozen frame is the same with the new entry
   frozen_by : (p t : Bool) → mark_at m.pending number ≡ p → mark_at m.touched number ≡ t →
       frozen_frame p (header_at m.frozen_headers number) (apart_body None t c (below_body s m number)) (below_at s number)
       ≡ frozen_frame p (header_at m.frozen_headers number) (below_body s m number) (below_at s number)
@@ -200,7 +200,7 @@ module _ {s : Stored} {m : Memory} {all : Bool} {left count : ℕ} (is : IsCache
 no_entry_by : (o : Option Entry) → is_some o ≡ false → o ≡ None
 no_entry_by o is = search arith
 
--- the same for stores that are given as views
+-- the same facts for a store whose view is s
 module _ {D : Type 0} (disk : D → Disk) {d : DurableState D} {m : Memory} {all : Bool} {left count : ℕ} {order : List ℕ} {most_entries : ℕ}
     {s : StoreState D}
     (view : cache_of disk d m left order most_entries ≡ s) (is : IsCache all (stored_of disk d) m left count) where
@@ -231,9 +231,9 @@ module _ {D : Type 0} (disk : D → Disk) {d : DurableState D} {m : Memory} {all
           (frozen_state_new is n c there (no_entry n uncached) present_there)) ∙ ap (with_cached n) view,
     )
 
--- ---- an object's frozen body is kept apart from its present body
+-- ---- a frozen body is copied, so that the present one can change
 
--- a shared body belongs to an object that is pending and wasn't written since the freeze
+-- if the frozen state of an entry is `Shared`, the object is pending, and wasn't written since the freeze
 shared_frozen_state : (e : Entry) (pending touched : Bool) → frozen_state_of (Some e) pending touched ≡ Shared →
     (pending ≡ true) × (touched ≡ false) × (e.kept ≡ None)
 shared_frozen_state e pending touched is = search arith
@@ -262,7 +262,7 @@ module _ (s : Stored) (m : Memory) (n : ℕ) (within : n < length m.entries) (e 
   pub frozen_state_apart : frozen_state_in_memory (with_objects m m.headers apart_entries) n ≡ Apart
   frozen_state_apart = rw (now, facts.0)
 
--- the same for stores that are given as views
+-- the same facts for a store whose view is s
 module _ {D : Type 0} (disk : D → Disk) {d : DurableState D} {m : Memory} {all : Bool} {left count : ℕ} {order : List ℕ} {most_entries : ℕ}
     {s : StoreState D}
     (view : cache_of disk d m left order most_entries ≡ s) (is : IsCache all (stored_of disk d) m left count) {n : ℕ}

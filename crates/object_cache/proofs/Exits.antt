@@ -1,4 +1,4 @@
--- What holds at an exit of a function, from the calls before it.
+-- What holds when a function returns, from the results of its calls.
 use Rattle.object_cache.proofs.Names.{Result, Ok, Err, OnOk, IsErrAnd, is_err, err_from_is_err_and, err_counts, Counts, Disk, ap, sym, subst, ℕ, most}
 use Rattle.object_cache.proofs.Names.{StoreState, GoesOnIn, IsFetchedIn, AreKeepable, IsKeepable, parts_of, stored_of, header_at, held_at, frames_in, on_device}
 use Rattle.object_cache.proofs.Names.{on_device_with, List, Bool, readied, AreKeepableIn, IsKeepableIn, OnlyFetches, false, true≢false, ContinuesIn, Held}
@@ -10,20 +10,20 @@ use Rattle.std.proofs.Common.{◌≡◌, ◌∙◌, ◌<◌, ◌≤◌, ◌↔�
 use Rattle.object_cache.proofs.Outcomes.{IsNext, continues_with}
 use Rattle.model.specs.declared.answer.Refusal.TheVariants as refusal
 
--- if a call failed, there is nothing to prove about success
+-- if a result is an error, clauses about success hold
 pub no_ok : {T E : Type 0} (r : Result T E) (P : Type 0) (Q : E → Type 0) → IsErrAnd r Q → OnOk r P
 no_ok (Ok x) P Q failed = absurd failed
 no_ok (Err e) P Q failed = tt
 
--- an error of a call that `?` passes on
+-- if `?` returns a call's error, the function's failures are counted as the call's
 pub counts_as : {T U E : Type 0} {old new : Disk} {e : E} (r : Result U E) (Q : E → Type 0) → IsErrAnd r Q →
     Counts {T = T} old new (Err e) → Counts old new r
 counts_as r Q failed counts = err_counts (ap is_err (err_from_is_err_and r failed).1) counts
 
--- ---- calls that write frames and read bodies, one after the other
+-- ---- calls that write frames and read bodies, one after another
 
 module _ {D : Type 0} where
-  -- a new state that is given in two ways
+  -- a state that differs from s only in what `like` takes can be written as `like s` of itself
   pub as_like : (like : StoreState D → StoreState D → StoreState D) (s : StoreState D) {t u : StoreState D} → u ≡ t → t ≡ like s t →
       u ≡ like s u
   as_like like s is same = is ∙ same ∙ ap (like s) (sym is)
@@ -39,29 +39,29 @@ module _ {D : Type 0} where
   away_on s t u n put is = search arith
 
 module _ {D : Type 0} {disk : D → Disk} where
-  -- no step was made
+  -- if nothing was done, `Moves` holds
   pub moves_none : {like : StoreState D → StoreState D → StoreState D} {T E : Type 0} {x : T} →
       ((d : D) (c : Image) → (disk d).left_since (disk d).moment c → (disk d).may_leave c) → (s : StoreState D) → s ≡ like s s →
       Moves {E = E} disk like s s (Ok x)
   moves_none only_now s same = record { rest = same; continues = goes_on_same disk only_now s; cause = ok_counts refl }
 
-  -- `?` passes a failure on
+  -- if `?` returns a call's error, `Moves` holds as for the call
   pub moves_err : {like : StoreState D → StoreState D → StoreState D} {s t : StoreState D} {T U E : Type 0} {e : E} (r : Result U E)
       (Q : E → Type 0) → IsErrAnd r Q → Moves {T = T} disk like s t (Err e) → Moves disk like s t r
   moves_err r Q failed moves = record { rest = moves.rest; continues = moves.continues; cause = counts_as r Q failed moves.cause }
 
-  -- the same for a state that is given by its fields
+  -- if the fields of the new state satisfy the invariant, `Moves` holds of its view
   pub moves_next : {like : StoreState D → StoreState D → StoreState D} {all : Bool} {s t : StoreState D} {d : DurableState D} {m : Memory}
       {left count : ℕ} {order : List ℕ} {most_entries : ℕ} → IsNext all disk s d m left count order most_entries t → t ≡ like s t →
       {T E : Type 0} (r : Result T E) → Counts (disk s.durable.beneath) (disk d.beneath) r →
       Moves disk like s (cache_of disk d m left order most_entries) r
   moves_next {like} {s = s} next same r cause = record { rest = as_like like s next.view same; continues = next.continues; cause = cause }
 
-  -- the same with other cached entries
+  -- if `Moves` holds with only the device's part changed, it also holds where entries may change
   pub moves_more : {s t : StoreState D} {T E : Type 0} {r : Result T E} → Moves disk on_device s t r → Moves disk on_device_with s t r
   moves_more {s} moves = record { rest = as_like on_device_with s moves.rest refl; continues = moves.continues; cause = moves.cause }
 
-  -- a move to another order of use
+  -- if only the order of use changed, `Moves` holds
   pub moves_used : {s t : StoreState D} {os : List ℕ} → t ≡ record s { order = os } → GoesOnIn disk s t →
       Moves {T = Unit {0}} {E = Failed} disk on_device_with s t (Ok tt)
   moves_used {s} {t} is goes = record {
@@ -86,7 +86,7 @@ module _ {D : Type 0} {disk : D → Disk} where
       cause = counts_on (counted_ok first.cause) second.cause;
     }
 
-  -- dropping an entry or changing the order leaves the device unchanged
+  -- if a call satisfies `Moves`, and then entries and order change in memory, the whole satisfies `Moves`
   pub moves_in_memory : {s t u : StoreState D} {cached : List Bool} {order : List ℕ} {T U E : Type 0} {x : T} {y : U} →
       Moves {E = E} disk on_device s t (Ok x) → u ≡ record t { cached = cached; order = order } →
       Moves {E = E} disk on_device_with s u (Ok y)
@@ -97,7 +97,7 @@ module _ {D : Type 0} {disk : D → Disk} where
         cause = ok_counts (counted_ok moves.cause);
       })
 
--- ---- what is fetched and can be kept still is, if the device or the entries have changed
+-- ---- objects stay fetched and keepable if only the device's part or the entries change
 
 module _ {D : Type 0} {s t : StoreState D} where
   pub fetched_put : {n : ℕ} → t ≡ on_device s t → IsFetchedIn s n → IsFetchedIn t n
@@ -118,7 +118,7 @@ module _ {D : Type 0} {s t : StoreState D} where
         (subst (λ g. AreKeepable g most (frames_in s.headers s.contents)) (ap (λ a. a.saved.geometry) (sym goes.snapshots)) keepable)
 
 module _ {D : Type 0} where
-  -- numbers were announced, or the announcement was refused
+  -- if frozen copies are made first, and then numbers announced, the whole is an announcement
   readied_on : (s t u : StoreState D) → t ≡ record s { frozen_state = t.frozen_state } → u ≡ readied t u → u ≡ readied s u
   readied_on s t u apart is = is ∙ ap (λ x. readied x u) apart
 
@@ -128,11 +128,11 @@ module _ {D : Type 0} where
   readied_by (Ok x) s t u touched dirty apart marked unchanged = readied_on s t u apart (marked ∙ ap (readied t) (sym marked))
   readied_by (Err e) s t u touched dirty apart marked unchanged = readied_on s t u apart (unchanged ∙ ap (readied t) (sym unchanged))
 
--- the body in the staging buffer is released
+-- a staging buffer is empty after its own body is released
 pub released_own : (h : Held) → released h.number (Some h) ≡ None
 released_own h = search arith
 
--- unless the device failed, the parts are the same
+-- if headers, contents and touched numbers are the same, so are the parts, unless the device failed
 module _ {D : Type 0} (disk : D → Disk) (s : StoreState D) where
   pub same_parts : (t : StoreState D) → t.headers ≡ s.headers → t.contents ≡ s.contents → t.touched ≡ s.touched →
       (stored_of disk t.durable).saved.geometry ≡ (stored_of disk s.durable).saved.geometry →
@@ -149,7 +149,7 @@ module _ {D : Type 0} (disk : D → Disk) (s : StoreState D) where
   puts_same t puts = same_parts t (ap (λ x. x.headers) puts.rest) (ap (λ x. x.contents) puts.rest) (ap (λ x. x.touched) puts.rest)
       (ap (λ p. p.geometry) puts.goes_on.plan)
 
--- a store that doesn't keep all bodies
+-- facts about a store that doesn't keep all bodies in memory
 module _ {D : Type 0} {disk : D → Disk} {s t : StoreState D} {all : Bool} (some : all ≡ false) where
   pub continues_some : GoesOnIn disk s t → ContinuesIn all disk s t
   continues_some goes = record { goes_on = goes; still = λ is. absurd (true≢false (sym is ∙ some)) }
@@ -164,7 +164,7 @@ module _ {D : Type 0} {disk : D → Disk} {s t : StoreState D} {all : Bool} (som
     continues = continues_some moves.continues;
   }
 
--- numbers were announced, or the announcement was refused
+-- facts after numbers were announced, or the announcement was refused
 module _ {D : Type 0} {disk : D → Disk} {s t : StoreState D} {all : Bool} (rest : t ≡ readied s t) (goes : GoesOnIn disk s t) where
   pub prepares_by : {T : Type 0} (r : Result T Refusal) {ws : List ℕ} → OnOk r (t.touched ≡ touching s.touched ws) →
       OnErr r (t.touched ≡ s.touched) → touched_count s.touched ≤ (stored_of disk s.durable).saved.geometry.log →
@@ -194,7 +194,7 @@ module _ {D : Type 0} {disk : D → Disk} {s t : StoreState D} {all : Bool} (res
       }
 
 module _ {D : Type 0} {disk : D → Disk} {s t : StoreState D} {all : Bool} {T : Type 0} {ws : List ℕ} where
-  -- bodies were fetched before
+  -- fetching first, and then announcing, satisfies `Prepares`
   pub prepares_after : {u : StoreState D} {r : Result T Refusal} → parts_of disk t ≡ parts_of disk s → ContinuesIn all disk s u →
       Prepares (parts_of disk) (ContinuesIn all disk) t u ws r → Prepares (parts_of disk) (ContinuesIn all disk) s u ws r
   prepares_after {u} {r} same continues did = record {
@@ -209,7 +209,7 @@ module _ {D : Type 0} {disk : D → Disk} {s t : StoreState D} {all : Bool} {T :
     continues = continues;
   }
 
-  -- if a fetch failed
+  -- if the fetch failed, `Prepares` holds with `Fault`
   pub unfetched : {r : Result T Refusal} → (e : Refusal) × (r ≡ Err e) × (e ≡ refusal.Fault) → touched_count s.touched ≤
       (stored_of disk s.durable).saved.geometry.log → OnlyFetches (parts_of disk) (ContinuesIn all disk) s t →
       (disk s.durable.beneath).failures < (disk t.durable.beneath).failures → Prepares (parts_of disk) (ContinuesIn all disk) s t ws r
@@ -225,7 +225,7 @@ module _ {D : Type 0} {disk : D → Disk} {s t : StoreState D} {all : Bool} {T :
     continues = only.continues;
   })
 
--- a call that succeeds counts no failure
+-- if a call succeeds, the count of failures is unchanged
 pub counts_same : {T E : Type 0} {old new : Disk} (r : Result T E) → Counts old new r → OnOk r (new.failures ≡ old.failures)
 counts_same (Ok x) counts = counted_ok counts
 counts_same (Err e) counts = tt

@@ -1,4 +1,4 @@
--- Objects are brought into memory; those used last stay there.
+-- Objects that are fetched into memory one after another are all in memory at the end.
 use Rattle.object_cache.proofs.Names.{inl, inr, ℕ, zero, suc, true, false, true≢false, List, [], length, take, refl, sym, ap, subst, arith, slice_index_or}
 use Rattle.object_cache.proofs.Names.{cases_eq, eq-eqb, is_member, Disk, DurableState, stored_of, Memory, without, StoreState, IsCache, IsFetchedIn, ne_eqb}
 use Rattle.object_cache.proofs.Names.{cache_of, cached_at, with_cached, on_device_with, take-take, used_in_turn, IsBounded, take_all, length_without, in_front}
@@ -15,12 +15,12 @@ use Rattle.object_cache.proofs.Outcomes.{IsNext, continues_with, next_as, next_i
 use Rattle.object_cache.proofs.Freezing.{put_or_body}
 use Rattle.object_cache.proofs.Caching.{no_entry, cached_next}
 
--- ---- the front of an order
+-- the first k numbers of an order are among the first j, if k ≤ j
 
 front_within : (k j n : ℕ) (xs : List ℕ) → k ≤ j → is_member (take k xs) n ≡ true → is_member (take j xs) n ≡ true
 front_within k j n xs few is = in_front k (take j xs) n (ap (λ ns. is_member ns n) (take-take k j xs few) ∙ is)
 
--- removing a number from the order moves no other one back
+-- removing one number from an order moves no other towards the end
 front_without : (n m k : ℕ) (ns : List ℕ) → m ≢ n → is_member (take k ns) m ≡ true → is_member (take k (without n ns)) m ≡ true
 front_without n m zero ns other is = absurd (true≢false (sym is))
 front_without n m (suc k) [] other is = is
@@ -33,7 +33,7 @@ front_without n m (suc k) (a ∷ rest) other is = elim (cases_eq n a) [
   ])
 ]
 
--- each use moves another number at most one place back
+-- each use moves another number at most one place towards the end
 uses_stay : (ns order : List ℕ) (n k j : ℕ) → length ns + k ≤ j → is_member (take k order) n ≡ true →
     is_member (take j (used_in_turn ns order)) n ≡ true
 uses_stay [] order n k j few is = front_within k j n order (omega (arith, few)) is
@@ -42,7 +42,7 @@ uses_stay (m ∷ ms) order n k j few is = uses_stay ms (m ∷ without m order) n
   | inr other ↦ in_tail m (take k (without m order)) n (front_without m n k order other is)
 ])
 
--- the numbers used in turn are in front
+-- after numbers are used in turn, they are the first in the order
 used_stay : (ns order : List ℕ) (n j : ℕ) → length ns ≤ j → is_member ns n ≡ true → is_member (take j (used_in_turn ns order)) n ≡ true
 used_stay [] order n j few has = absurd (true≢false (sym has))
 used_stay (m ∷ ms) order n j few has = elim (either_of m ms n has) [
@@ -51,7 +51,7 @@ used_stay (m ∷ ms) order n j few has = elim (either_of m ms n has) [
 ]
 
 module _ {D : Type 0} where
-  -- so all of them are in memory
+  -- if up to 8 numbers are fetched in turn, all are in memory at the end
   pub all_fetched : (s t u : StoreState D) (ns : List ℕ) → t ≡ record s { order = t.order } → u ≡ on_device_with t u →
       length s.contents ≡ length s.headers → All (λ n. n < length s.headers) ns → length ns ≤ 8 → 8 ≤ t.capacity → IsBounded u →
       u.order ≡ take t.capacity (used_in_turn ns t.order) → (n : ℕ) → Contains ns n → IsFetchedIn u n
@@ -65,9 +65,9 @@ module _ {D : Type 0} where
             ∙ used_stay ns t.order n t.capacity (omega (arith, few, least)) (list_any-from_Contains nat_eq_equiv n ns has);
       }
 
--- ---- which entries go: a cache keeps the numbers used last, as many as its capacity
+-- ---- which entries remain: a cache keeps the most recently used numbers, up to its capacity
 
--- the front of a front, whichever is shorter
+-- the first j of the first k numbers are the first j, if j ≤ k
 front_least : (j k : ℕ) (xs : List ℕ) → k ≤ j → take j (take k xs) ≡ take k xs
 front_least j k xs few = take_all j (take k xs) (omega (arith, few, length-take {A = ℕ} k xs))
 
@@ -79,7 +79,7 @@ front_less (suc k) n (m ∷ ms) = elim (cases_eq n m) [
   | inr other ↦ rw (without_tail n m (take (suc k) ms) other, front_less k n ms, without_tail n m ms other)
 ]
 
--- using a number gives the same front, whether or not the rest was cut off before
+-- after a number is used, the first `most` are the same, whether or not the others were cut off before
 use_keeps_front : (most n : ℕ) (xs : List ℕ) → take most (n ∷ without n (take most xs)) ≡ take most (n ∷ without n xs)
 use_keeps_front most n xs = search (arith, front_less)
 
@@ -91,29 +91,29 @@ same_front j xs ys same few = same ∙ sym (take_all j xs few)
 
 -- ---- a number is used
 
--- using a number that has an entry
+-- using a number that has an entry keeps the order within the capacity
 pub used_order : {D : Type 0} (s : StoreState D) (n : ℕ) → IsBounded s → IsFetchedIn s n →
     n ∷ without n s.order ≡ take s.capacity (n ∷ without n s.order)
 used_order {D} s n bounded there = search (arith, same_front, length_without)
 
--- using a number that has none
+-- using a number without an entry, after room was made, keeps the order within the capacity
 pub brought_order : {D : Type 0} (s : StoreState D) (n : ℕ) (os : List ℕ) → IsBounded s → cached_at s.cached n ≡ false →
     os ≡ take s.capacity (n ∷ s.order) → os ≡ take s.capacity (n ∷ without n s.order)
 brought_order s n os bounded none is = is ∙ ap (λ ns. take s.capacity (n ∷ ns)) (sym (without_absent n s.order (bounded.listed n ∙ none)))
 
--- ---- numbers are used in turn
+-- ---- numbers are fetched in turn
 
 pub used_more : (most i : ℕ) (ns s t u : List ℕ) → i < length ns → t ≡ take most (used_in_turn (take i ns) s) →
     u ≡ take most (slice_index_or ns i 0 ∷ without (slice_index_or ns i 0) t) → u ≡ take most (used_in_turn (take (i + 1) ns) s)
 used_more most i ns s t u below before is = search (arith, use_keeps_front, one_more)
 
--- the first of the numbers were used already
+-- using all numbers after the first k were used gives the order of using all
 pub used_then : (most k : ℕ) (ns s t u : List ℕ) → t ≡ used_in_turn (take k ns) s → u ≡ take most (used_in_turn ns t) →
     u ≡ take most (used_in_turn ns s)
 used_then most k ns s t u first is = is ∙ ap (λ ks. take most (used_in_turn ns ks)) first
     ∙ ap (take most) (used_anew ns (take k ns) s (in_front k ns))
 
--- ---- bodies are read from the device: nothing that is seen changes
+-- ---- a body is read from the device; the store's view is unchanged
 
 module _ {D : Type 0} (disk : D → Disk) {d : DurableState D} {m : Memory} {all : Bool} {left count : ℕ} {order : List ℕ} {most_entries : ℕ}
     {s : StoreState D}
@@ -125,7 +125,7 @@ module _ {D : Type 0} (disk : D → Disk) {d : DurableState D} {m : Memory} {all
     newest_is : newest_body (stored_of disk d) m n ≡ (newest (stored_of disk d) n).content
     newest_is = search (arith, put_or_body)
 
-    -- the body that was read is the object's content, or the object is free
+    -- the body that was read is the object's content
     pub read_holds : masked (header_at m.headers n).role (newest (stored_of disk d) n).content ≡ held_at s.contents n
     read_holds =
         ap (masked (header_at m.headers n).role) (sym newest_is)
@@ -136,7 +136,7 @@ module _ {D : Type 0} (disk : D → Disk) {d : DurableState D} {m : Memory} {all
       IsNext all disk s new m left count order most_entries (record s { durable = new })
   read_next {new} reads later = search (arith, stored_next)
 
-  -- the body becomes an entry
+  -- after the body becomes an entry, the invariant holds
   pub kept_next : (n : ℕ) → n < length s.headers → cached_at s.cached n ≡ false → s.staging ≡ None → {new : DurableState D} →
       ReadsStore disk d new → (disk d.beneath).failures ≤ (disk new.beneath).failures → {f : Frame} → f ≡ newest (stored_of disk d) n →
       {h : ObjectHeader} → h ≡ header_at m.headers n → {es : EntriesState} →
@@ -156,7 +156,7 @@ module _ {D : Type 0} (disk : D → Disk) {d : DurableState D} {m : Memory} {all
             (subst (GoesOnIn disk s) next.view next.continues));
       }) (λ k. with_objects m m.headers (es_is k).at) (ap (λ x. x.order) es_is) (ap (λ x. x.most) es_is)
 
--- ---- the frozen body of an object is taken up from below the entries: nothing that is seen changes but the staging buffer
+-- ---- a frozen body is read into the staging buffer; nothing else changes in the store's view
 
 abbrev pub holding_up : ℕ → Content Cap → Memory → Memory
 holding_up n c m = record m { staging = Some (record { number = n; content = c }) }
@@ -189,7 +189,7 @@ module _ {s : Stored} {m : Memory} {all : Bool} {left count : ℕ} (is : IsCache
       λ h h_is. subst (λ g. mark_at m.pending g.number ≡ true) (same_Some (record { number = n; content = c }) h h_is) pending in
       search (clean_alike taken_alike is, unwritten_alike taken_alike is, keepable_alike taken_alike is)
 
--- the same for stores that are given as views
+-- the same facts for a store whose view is s
 module _ {D : Type 0} (disk : D → Disk) {d : DurableState D} {m : Memory} {all : Bool} {left count : ℕ} {order : List ℕ} {most_entries : ℕ}
     {s : StoreState D}
     (view : cache_of disk d m left order most_entries ≡ s) (is : IsCache all (stored_of disk d) m left count) (n : ℕ)

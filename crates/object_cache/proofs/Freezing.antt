@@ -1,4 +1,4 @@
--- A checkpoint begins: all objects are frozen as they are.
+-- A checkpoint begins: all objects are frozen in their present state.
 use Rattle.object_cache.proofs.Names.{ℕ, zero, suc, Bool, true, false, true≢false, cond, List, [], length, map, replicate, Option, Some, None, option_map, refl}
 use Rattle.object_cache.proofs.Names.{sym, ap, subst, arith, count_by, range_with_len, length-replicate, same_lists, ext_get_or, length-map-range_with_len}
 use Rattle.object_cache.proofs.Names.{get_or-map-range_with_len, sum_by-cons, none-some, same_Some, Cap, Frame, ObjectHeader, Content, Role, blank_frame}
@@ -14,14 +14,14 @@ use Rattle.object_cache.proofs.Puts.{held_touched}
 use Rattle.object_cache.proofs.Caching.{no_staging}
 use Rattle.object_cache.proofs.Outcomes.{none_of}
 
--- the mask of a role leaves a content of this role unchanged
+-- masking a content by its own role doesn't change it
 pub masked_same : (r : Role) (c : Content Cap) → r ≡ role_of c → masked r c ≡ c
 masked_same r c is = search arith
 
 pub none_counted : (n : ℕ) → touched_count (replicate n false) ≡ 0
 none_counted n = omega (arith, sum_by-replicate (λ b. cond b 1 0) n false)
 
--- a list of marks has at most as many as one that contains them
+-- if each mark of a list is set in another list too, the first has at most as many marks
 pub fewer_of : (ds ts : List Bool) → ((k : ℕ) → mark_at ds k ≡ true → mark_at ts k ≡ true) → count_by (λ b. b) ds ≤ count_by (λ b. b) ts
 fewer_of [] ts each = omega arith
 fewer_of (false ∷ ds) [] each =
@@ -58,7 +58,7 @@ module _ {s : Stored} {m : Memory} {all : Bool} {left count : ℕ} (is : IsCache
   abbrev now : Memory
   now = frozen_memory fh m
 
-  -- after the freeze the body below is the newest one before
+  -- after the freeze, the body below an entry is the newest one before the freeze
   below_now : (n : ℕ) → below_body begun now n ≡ newest_body s m n
   below_now n = search (arith, no_staging, none, saved_below, put_or_body)
 
@@ -75,7 +75,7 @@ module _ {s : Stored} {m : Memory} {all : Bool} {left count : ℕ} (is : IsCache
   masked_here : (n : ℕ) → n < length m.headers → masked (header_at m.headers n).role (content_at s m n) ≡ content_at s m n
   masked_here n within = search (arith, frame_in m.headers (contents_in s m) n within, masked_same, content_in)
 
-  -- the frozen body of an object that was not written to the log since it changed
+  -- after the freeze, an object's frozen body is its present one
   body_now : (n : ℕ) → n < length m.headers → (o : Option Entry) → entry_at m.entries n ≡ o →
       masked (header_at m.headers n).role (frozen_body o false (below_body begun now n)) ≡ content_at s m n
   body_now n within o at = search (arith, below_now, masked_here, none)
@@ -88,7 +88,7 @@ module _ {s : Stored} {m : Memory} {all : Bool} {left count : ℕ} (is : IsCache
   frozen_now : (n : ℕ) → n < length m.headers → frozen_at begun now n ≡ present_at s m n
   frozen_now n within = rw (alike (length m.touched) n false) (frozen_by n within (mark_at m.dirty n) (mark_at m.touched n) refl refl)
 
-  -- the frozen frames are the present ones at the freeze
+  -- after the freeze, the frozen frames are the present ones
   pub begun_frozen : frozen_in begun now ≡ frames_in m.headers (contents_in s m)
   unfolding frozen_in
   begun_frozen =
@@ -101,7 +101,7 @@ module _ {s : Stored} {m : Memory} {all : Bool} {left count : ℕ} (is : IsCache
       ∙ sym (frame_in m.headers (contents_in s m) n within ∙ ap (λ c. record { header = header_at m.headers n; content = c })
       (content_in s m n within)))
 
-  -- a number is touched if it is dirty or has a working slot
+  -- a number is touched exactly if it is dirty or has a working frame
   written_by : (n : ℕ) (b t : Bool) → mark_at m.dirty n ≡ b → mark_at m.touched n ≡ t → (b || is_kept (put_at s.working n)) ≡ t
   written_by n b t dirty touched = search arith
 
@@ -142,11 +142,11 @@ module _ {s : Stored} {m : Memory} {all : Bool} {left count : ℕ} (is : IsCache
     none,
   )
 
--- the same for stores that are given as views
+-- the same facts for a store whose view is s
 module _ {D : Type 0} (disk : D → Disk) {d : DurableState D} {m : Memory} {all : Bool} {left count : ℕ} {order : List ℕ} {most_entries : ℕ}
     {s : StoreState D}
     (view : cache_of disk d m left order most_entries ≡ s) (is : IsCache all (stored_of disk d) m left count) where
-  -- at most as many slots are in use as objects were written
+  -- at most as many working slots are in use as objects were written
   pub freeze_enough : sum_of held_slot (stored_of disk d).working ≤ count
   freeze_enough = let few = held_touched (stored_of disk d).working m.touched (is.puts ∙ sym is.marks) is.unput in
       omega (arith, few, is.counted)

@@ -1,4 +1,4 @@
--- Which bodies of unwritten frozen frames cache entries have, and which numbers have an entry.
+-- The frozen states of numbers: which body an entry has for a frozen frame that isn't in the log.
 use Rattle.object_cache.proofs.Names.{ℕ, zero, suc, Bool, true, false, List, [], length, set, take, Option, Some, None, IsSome, is_some, option_map, sym, ap}
 use Rattle.object_cache.proofs.Names.{arith, slice_get, get_or-set_other, cases_eq, none-some, same_Some, Cap, Content, is_member, Disk, DurableState}
 use Rattle.object_cache.proofs.Names.{stored_of, entry_at, kept_of, frozen_state_by, Memory, Nothing, mark_at, frozen_state_of, AreOrdered, used_longest_ago}
@@ -22,7 +22,7 @@ module _ {D : Type 0} (disk : D → Disk) {d : DurableState D} {m : Memory} {all
     frozen_state_is : frozen_state_of (entry_at m.entries n) (mark_at m.pending n) (mark_at m.touched n) ≡ frozen_state_at s.frozen_state n
     frozen_state_is = sym (frozen_state_entry m n known_there) ∙ ap (λ t. frozen_state_at t.frozen_state n) view
 
-    -- the state of an entry, by whether it has a frozen copy
+    -- the frozen state of an entry depends on whether it has a frozen copy, not on what the copy is
     pub frozen_state_with : (k : Option (Content Cap)) → option_map kept_of (entry_at m.entries n) ≡ Some k → (p b t : Bool) →
         p ≡ mark_at m.pending n → b ≡ is_some k →
         t ≡ mark_at m.touched n →
@@ -41,7 +41,7 @@ module _ {D : Type 0} (disk : D → Disk) {d : DurableState D} {m : Memory} {all
   pub uncached_by : is_some (entry_at m.entries n) ≡ false → cached_at s.cached n ≡ false
   uncached_by none = ap (λ t. cached_at t.cached n) (sym view) ∙ cached_entry m.entries n ∙ none
 
--- the entry used longest ago: the other entries stay if it is removed
+-- n is in memory, and used longest ago; without it the order has room, and the others keep their places
 pub record IsLeast {D : Type 0} (s : StoreState D) (n : ℕ) : Type 0 where
   pub known : n < length s.headers
   pub fetched : IsFetchedIn s n
@@ -97,7 +97,7 @@ module _ {D : Type 0} (disk : D → Disk) {d : DurableState D} {m : Memory} {all
               ∙ ap (take (s.capacity - 1)) (sym seen);
         }
 
--- the store after the entry was evicted
+-- after the entry used longest ago is evicted, there is room, and the other entries remain
 pub evicted : {D T E : Type 0} (r : Result T E) (s u : StoreState D) (n : ℕ) → IsLeast s n → OnOk r (u ≡ without_cached n (on_device s u)) →
     OnOk r (length u.order < u.capacity) × OnOk r ((k : ℕ) → cached_at s.cached k ≡ false → cached_at u.cached k ≡ false) ×
     OnOk r (u.order ≡ take (s.capacity - 1) s.order)

@@ -1,4 +1,4 @@
--- Saved objects go home, or frozen ones are saved: no object changes.
+-- Migrations and commits: no present object changes.
 use Rattle.object_cache.proofs.Names.{ℕ, Bool, true, false, cond, List, [], length, map, Option, Some, None, option_map, Result, Ok, Err, refl, sym, ap, subst}
 use Rattle.object_cache.proofs.Names.{arith, count_by, range_with_len, cases_lt, length-map, same_lists, get_or_past, length-map-range_with_len}
 use Rattle.object_cache.proofs.Names.{get_or-map-range_with_len, sum_by-cons, none-some, same_Some, frame_at, Disk, Put, Absent, Broken, Kept, put_at, put_or}
@@ -13,7 +13,7 @@ use Rattle.object_cache.proofs.Marking.{one_fewer}
 use Rattle.object_cache.proofs.Turns.{running_in}
 use Rattle.object_cache.proofs.Objects.{Alike, contents_alike, clean_alike, unwritten_alike, stored_next}
 
--- ---- what is saved goes home
+-- ---- saved objects are copied home
 
 abbrev pub saved_with : Bool → SavedFrames → SavedFrames
 saved_with b saved = cond b (home_saved saved) saved
@@ -30,7 +30,7 @@ module _ (s : Stored) (m : Memory) where
   unfolding frozen_in
   frozen_home b k = search arith
 
-  -- the generation, the entries and the age of the checkpoint don't matter
+  -- the invariant doesn't depend on the saved generation, entries and age
   numbered_stands : {all : Bool} (left count generation entries age k : ℕ) → IsCache all s m left count →
       IsCache all (record {
         working = s.working;
@@ -47,7 +47,7 @@ module _ (s : Stored) (m : Memory) where
   home_stands left count true k is = numbered_stands left count s.saved.generation 0 s.saved.age k is
   home_stands left count false k is = numbered_stands left count s.saved.generation s.saved.entries s.saved.age k is
 
--- the same for stores that are given as views
+-- the same facts for a store whose view is s
 module _ {D : Type 0} (disk : D → Disk) {d : DurableState D} {m : Memory} {all : Bool} {left count : ℕ} {order : List ℕ} {most_entries : ℕ}
     {s : StoreState D}
     (view : cache_of disk d m left order most_entries ≡ s) (is : IsCache all (stored_of disk d) m left count) (new : DurableState D)
@@ -70,7 +70,7 @@ module _ {D : Type 0} (disk : D → Disk) {d : DurableState D} {m : Memory} {all
       )
   moved_next (Err e) done left_over = (home_next false left_over.0 left_over.2, tt)
 
--- ---- what is frozen is saved
+-- ---- the frozen state is committed
 
 kept_marks : (ps : List Put) → count_by (λ b. b) (map is_kept ps) ≡ kept_count ps
 unfolding sum_of
@@ -110,7 +110,7 @@ module _ {s : Stored} {m : Memory} {all : Bool} {count : ℕ} (is : IsCache all 
       let counted = sym (ap (count_by (λ b. b)) same) ∙ are.size in
       omega (arith, counted, kept_marks f.put)
 
-  -- the frozen frames are the written ones, and the saved ones where none was written
+  -- if nothing is pending, the frozen frames are the written ones, and the saved ones where none was written
   pub frozen_overlaid : frozen_in s m ≡ overlaid f.put s.saved.frames
   unfolding frozen_in overlaid
   frozen_overlaid = search (arith, maps_same, none_pending)
@@ -139,7 +139,7 @@ module _ {s : Stored} {m : Memory} {all : Bool} {count : ℕ} (is : IsCache all 
     pub saved_stands : IsCache all after m 0 count
     saved_stands = search (arith, none-some, clean_alike, saved_alike, unwritten_alike, length_over, none_pending)
 
--- the same for stores that are given as views
+-- the same facts for a store whose view is s
 module _ {D : Type 0} (disk : D → Disk) {d : DurableState D} {m : Memory} {all : Bool} {left count : ℕ} {order : List ℕ} {most_entries : ℕ}
     {s : StoreState D}
     (view : cache_of disk d m left order most_entries ≡ s) (is : IsCache all (stored_of disk d) m left count) (f : FrozenFrames)
@@ -211,7 +211,7 @@ module _ {D : Type 0} (disk : D → Disk) {d : DurableState D} {m : Memory} {all
           tt,
         )
 
--- a checkpoint with no frame left to write may be committed where each may be
+-- if no frozen frame is left to write, there is a frozen checkpoint, and it may be committed
 pub ready_of : (o : Option FrozenFrames) (saved : SavedFrames) (age k : ℕ) → option_map (λ f. f.left) o ≡ Some k → k ≡ 0 →
     ((f : FrozenFrames) → o ≡ Some f → MayCommit whole age f saved) → (f : FrozenFrames) × (o ≡ Some f) × (f.left ≡ 0)
     × MayCommit whole age f saved

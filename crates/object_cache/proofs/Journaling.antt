@@ -1,4 +1,4 @@
--- A page is journaled: no object changes, and the saved page gets the present words.
+-- A page is journaled: no present object changes, and the saved page gets the present words.
 use Rattle.object_cache.proofs.Names.{inl, inr, ℕ, Bool, true, false, List, length, set, length-set, Option, Some, None, option_map, Result, Ok, Err, refl, sym}
 use Rattle.object_cache.proofs.Names.{ap, subst, arith, cases_eq, get_or-set_same, get_or-set_other, none-some, Cap, Frame, ObjectHeader, Content, blank_frame}
 use Rattle.object_cache.proofs.Names.{frame_at, frames_in, header_at, held_at, AreKeepable, is_page, words_in, object_count, Disk, leaves_on, leaves_weaker}
@@ -21,7 +21,7 @@ as_page o c = search arith
 
 module _ {s : Stored} {m : Memory} {all : Bool} {left count : ℕ} (is : IsCache all s m left count) (none : s.frozen ≡ None) (n : ℕ)
     (role_is : (header_at m.headers n).role ≡ role.Page) where
-  -- the present content of the page
+  -- the present content of the page is in its entry, or is the newest on the device
   pub page_held : content_at s m n ≡ held_now m.entries s n
   page_held = search (arith, as_page, no_staging, put_or_body)
 
@@ -74,25 +74,25 @@ module _ {s : Stored} {m : Memory} {all : Bool} {left count : ℕ} (is : IsCache
     unfolding contents_in
     journal_contents = maps_same (content_at after m) (content_at s m) (length m.headers) (λ k below. content_same k)
 
-    -- the frozen frames are the saved ones
+    -- if no checkpoint is frozen, the frozen frames are the saved ones
     frozen_was : (k : ℕ) → frozen_at s m k ≡ below_at s k
     frozen_was k = rw (is.idle none k)
 
     frozen_now : (k : ℕ) → frozen_at after m k ≡ below_at after k
     frozen_now k = rw (is.idle none k)
 
-    -- if a page wasn't written since the checkpoint, its saved frame is its present one
+    -- the saved frame of an untouched page is its present one, before and after
     unwritten_here : n < length m.headers → mark_at m.touched n ≡ false → below_at s n ≡ below_at after n
     unwritten_here inside untouched = search (arith, frozen_was, none, saved_below, page_is, below_here)
 
     pub journal_stands : IsCache all (on_snapshots (journaled age n (words_in (content_at s m n))) s) m left count
     journal_stands = search (arith, present_same, frozen_was, cases_eq, unwritten_here, below_other, frozen_now, none-some, length-set)
 
-    -- no frozen state is seen before and after
+    -- before and after the journal, no checkpoint is frozen
     pub journal_frozen : frozen_seen (on_snapshots (journaled age n (words_in (content_at s m n))) s) m left ≡ frozen_seen s m left
     journal_frozen = search arith
 
--- an answer depends on whether a checkpoint is frozen, but not on the frozen state itself
+-- the answer depends on whether a checkpoint is frozen, not on which one
 pub answer_same : {F : Type 0} (f g : F → ℕ) (o : Option F) (old new : Disk) (saved : SavedFrames) (is_known is_page is_saved : Bool)
     (r : Result ℕ Refusal) → IsJournalAnswer old new (option_map f o) saved is_known is_page is_saved r →
     IsJournalAnswer old new (option_map g o) saved is_known is_page is_saved r
@@ -104,7 +104,7 @@ next_words : {F : Type 0} (age n : ℕ) (ws vs : List ℕ) (o : Option F) (saved
     ≡ next_journaled {F = F} age n vs o saved is_page is_saved
 next_words {F} age n ws vs o saved is_page is_saved same = search arith
 
--- the same for stores that are given as views
+-- the same facts for a store whose view is s
 module _ {D : Type 0} (disk : D → Disk) {d : DurableState D} {m : Memory} {all : Bool} {left count : ℕ} {order : List ℕ} {most_entries : ℕ}
     {s : StoreState D}
     (view : cache_of disk d m left order most_entries ≡ s) (is : IsCache all (stored_of disk d) m left count) (n : ℕ)
@@ -152,7 +152,7 @@ module _ {D : Type 0} (disk : D → Disk) {d : DurableState D} {m : Memory} {all
     abbrev IsDone : Type 0
     IsDone = stored_of disk new ≡ on_snapshots (journaled age n (words_in (held_now m.entries st n))) st
 
-    -- the store differs in one page, which has its present words
+    -- if the journal is done, the durable store has the saved page with its present words, and nothing else changes
     done_is : IsThere → IsDone → stored_of disk new ≡ on_snapshots (journaled age n (words_in (content_at st m n))) st
     done_is there done = rw (page_held is (none_of left_of st.frozen there.0) n (role_is_page header.role there.1)) done
 
@@ -183,7 +183,7 @@ module _ {D : Type 0} (disk : D → Disk) {d : DurableState D} {m : Memory} {all
           ∙ ap (λ t. snapshots_of disk t) view,
     )
 
-    -- how many frames of a frozen checkpoint are left
+    -- how many frozen objects are left, in the view and in the store
     left_seen : (o : Option FrozenPuts) →
         option_map (λ (f : FrozenFrames). f.left) (option_map (λ (f : FrozenPuts). record
         { frames = frozen_in st m; size = f.size; left = left }) o) ≡
@@ -209,7 +209,7 @@ module _ {D : Type 0} (disk : D → Disk) {d : DurableState D} {m : Memory} {all
         (journal.is_same_page (header_at s.headers n).allocations (frame_at (stored_of disk s.durable).saved.frames n)))
     moments_seen moments = search (arith, next_words, words_seen, next_same)
 
--- ---- a page that is read first
+-- ---- the page is read first
 
 words_read : (b : Body) (slots : List Cap) (ws : List ℕ) → is_page (content_of b slots ws) ≡ true → ws ≡ words_in (content_of b slots ws)
 words_read other slots ws page = search arith
@@ -218,14 +218,14 @@ pub read_words : (read : ObjectHeader × Body) (room : Scratch) (f : Frame) → 
     room.words ≡ words_in f.content
 read_words read room f found page = search (arith, words_read)
 
--- what a crash leaves while the page is read and then saved
+-- a crash while the page is read, and then saved, leaves the old or the new saved state
 pub read_first : {D : Type 0} (disk : D → Disk) (a b : DurableState D) (new : Disk) (age n : ℕ) (vs ws : List ℕ) → ReadsStore disk a b →
     is_sound disk a → vs ≡ ws →
     LeavesEither (disk b.beneath) new (stored_of disk b).saved (journaled_saved age n vs (stored_of disk b).saved) →
     LeavesEither (disk a.beneath) new (stored_of disk a).saved (journaled_saved age n ws (stored_of disk a).saved)
 read_first {D} disk a b new age n vs ws reads sound same moments = search (arith, leaves_on, leaves_weaker)
 
--- the present content of a page, by whether it has an entry
+-- the present content of a page that has an entry is the one in the entry
 pub held_is : (es : List (Option Entry)) (s : Stored) (n : ℕ) (c : Content Cap) → option_map present_of (entry_at es n) ≡ Some c →
     held_now es s n ≡ c
 held_is es s n c is = search (arith, none-some, same_Some)

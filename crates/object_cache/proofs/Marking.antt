@@ -1,4 +1,4 @@
--- What marking a list of numbers does to the marks and to their count.
+-- Marking a list of numbers: the marks afterwards, and their count.
 use Rattle.object_cache.proofs.Names.{ℕ, Bool, true, false, List, [], length, set, take, refl, ap, sym, arith, set-get_or, touching, touched_count, eqb, get_or}
 use Rattle.object_cache.proofs.Names.{eqb-true, eqb-false, take_more, sum_by-set, list_any, length-set, cases_eq, cases_lt, count_by, get_or-replicate}
 use Rattle.object_cache.proofs.Names.{get_or_past, length-replicate, replicate, set_past, inl, inr}
@@ -22,11 +22,11 @@ alike {X} n k d = search (arith, cases_lt, get_or-replicate, get_or_past, length
 pub marked_within : (t : List Bool) (n : ℕ) → get_or t n false ≡ true → n < length t
 marked_within t n marked = search (arith, cases_lt, get_or_past)
 
--- removing one mark
+-- removing a mark lowers the count
 pub one_fewer : (t : List Bool) (n : ℕ) → get_or t n false ≡ true → count_by (λ b. b) (set t n false) < count_by (λ b. b) t
 one_fewer t n marked = search (arith, sum_by-set, marked_within)
 
--- setting a mark for the first time
+-- setting a new mark raises the count by one
 pub touched_count-set : (t : List Bool) (n : ℕ) → n < length t → get_or t n false ≡ false →
     touched_count (set t n true) ≡ touched_count t + 1
 touched_count-set t n inside unmarked = search (arith, sum_by-set)
@@ -35,7 +35,7 @@ touched_count-set t n inside unmarked = search (arith, sum_by-set)
 pub set-marked : (t : List Bool) (n : ℕ) → get_or t n false ≡ true → set t n true ≡ t
 set-marked t n marked = ap (λ b. set t n b) (sym marked) ∙ set-get_or t n false
 
--- one number adds at most one mark, and a list at most its length
+-- marking a number raises the count by at most one
 one_more_by : (t : List Bool) (n : ℕ) (b : Bool) → get_or t n false ≡ b → n < length t → touched_count (set t n true) ≤ touched_count t + 1
 one_more_by t n true is inside = omega (arith, ap touched_count (set-marked t n is))
 one_more_by t n false is inside = omega (arith, touched_count-set t n inside is)
@@ -62,7 +62,7 @@ pub still_marked : (t : List Bool) (ns : List ℕ) (n : ℕ) → get_or t n fals
 still_marked t [] n marked = marked
 still_marked t (m ∷ ns) n marked = still_marked (set t m true) ns n (still_set t m n marked)
 
--- a number in the list is marked
+-- a number in the list is marked afterwards
 first_listed : (t : List Bool) (m : ℕ) (ns : List ℕ) (n : ℕ) (b : Bool) → eqb m n ≡ b → n < length t →
     (list_any (λ y. eqb y n) ns ≡ true → get_or (touching (set t m true) ns) n false ≡ true) →
     (b || list_any (λ y. eqb y n) ns) ≡ true → get_or (touching (set t m true) ns) n false ≡ true
@@ -74,7 +74,7 @@ listed_marked t [] n inside listed = cc
 listed_marked t (m ∷ ns) n inside listed = first_listed t m ns n (eqb m n) refl inside
     (listed_marked (set t m true) ns n (rw length-set inside)) listed
 
--- a number that is neither marked nor in the list isn't marked
+-- a number that is neither marked nor in the list isn't marked afterwards
 first_unlisted : (t : List Bool) (m : ℕ) (ns : List ℕ) (n : ℕ) (b : Bool) → eqb m n ≡ b → get_or t n false ≡ false →
     (get_or (set t m true) n false ≡ false → list_any (λ y. eqb y n) ns ≡ false → get_or (touching (set t m true) ns) n false ≡ false) →
     (b || list_any (λ y. eqb y n) ns) ≡ false → get_or (touching (set t m true) ns) n false ≡ false
@@ -86,7 +86,7 @@ unlisted_unmarked t [] n unmarked unlisted = unmarked
 unlisted_unmarked t (m ∷ ns) n unmarked unlisted = first_unlisted t m ns n (eqb m n) refl unmarked (unlisted_unmarked (set t m true) ns n)
     unlisted
 
--- the next number of a list: new, listed before, or marked at first
+-- the next number of a list raises the count by one, unless it is marked or was listed before
 pub touched_count_new : (t : List Bool) (ns : List ℕ) (i : ℕ) → i < length ns → get_or ns i 0 < length t →
     get_or t (get_or ns i 0) false ≡ false → list_any (λ y. eqb y (get_or ns i 0)) (take i ns) ≡ false →
     touched_count (touching t (take (i + 1) ns)) ≡ touched_count (touching t (take i ns)) + 1
@@ -109,7 +109,7 @@ touched_count_marked t ns i inside known marked =
     rw (take_more ns i 0 inside, touching-append t (take i ns) (get_or ns i 0 ∷ []))
     (ap touched_count (set-marked (touching t (take i ns)) (get_or ns i 0) (still_marked t (take i ns) (get_or ns i 0) marked)))
 
--- marking one more number after the others
+-- marking the first i + 1 numbers is marking the first i and then the next
 pub touching_more : (t : List Bool) (ns : List ℕ) (i : ℕ) → i < length ns →
     touching t (take (i + 1) ns) ≡ set (touching t (take i ns)) (get_or ns i 0) true
 touching_more t ns i inside = rw (take_more ns i 0 inside, touching-append t (take i ns) (get_or ns i 0 ∷ [])) refl

@@ -1,4 +1,4 @@
--- Numbers that are to be written are marked: no object and no frozen frame changes.
+-- Numbers are marked before they are written: no object and no frozen frame changes.
 use Rattle.object_cache.proofs.Names.{put_at, Kept, Absent, present_at, inl, inr, ℕ, zero, suc, Bool, true, false, true≢false, List, [], length, set, Option}
 use Rattle.object_cache.proofs.Names.{option_map, refl, sym, ap, subst, arith, length-set, slice_index_or, Contains, cases_eq, get_or-set_other}
 use Rattle.object_cache.proofs.Names.{get_or-set_same, Cap, Frame, ObjectHeader, Content, touched_count, touching, Disk, DurableState, Stored, stored_of}
@@ -21,7 +21,7 @@ marked_or ts (n ∷ ns) k = elim (cases_eq k n) [
   ]
 ]
 
--- a number in the list is marked
+-- a number in the list is marked afterwards
 listed_by : (ts : List Bool) (ns : List ℕ) (i k : ℕ) → i < length ns → slice_index_or ns i k ≡ k → k < length ts →
     mark_at (touching ts ns) k ≡ true
 listed_by ts [] i k lt is within = absurd (omega (arith, lt))
@@ -33,14 +33,14 @@ listed_by ts (n ∷ ns) (suc i) k lt is within = listed_by (set ts n true) ns i 
 pub listed_is_marked : (ts : List Bool) (ns : List ℕ) (k : ℕ) → Contains ns k → k < length ts → mark_at (touching ts ns) k ≡ true
 listed_is_marked ts ns k has within = listed_by ts ns has.0 k has.1 has.2 within
 
--- if all numbers in the list are marked already, nothing changes
+-- if all numbers in the list are marked, nothing changes
 pub all_marked : (ts : List Bool) (ns : List ℕ) → ((k : ℕ) → Contains ns k → mark_at ts k ≡ true) → touching ts ns ≡ ts
 all_marked ts [] marked = refl
 all_marked ts (n ∷ ns) marked =
     let here = set-marked ts n (marked n (0, omega arith, refl)) in
     ap (λ us. touching us ns) here ∙ all_marked ts ns (λ k has. marked k (suc has.0, omega (arith, has.1), has.2))
 
--- marking an object doesn't change its frozen frame, unless its frozen body is its present one too
+-- marking an object as touched keeps its frozen frame, unless the frozen body is shared with the present one
 frozen_marked : (o : Option Entry) (pending touched : Bool) (h : ObjectHeader) (below : Content Cap) (under : Frame) →
     frozen_state_of o pending touched ≢ Shared →
     frozen_frame pending h (frozen_body o true below) under ≡ frozen_frame pending h (frozen_body o touched below) under
@@ -96,7 +96,7 @@ module _ {s : Stored} {m : Memory} {all : Bool} {left count : ℕ} (is : IsCache
       λ k below untouched. is.unwritten k below (unmarked m.touched k untouched) ∙ sym (frozen_stays k) in
       search (is, keepable_alike marked_alike is, length-touching m.touched ns ∙ is.marks, length-touching m.dirty ns ∙ is.dirty_marks)
 
--- the same for stores that are given as views
+-- the same facts for a store whose view is s
 module _ {D : Type 0} (disk : D → Disk) {d : DurableState D} {m : Memory} {all : Bool} {left count : ℕ} {order : List ℕ} {most_entries : ℕ}
     {s : StoreState D}
     (view : cache_of disk d m left order most_entries ≡ s) (is : IsCache all (stored_of disk d) m left count) (ns : List ℕ)
@@ -125,7 +125,7 @@ module _ {D : Type 0} (disk : D → Disk) {d : DurableState D} {m : Memory} {all
             (stored_of disk d).frozen;
       }) ∙ ap (λ (t : StoreState D). record t { touched = touching t.touched ns; dirty = touching t.dirty ns }) view
 
--- ---- numbers are made ready to be written: first copies of frozen bodies, and marks last
+-- ---- numbers are announced: frozen bodies are copied first, and the numbers marked last
 
 module _ {D : Type 0} (disk : D → Disk) where
   module _ (only_now : (d : D) (c : Image) → (disk d).left_since (disk d).moment c → (disk d).may_leave c) where
@@ -136,12 +136,12 @@ module _ {D : Type 0} (disk : D → Disk) where
 module _ {D : Type 0} (disk : D → Disk) {d : DurableState D} {m : Memory} {all : Bool} {left count : ℕ} {order : List ℕ} {most_entries : ℕ}
     {s : StoreState D}
     (view : cache_of disk d m left order most_entries ≡ s) (is : IsCache all (stored_of disk d) m left count) where
-  -- a number that is marked may be written
+  -- a marked number is announced
   pub marked_announced : (ns : List ℕ) (n : ℕ) → n < length s.headers → Contains ns n →
       IsAnnouncedIn (record s { touched = touching s.touched ns; dirty = touching s.dirty ns }) n
   marked_announced ns n known has = search (arith, contents_count, listed_is_marked)
 
-  -- if all numbers in the list are dirty, they may be written already
+  -- if all numbers in the list are dirty, they are announced already
   module _ (ns : List ℕ) (known : (n : ℕ) → Contains ns n → n < length s.headers) (same : touching m.dirty ns ≡ m.dirty) where
     dirty_already : (n : ℕ) → Contains ns n → mark_at m.dirty n ≡ true
     dirty_already n has =

@@ -1,4 +1,4 @@
--- An object that is marked to be written changes: no frozen frame changes, and the invariants still hold.
+-- An announced object changes: no frozen frame changes, and the invariant still holds.
 use Rattle.object_cache.proofs.Names.{put_at, FrozenPuts, ℕ, Bool, true, false, true≢false, List, length, set, Option, Some, None, is_some, option_map, refl}
 use Rattle.object_cache.proofs.Names.{sym, ap, subst, arith, cases_eq, none-some, same_Some, Cap, ObjectHeader, Content, header_at, AreKeepable, Kept, most}
 use Rattle.object_cache.proofs.Names.{Stored, maps_same, map_set, Entry, entry_at, kept_of, Memory, mark_at, present_body, content_at, present_at, newest_body}
@@ -13,15 +13,15 @@ use Rattle.object_cache.proofs.Outcomes.{IsSeenAs, none_of}
 use Rattle.model.specs.declared.object.Role.TheVariants as role
 use Rattle.model.specs.declared.object.Content.TheVariants as content
 
--- a property of one number, and of all others, holds of all
+-- a property of n, and of all other numbers, holds of all
 pub of_each : {P : ℕ → Type 0} (n : ℕ) → P n → ((k : ℕ) → k ≢ n → P k) → (k : ℕ) → P k
 of_each {P} n here other k = search (arith, cases_eq)
 
--- if nothing is frozen, the saved frame lies below
+-- if no checkpoint is frozen, the frame below the working one is the saved one
 pub saved_below : (s : Stored) → s.frozen ≡ None → (n : ℕ) → below_at s n ≡ frame_at s.saved.frames n
 saved_below s none n = ap (λ o. put_or (frozen_put o n) (frame_at s.saved.frames n)) none
 
--- ---- the same objects and frozen frames, in another memory over another durable store
+-- ---- another memory and durable store with the same objects and frozen frames
 
 pub record Alike (s : Stored) (m : Memory) (t : Stored) (u : Memory) : Type 0 where
   pub headers : u.headers ≡ m.headers
@@ -40,7 +40,7 @@ module _ {s t : Stored} {m u : Memory} (same : Alike s m t u) where
   unfolding frozen_in
   frozen_alike = rw same.headers (maps_same (frozen_at t u) (frozen_at s m) (length m.headers) (λ k below. same.frozen k))
 
-  -- the invariants of clean, of untouched and of frozen numbers still hold
+  -- the parts of the invariant about clean, untouched and frozen numbers still hold
   module _ {all : Bool} {left count : ℕ} (is : IsCache all s m left count) where
     pub clean_alike : (k : ℕ) → mark_at m.dirty k ≡ false → mark_at m.touched k ≡ true → put_at s.working k ≡ Kept (present_at t u k)
     clean_alike k clean touched = is.clean k clean touched ∙ ap Kept (sym (present_alike k))
@@ -51,11 +51,11 @@ module _ {s t : Stored} {m u : Memory} (same : Alike s m t u) where
     pub keepable_alike : (f : FrozenPuts) → s.frozen ≡ Some f → AreKeepable s.saved.geometry most (frozen_in t u)
     keepable_alike f running = subst (AreKeepable s.saved.geometry most) (sym frozen_alike) (is.keepable f running)
 
--- with other headers and entries
+-- the memory with these headers and entries
 abbrev pub with_objects : Memory → List ObjectHeader → List (Option Entry) → Memory
 with_objects m hs es = record m { headers = hs; entries = es }
 
--- the header or the present body of one object changed: entries and frozen copies stay where they were
+-- the header or the present body of object n changed; no entry was added or dropped, and no frozen copy changed
 pub record Changes (m : Memory) (hs : List ObjectHeader) (es : List (Option Entry)) (n : ℕ) : Type 0 where
   pub header_count : length hs ≡ length m.headers
   pub entry_count : length es ≡ length m.entries
@@ -64,7 +64,7 @@ pub record Changes (m : Memory) (hs : List ObjectHeader) (es : List (Option Entr
   pub kept : option_map kept_of (entry_at es n) ≡ option_map kept_of (entry_at m.entries n)
   pub role : entry_at es n ≡ None → ((header_at hs n).role ≡ (header_at m.headers n).role) ⊎ ((header_at hs n).role ≡ role.Free)
 
--- the frozen body of an object that was written since the freeze isn't its present one
+-- if an object was written since the freeze, its frozen body doesn't depend on the present one
 by_kept : (o p : Option Entry) (below : Content Cap) → option_map kept_of o ≡ option_map kept_of p →
     frozen_body o true below ≡ frozen_body p true below
 by_kept o p below same = search (arith, none-some, same_Some)
@@ -86,7 +86,7 @@ module _ (s : Stored) {m : Memory} {hs : List ObjectHeader} {es : List (Option E
   present_elsewhere : (k : ℕ) → k ≢ n → present_at s changed k ≡ present_at s m k
   present_elsewhere k other = search (arith, content_elsewhere)
 
-  -- all contents, if that of the changed object is known
+  -- only the content of the changed object differs
   pub contents_changed : (c : Content Cap) → n < length m.headers → content_at s changed n ≡ c →
       contents_in s changed ≡ set (contents_in s m) n c
   unfolding contents_in
@@ -116,7 +116,7 @@ module _ (s : Stored) {m : Memory} {hs : List ObjectHeader} {es : List (Option E
     touched_here : mark_at m.touched n ≡ true
     touched_here = is.marked n dirty
 
-    -- a number without a mark is another than a marked one
+    -- a number without a mark differs from a marked one
     unmarked : (marks : List Bool) → mark_at marks n ≡ true → (k : ℕ) → mark_at marks k ≡ false → k ≢ n
     unmarked marks here k not_here same = true≢false (sym here ∙ ap (mark_at marks) (sym same) ∙ not_here)
 
@@ -147,14 +147,14 @@ module _ (s : Stored) {m : Memory} {hs : List ObjectHeader} {es : List (Option E
       whole_still,
     )
 
--- ---- what is seen of a cache after one object was changed
+-- ---- a store's view after one object changed
 
--- replacing a header by one of the same role
+-- replacing a header by one of the same role satisfies `Changes`
 pub header_changes : (m : Memory) (n : ℕ) (h : ObjectHeader) → n < length m.headers → h.role ≡ (header_at m.headers n).role →
     Changes m (set m.headers n h) m.entries n
 header_changes m n h within same = search (arith, length-set, get_or-set_other, get_or-set_same)
 
--- replacing the present body in an entry
+-- replacing the present body in an entry keeps the frozen copy
 kept_stays : (f : Content Cap → Content Cap) (o : Option Entry) → option_map kept_of (option_map (changing f) o) ≡ option_map kept_of o
 kept_stays f o = search arith
 
@@ -163,12 +163,12 @@ present_kept : (f : Content Cap → Content Cap) (n : ℕ) (es : List (Option En
 present_kept f n es within = ap (option_map kept_of) (get_or-set_same es n (option_map (changing f) (entry_at es n)) None within)
     ∙ kept_stays f (entry_at es n)
 
--- the same numbers have entries
+-- changing an entry doesn't change which numbers have entries
 pub cached_stay : (change : Entry → Entry) (n : ℕ) (es : List (Option Entry)) → cached_in (with_entry change n es) ≡ cached_in es
 unfolding cached_in
 cached_stay change n es = map-set_same is_some es n (option_map change (entry_at es n)) None (some_map change (entry_at es n))
 
--- replacing a header, and the present body if there is an entry
+-- replacing a header, and the present body if there is an entry, satisfies `Changes`
 edit_changes : (m : Memory) (n : ℕ) (h : ObjectHeader) (f : Content Cap → Content Cap) → n < length m.headers → n < length m.entries →
     (entry_at m.entries n ≡ None → h.role ≡ role.Free) → Changes m (set m.headers n h) (with_entry (changing f) n m.entries) n
 edit_changes m n h f within entry_within free = search (arith, length-set, get_or-set_other, present_kept, get_or-set_same, none_of)
@@ -177,7 +177,7 @@ body_changes : (m : Memory) (n : ℕ) (f : Content Cap → Content Cap) → n < 
     Changes m m.headers (with_entry (changing f) n m.entries) n
 body_changes m n f within = search (arith, length-set, get_or-set_other, present_kept)
 
--- after the body is replaced by c, the present body is c; if there is no entry, the object is free and c is `Free`
+-- after a body is replaced by c, the present body is c; without an entry the object must be free, and c `Free`
 edited_body : (c : Content Cap) (o : Option Entry) (r : Role) (newest : Content Cap) → (o ≡ None → (r ≡ role.Free) × (c ≡ content.Free)) →
     present_body (option_map (changing (λ x. c)) o) r newest ≡ c
 edited_body c o r newest free = search arith
@@ -199,7 +199,7 @@ pub content_in : (s : Stored) (m : Memory) (n : ℕ) → n < length m.headers �
 unfolding contents_in
 content_in s m n within = get_or-map-range_with_len (content_at s m) 0 (length m.headers) n n content.Free within (omega arith)
 
--- ---- an object that is fetched
+-- ---- a fetched object
 
 pub cached_entry : (es : List (Option Entry)) (n : ℕ) → cached_at (cached_in es) n ≡ is_some (entry_at es n)
 unfolding cached_in
@@ -208,7 +208,7 @@ cached_entry es n = get_or-map is_some es n None
 pub some_of : (o : Option Entry) → IsSome o → (e : Entry) × (o ≡ Some e)
 some_of o is = search arith
 
--- a cache has at most as many entries as its capacity
+-- a store has at most as many entries as its capacity
 pub bounded_seen : {D : Type 0} (disk : D → Disk) {d : DurableState D} {m : Memory} {all : Bool} {left count : ℕ} {order : List ℕ}
     {most_entries : ℕ} {s : StoreState D} → cache_of disk d m left order most_entries ≡ s → IsCache all (stored_of disk d) m left count →
     AreOrdered (record { at = m.entries; order = order; most = most_entries }) → IsBounded s
@@ -235,11 +235,11 @@ module _ {D : Type 0} (disk : D → Disk) {d : DurableState D} {m : Memory} {all
   pub fetched_known : n < length m.headers
   fetched_known = omega (arith, fetched.header, ap (λ t. length t.headers) view)
 
-  -- the entry has the object's content
+  -- the entry of a fetched object has the object's content
   pub entry_holds : (c : Content Cap) → option_map present_of (entry_at m.entries n) ≡ Some c → c ≡ held_at s.contents n
   entry_holds c found = search (arith, present_is, content_in, fetched_known)
 
--- ---- another durable store below the same memory
+-- ---- the same memory over another durable store
 
 pub stored_next : {D : Type 0} (disk : D → Disk) {d new : DurableState D} {m : Memory} {all : Bool} {left count : ℕ} {order : List ℕ}
     {most_entries : ℕ} {s : StoreState D} → cache_of disk d m left order most_entries ≡ s → {t : Stored} → stored_of disk new ≡ t →
@@ -248,7 +248,7 @@ pub stored_next : {D : Type 0} (disk : D → Disk) {d new : DurableState D} {m :
     (record s { durable = new })
 stored_next {D} disk {d} {new} {m} {left} {count} {order} {most_entries} {s} view {t} put is contents frozen = search arith
 
--- ---- an object that may be written
+-- ---- an announced object
 
 pub record IsKnown (m : Memory) (n : ℕ) : Type 0 where
   pub header : n < length m.headers
@@ -278,7 +278,7 @@ module _ {D : Type 0} (disk : D → Disk) {d : DurableState D} {m : Memory} {all
         ≡ record (cache_of disk d m left order most_entries) { headers = hs; contents = cs }
     edit_seen {cs} cached contents = search (arith, frozen_state_same, known, frozen_same)
 
-  -- replacing a header by one of the same role
+  -- replacing a header by one of the same role keeps the invariant
   pub header_becomes : (h : ObjectHeader → ObjectHeader) → ((x : ObjectHeader) → (h x).role ≡ x.role) →
       IsNow (with_objects m (set m.headers n (h (header_at m.headers n))) m.entries)
       (record s { headers = set s.headers n (h (header_at s.headers n)) })
@@ -294,7 +294,7 @@ module _ {D : Type 0} (disk : D → Disk) {d : DurableState D} {m : Memory} {all
             ∙ ap (λ (t : StoreState D). record t { headers = set t.headers n (h (header_at t.headers n)) }) view,
       )
 
-  -- replacing header and content; the object has an entry or becomes free
+  -- replacing header and content keeps the invariant, if the object has an entry or becomes free
   pub both_become : (h : ObjectHeader → ObjectHeader) (c : Content Cap) →
       (entry_at m.entries n ≡ None → ((h (header_at m.headers n)).role ≡ role.Free) × (c ≡ content.Free)) →
       IsNow (with_objects m (set m.headers n (h (header_at m.headers n))) (with_entry (changing (λ x. c)) n m.entries))
@@ -310,7 +310,7 @@ module _ {D : Type 0} (disk : D → Disk) {d : DurableState D} {m : Memory} {all
             view,
       )
 
-  -- replacing the content of a fetched object
+  -- replacing the content of a fetched object keeps the invariant
   pub content_becomes : IsFetchedIn s n → (f : Content Cap → Content Cap) →
       IsNow (with_objects m m.headers (with_entry (changing f) n m.entries)) (with_content_in s n (f (held_at s.contents n)))
   content_becomes fetched f =
@@ -324,15 +324,15 @@ module _ {D : Type 0} (disk : D → Disk) {d : DurableState D} {m : Memory} {all
             (sym (content_in (stored_of disk d) m n known.header)) ∙ ap (λ t. with_content_in t n (f (held_at t.contents n))) view,
       )
 
--- ---- bodies are copied out of their entries, by number
+-- ---- bodies are copied from their entries, in the order of numbers
 
--- copying the body of one more number
+-- after the bodies of the first k numbers, that of the next is copied
 pub one_copied : (es : List (Option Entry)) (bodies : List (Content Cap)) (k : ℕ) (c : Content Cap) → length bodies ≡ k
     → ((n : ℕ) → n < k → option_map present_of (entry_at es n) ≡ Some (held_at bodies n)) → option_map present_of (entry_at es k) ≡ Some c
     → (n : ℕ) → n < k + 1 → option_map present_of (entry_at es n) ≡ Some (held_at (bodies ++ c ∷ []) n)
 one_copied es bodies k c many copied here n below = search (arith, cases_lt, get_or_append_left, get_or_at)
 
--- all were copied out of a store in which each object has an entry
+-- facts about a store in which each object has an entry
 module _ {D : Type 0} (disk : D → Disk) {d : DurableState D} {m : Memory} {all : Bool} {left count : ℕ} {order : List ℕ} {most_entries : ℕ}
     {s : StoreState D}
     (view : cache_of disk d m left order most_entries ≡ s) (is : IsCache all (stored_of disk d) m left count) where

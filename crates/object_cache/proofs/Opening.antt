@@ -1,4 +1,4 @@
--- A store is made over a device that was opened: all objects are the saved ones.
+-- A store is made over a device that was opened: its objects are the saved ones.
 use Rattle.object_cache.proofs.Names.{inl, inr, ℕ, Bool, false, true≢false, List, [], length, replicate, Option, None, option_map, refl, sym, ap, subst, arith}
 use Rattle.object_cache.proofs.Names.{get_or-map, cases_lt, ext_get_or, get_or_past, length-map, length-replicate, none-some, Frame, ObjectHeader, blank_frame}
 use Rattle.object_cache.proofs.Names.{frame_at, frames_in, header_at, headers, untouched, object_count, Image, Disk, Absent, put_at, SavedFrames, Holds}
@@ -14,7 +14,7 @@ use Rattle.object_cache.proofs.Objects.{content_in, contents_count, cached_entry
 use Rattle.model.specs.declared.object.Content.TheVariants as content
 use Rattle.object_cache.proofs.PutsOut.{dropping}
 
--- frames that sectors hold have their headers' roles, and there is one for each object
+-- the header of each saved frame has the role of its content
 pub held_roles : (size : ℕ) (c : Image) (saved : SavedFrames) → Holds size c saved → HaveTheirRoles saved.frames
 held_roles size c saved holds = search (arith, cases_lt, get_or_past)
 
@@ -23,7 +23,7 @@ unfolding frames_in
 again [] = refl
 again (f ∷ fs) = ap (λ gs. f ∷ gs) (again fs)
 
--- the memory at opening: headers, and entries with saved bodies
+-- the memory of a store that was just opened
 abbrev pub open_memory : List ObjectHeader → List ObjectHeader → EntriesState → Memory
 open_memory hs fh e = memory_of hs fh (replicate (length hs) false) (replicate (length hs) false) (replicate (length hs) false) e.at None
 
@@ -70,7 +70,7 @@ module _ (s : Stored) (hs fh : List ObjectHeader) (fh_count : length fh ≡ leng
   unfolding untouched
   open_over {D} disk d same = search (arith, open_contents, each, contents_count, cached_entry)
 
--- a durable store that was just opened
+-- facts about a durable store that was just opened
 module _ {D : Type 0} (disk : D → Disk) (device : D) (d : DurableState D) (hs : List ObjectHeader) (opened : OpensDurable disk device d)
     (took : hs ≡ headers (stored_of disk d).saved.frames) where
   pub just_opened : IsJustOpened (stored_of disk d) hs
@@ -82,18 +82,18 @@ module _ {D : Type 0} (disk : D → Disk) (device : D) (d : DurableState D) (hs 
     idle = opened.frozen;
   }
 
-  -- a store over it
+  -- a store over it is opened
   pub opens_store : (most : ℕ) (s : StoreState D) → IsOpenOver disk d most s → OpensStore disk device (parts_of disk s) (view_of disk s)
   opens_store most s over = search (arith, again)
 
--- ---- what is taken of the saved objects when a device is opened, frame by frame
+-- ---- saved objects are taken frame by frame
 
--- no entries
+-- at first no number has an entry
 pub none_inserted : (count : ℕ) (e : EntriesState) → e ≡ record { at = replicate count None; order = []; most = all_of count } →
     count ≤ all_of count → AreInserted e 0 count
 none_inserted count e is whole = search (arith, each, length-replicate, alike)
 
--- inserting one more entry
+-- one more number gets an entry
 pub one_inserted : (e : EntriesState) (k count : ℕ) → AreInserted e k count → k < count → (c : Content Cap) →
     AreInserted (with_new k c e) (k + 1) count
 one_inserted e k count are below c = record {
@@ -114,7 +114,7 @@ one_inserted e k count are below c = record {
       ∙ are.later n (omega (arith, past));
 }
 
--- one more number has no frozen copy
+-- one more entry has lost its frozen copy
 pub dropped_one : (e : EntriesState) (k : ℕ) → is_some (entry_at e.at k) ≡ true → k < length e.at →
     ((n : ℕ) → n < k → IsUnkept (entry_at e.at n)) →
     (n : ℕ) → n < k + 1 → IsUnkept (entry_at (with_entry dropping k e.at) n)
@@ -133,7 +133,7 @@ dropped_one e k some within before n less = elim (cases_lt n k) [
 pub blank_hold : (fs : List Frame) (most : ℕ) → HoldBodies (record { at = replicate (length fs) None; order = []; most = most }) fs
 blank_hold fs most = search (arith, each, length-replicate, none-some, alike)
 
--- taking one more frame
+-- facts when one more frame is taken
 module _ (e : EntriesState) (taken count : ℕ) (room : HaveRoom e taken count) (below : taken < count) (c : Content Cap) where
   abbrev body : Option Entry
   body = option_map (changing (λ (x : Content Cap). c)) (entry_at e.at taken)
@@ -203,7 +203,7 @@ taken_more s fs f below rooms took = record {
       (same_Some (with_body (length s.headers) f.content x) e some)
       (one_body x (length s.headers) s.count (rooms x at) below f.content fs f many refl (took.bodies x at))
 
--- after all frames were taken
+-- facts after all frames were taken
 module _ (s : TakenState) (fs : List Frame) (took : AreTaken s fs) (e : EntriesState) (at : s.entries ≡ Some e)
     (room : HaveRoom e (length s.headers) s.count)
     (all : length s.headers ≡ s.count) where
@@ -216,6 +216,6 @@ module _ (s : TakenState) (fs : List Frame) (took : AreTaken s fs) (e : EntriesS
   pub taken_all : AreAll e
   taken_all n within = ap is_some (took.bodies e at n (omega (arith, within, frames_count)))
 
--- there is memory for one more frame
+-- if fewer frames were taken than there are numbers, there is memory for one more
 pub taken_below : {s t : TakenState} → s ≡ t → (fs : List Frame) → AreTaken t fs → length fs < t.count → length s.headers < s.count
 taken_below {s} {t} view fs took few = search (arith, length-map)

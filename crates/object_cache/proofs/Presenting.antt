@@ -1,4 +1,4 @@
--- An edit of present objects, as a store shows it.
+-- Edits of present objects, in the terms of `capability`.
 use Rattle.object_cache.proofs.Names.{List, length, refl, Cap, ObjectHeader, Content, Bool, Becomes, Image, Disk, StoreState, IsAnnouncedIn, arith, IsFetchedIn}
 use Rattle.object_cache.proofs.Names.{parts_of, ContinuesIn, continues_same, set, length-set, ℕ}
 use Rattle.std.proofs.Common.{◌≡◌}
@@ -15,15 +15,15 @@ module _ {D : Type 0} (all : Bool) (disk : D → Disk)
       let same = continues_same disk all only_now s in
       search (arith, is, header_count, content_count)
 
-  -- an object with another content
+  -- replacing an object's content is an edit
   pub becomes_held : (n : ℕ) (c : Content Cap) → t ≡ record s { contents = set s.contents n c } → Edits s.headers (set s.contents n c)
   becomes_held n c is = becomes is refl (length-set s.contents n c)
 
-  -- an object with another header
+  -- replacing an object's header is an edit
   pub becomes_header : (n : ℕ) (h : ObjectHeader) → t ≡ record s { headers = set s.headers n h } → Edits (set s.headers n h) s.contents
   becomes_header n h is = becomes is (length-set s.headers n h) refl
 
-  -- an object with another header and another content
+  -- replacing an object's header and content is an edit
   pub becomes_both : (n : ℕ) (h : ObjectHeader) (c : Content Cap) → t ≡ record s
       { headers = set s.headers n h; contents = set s.contents n c } → Edits (set s.headers n h) (set s.contents n c)
   becomes_both n h c is = becomes is (length-set s.headers n h) (length-set s.contents n c)

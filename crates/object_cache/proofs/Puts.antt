@@ -1,4 +1,4 @@
--- The present body of an object with a cache entry is written to the log, or the write failed.
+-- The present frame of an object is written to the log, or the write fails.
 use Rattle.object_cache.proofs.Names.{inl, inr, ℕ, zero, suc, Bool, true, false, cond, List, [], length, set, Some, option_map, refl, sym, ap, subst, arith}
 use Rattle.object_cache.proofs.Names.{length-set, get_or-set_same, get_or-set_other, sum_by-cons, none-some, Cap, ObjectHeader, Content, header_at, held_at}
 use Rattle.object_cache.proofs.Names.{IsKeepable, touched_count, Disk, Put, Absent, Broken, Kept, put_at, held_slot, sum_of, HasFreeSlot, most, DurableState}
@@ -11,7 +11,7 @@ use Rattle.object_cache.proofs.Objects.{of_each, Alike, content_in, contents_ali
 
 -- ---- slots
 
--- at most as many objects have slots as were written
+-- at most as many objects have working slots as are touched
 pub held_touched : (ps : List Put) (ts : List Bool) → length ps ≡ length ts → ((k : ℕ) → mark_at ts k ≡ false → put_at ps k ≡ Absent) →
     sum_of held_slot ps ≤ touched_count ts
 unfolding sum_of
@@ -31,7 +31,7 @@ held_touched (p ∷ ps) (false ∷ ts) count each =
     let none : held_slot p ≡ 0 = ap held_slot (each zero refl) in
     omega (arith, total, rest, none)
 
--- fewer, if an object that was written has none
+-- if a touched object has no working slot, fewer objects have one than are touched
 held_short : (ps : List Put) (ts : List Bool) (n : ℕ) → length ps ≡ length ts → ((k : ℕ) → mark_at ts k ≡ false → put_at ps k ≡ Absent) →
     mark_at ts n ≡ true → put_at ps n ≡ Absent → sum_of held_slot ps < touched_count ts
 held_short ps ts n count each marked none =
@@ -46,7 +46,7 @@ has_free_slot room ps ts n count each marked within = search (arith, held_short)
 
 -- ---- a working frame
 
--- a memory with other dirty numbers
+-- the memory with these dirty marks
 abbrev pub with_dirty : Memory → List Bool → Memory
 with_dirty m ds = record m { dirty = ds }
 
@@ -74,7 +74,7 @@ module _ {s : Stored} {m : Memory} {all : Bool} {left count : ℕ} (is : IsCache
   unfolding frozen_in
   put_cache = search (arith, of_each, get_or-set_same, present_stays, put_elsewhere, none-some, unwritten_alike, put_alike, length-set)
 
--- ---- the same by what is seen
+-- ---- the same facts for a store whose view is s
 
 module _ {D : Type 0} (disk : D → Disk) {d : DurableState D} {m : Memory} {all : Bool} {left count : ℕ} {order : List ℕ} {most_entries : ℕ}
     {s : StoreState D}
@@ -98,7 +98,7 @@ module _ {D : Type 0} (disk : D → Disk) {d : DurableState D} {m : Memory} {all
       touched_here
       (omega (arith, is.within, is.counted))
 
-  -- the slot of an object was written
+  -- facts after the working slot of object n was written
   module _ {new : DurableState D} {p : Put} {ds : List Bool} (size : length ds ≡ length m.dirty)
       (others : (k : ℕ) → k ≢ n → mark_at ds k ≡ mark_at m.dirty k)
       (here : (mark_at ds n ≡ true) ⊎ (p ≡ Kept (present_at (stored_of disk d) m n)))
@@ -143,7 +143,7 @@ module _ {D : Type 0} (disk : D → Disk) {d : DurableState D} {m : Memory} {all
       });
     }
 
-  -- the slot may hold any bytes
+  -- after a failed write, the invariant holds with a broken frame
   pub unput_next : {new : DurableState D} → stored_of disk new ≡ with_working n Broken (stored_of disk d) → GoesOn disk d new →
       (disk d.beneath).failures ≤ (disk new.beneath).failures → IsNext all disk s new m left count order most_entries
       (record s { durable = new })
@@ -160,7 +160,7 @@ module _ {D : Type 0} (disk : D → Disk) {d : DurableState D} {m : Memory} {all
         → IsKeepable (stored_of disk d).saved.geometry most n (record { header = header; content = x })
     keepable_here keepable = search (arith, content_in, known_here, frame_is)
 
-    -- the slot has the object's frame
+    -- after a write, the invariant holds with the object's frame in its slot
     pub kept_next : {ds : List Bool} → ds ≡ set m.dirty n false → {new : DurableState D} →
         stored_of disk new ≡ with_working n (Kept (record { header = header; content = x })) (stored_of disk d) → GoesOn disk d new →
         (disk d.beneath).failures ≤ (disk new.beneath).failures →

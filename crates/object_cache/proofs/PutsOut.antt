@@ -1,4 +1,4 @@
--- The frozen frame of an object is written to the log, or the write failed.
+-- The frozen frame of an object is written to the log, or the write fails.
 use Rattle.object_cache.proofs.Names.{inl, inr, ℕ, Bool, true, false, List, length, map, set, Option, Some, None, option_map, refl, sym, ap, subst, arith}
 use Rattle.object_cache.proofs.Names.{length-set, count_by, range_with_len, cases_eq, get_or-set_same, get_or-set_other, none-some, same_Some, Cap, Frame}
 use Rattle.object_cache.proofs.Names.{Content, header_at, Put, Absent, Broken, Kept, put_at, most, FrozenPuts, Stored, below_at, with_frozen, with_put}
@@ -21,11 +21,11 @@ use Rattle.model.specs.declared.object.Role.TheVariants as role
 none_frozen_state : (o : Option Entry) (touched : Bool) → frozen_state_of o false touched ≡ Nothing
 none_frozen_state o touched = search arith
 
--- memory with other pending marks, entries and another staging buffer
+-- the memory with these pending marks, entries and staging buffer
 abbrev pub with_pending : Memory → List Bool → List (Option Entry) → Option Held → Memory
 with_pending m ps es staging = record m { pending = ps; entries = es; staging = staging }
 
--- the slot of an object's frozen frame was written: its content and its frozen frame stay
+-- the slot of object n's frozen frame was written (p): its content, and its frozen frame, stay the same
 pub record Releases (s : Stored) (m : Memory) (n : ℕ) (p : Put) (ps : List Bool) (es : List (Option Entry)) (staging : Option Held) :
     Type 0 where
   pub mark_count : length ps ≡ length m.pending
@@ -52,12 +52,12 @@ module _ {s : Stored} {m : Memory} {all : Bool} {left count : ℕ} (is : IsCache
   pub frozen_below : {f : FrozenPuts} → s.frozen ≡ Some f → n < length m.headers → (g : Frame) → below_at (with_frozen n (Kept g) s) n ≡ g
   frozen_below {f} f_is within g = search (arith, get_or-set_same)
 
-  -- the slot is torn: all is in memory
+  -- if the write failed, nothing in memory changes
   pub torn_releases : content_at (with_frozen n Broken s) m n ≡ content_at s m n →
       frozen_at (with_frozen n Broken s) m n ≡ frozen_at s m n → Releases s m n Broken m.pending m.entries m.staging
   torn_releases content frozen = search (arith, content, frozen, ap (λ b. b || false) pending, pending, is.held, is.apart n, is.freed n)
 
-  -- the slot has the frozen frame: there is no frozen copy any more
+  -- if it succeeded, the object is no longer pending and has no frozen copy
   pub put_releases : {f : FrozenPuts} → s.frozen ≡ Some f → n < length m.headers → (g : Frame) → g ≡ frozen_at s m n →
       (es : List (Option Entry)) → length es ≡ length m.entries → ((k : ℕ) → k ≢ n → entry_at es k ≡ entry_at m.entries k) →
       ((e : Entry) → entry_at es n ≡ Some e → e.kept ≡ None) → (IsSome (entry_at m.entries n) → IsSome (entry_at es n)) →
@@ -102,7 +102,7 @@ module _ {s : Stored} {m : Memory} {all : Bool} {left count : ℕ} (is : IsCache
   pub frozen_seen_same : frozen_seen after memory left ≡ frozen_seen s m left
   frozen_seen_same = search (arith, frozen_now, frozen_alike, released_alike)
 
-  -- each object that the checkpoint writes is pending or in the log, as before
+  -- the objects that are pending or in the log are the same as before
   written_stays : (k : ℕ) → (mark_at ps k || is_kept (put_at (set f.put n p) k)) ≡ (mark_at m.pending k || is_kept (put_at f.put k))
   written_stays = of_each n
       (ap (λ q. mark_at ps n || is_kept q)
@@ -136,7 +136,7 @@ module _ {s : Stored} {m : Memory} {all : Bool} {left count : ℕ} (is : IsCache
         rest.entry_count ∙ is.entries,
       )
 
--- an object whose frozen frame was written has the state `Nothing`
+-- after an object's frozen frame was written, its frozen state is `Nothing`
 pub state_put : (m : Memory) (n : ℕ) (es : List (Option Entry)) (staging : Option Held) → n < length m.headers → n < length m.pending →
     ((k : ℕ) → k ≢ n → entry_at es k ≡ entry_at m.entries k) →
     frozen_states_in (with_pending m (set m.pending n false) es staging) ≡ set (frozen_states_in m) n Nothing
@@ -150,9 +150,9 @@ state_put m n es staging within pending_within entries = search (
   get_or-set_other,
 )
 
--- ---- the frozen frame of an object is put, or was to be, from its entry or from the staging buffer
+-- ---- the frozen frame is written from its entry or from the staging buffer
 
--- ---- what is in the staging buffer, once it has released a number's body
+-- ---- the staging buffer, after a number's body was released
 
 pub released_others : (staging : Option Held) (n k : ℕ) (c : Content Cap) → k ≢ n →
     in_staging (released n staging) k c ≡ in_staging staging k c
@@ -161,7 +161,7 @@ released_others staging n k c other = search (arith, cases_eq, eq-eqb, ne_eqb)
 pub released_of : (staging : Option Held) (n : ℕ) (h : Held) → released n staging ≡ Some h → (h.number ≢ n) × (staging ≡ Some h)
 released_of staging n h is = search (arith, none-some, cases_eq, eq-eqb, ne_eqb, same_Some)
 
--- an entry without its frozen copy
+-- an entry without a frozen copy
 abbrev pub dropping : Entry → Entry
 dropping e = record e { kept = None }
 
@@ -204,7 +204,7 @@ module _ {D : Type 0} (disk : D → Disk) {d : DurableState D} {m : Memory} {all
             ((is.keepable running_here.0 running_here.1).each n object),
       )
 
-  -- the store goes on while the frozen frame is put
+  -- writing a frozen frame is a step that changes no present object
   pub put_continues : (new : DurableState D) (p : Put) → stored_of disk new ≡ with_frozen n p (stored_of disk d) → GoesOn disk d new →
       (disk d.beneath).failures ≤ (disk new.beneath).failures →
       (ps : List Bool) (os : List FrozenState) (staging : Option Held) → GoesOnIn disk s
@@ -214,7 +214,7 @@ module _ {D : Type 0} (disk : D → Disk) {d : DurableState D} {m : Memory} {all
   pub fewer_here : {ps : List Bool} → ps ≡ set m.pending n false → count_by (λ b. b) ps < count_by (λ b. b) s.pending
   fewer_here ps_is = omega (arith, one_fewer m.pending n pending, ap (count_by (λ b. b)) ps_is, ap (λ t. count_by (λ b. b) t.pending) view)
 
-  -- the slot of the object was written
+  -- facts after the slot of object n's frozen frame was written
   module _ {new : DurableState D} {p : Put} {ps : List Bool} {es : List (Option Entry)} {staging : Option Held} {os : List FrozenState}
       (put : stored_of disk new ≡ with_frozen n p (stored_of disk d)) (goes : GoesOn disk d new)
       (later : (disk d.beneath).failures ≤ (disk new.beneath).failures) (rest : Releases (stored_of disk d) m n p ps es staging)
@@ -245,13 +245,13 @@ module _ {D : Type 0} (disk : D → Disk) {d : DurableState D} {m : Memory} {all
       continues = subst (GoesOnIn disk s) (sym released_seen) (put_continues new p put goes later ps os staging);
     }
 
-    -- the object is no longer pending
+    -- after a write, the invariant holds, and object n isn't pending
     pub put_next : ps ≡ set m.pending n false → os ≡ set (frozen_states_in m) n Nothing →
         IsNext all disk s new (with_pending m ps es staging) left count order most_entries
         (record s { durable = new; pending = set s.pending n false; frozen_state = set s.frozen_state n Nothing; staging = staging })
     put_next ps_is os_is = search (arith, next_as, released_next)
 
-  -- the slot was torn
+  -- after a failed write, the invariant holds with a torn slot
   pub torn_next : {new : DurableState D} → stored_of disk new ≡ with_frozen n Broken (stored_of disk d) → GoesOn disk d new →
       (disk d.beneath).failures ≤ (disk new.beneath).failures →
       content_at (with_frozen n Broken (stored_of disk d)) m n ≡ content_at (stored_of disk d) m n →
@@ -261,9 +261,9 @@ module _ {D : Type 0} (disk : D → Disk) {d : DurableState D} {m : Memory} {all
       (released_next put goes later (torn_releases is pending content frozen) refl refl)
       (ap (λ t. record s { durable = new; pending = t.pending; frozen_state = t.frozen_state; staging = t.staging }) view)
 
--- ---- the body is in an entry
+-- ---- the body is in the entry
 
--- the frozen state says which body the entry has
+-- unless the frozen state is `Nothing`, the object is pending, and its frozen body is the one in the entry
 has_frozen_body : (e : Entry) (pending touched : Bool) → frozen_state_of (Some e) pending touched ≢ Nothing →
     (pending ≡ true) × ((below : Content Cap) → apart_body e.kept touched e.present below ≡ own_body e.kept e.present)
 has_frozen_body e pending touched frozen_state = search arith
@@ -275,14 +275,14 @@ module _ {s : Stored} {m : Memory} {all : Bool} {left count : ℕ} (is : IsCache
       ((below : Content Cap) → apart_body e.kept (mark_at m.touched n) e.present below ≡ own_body e.kept e.present)
   frozen_state_pending = search (arith, has_frozen_body)
 
-  -- the frozen frame, whatever lies below
+  -- the frozen frame depends only on the entry
   pub frozen_is_own : (t : Stored) → frozen_at t m n ≡ own_frame (header_at m.frozen_headers n) e
   frozen_is_own t = rw (at, frozen_state_pending.0, frozen_state_pending.1 (below_body t m n))
 
   own_content : (t : Stored) → content_at t m n ≡ e.present
   own_content t = ap (λ o. present_body o (header_at m.headers n).role (newest_body t m n)) at
 
--- the same for stores that are given as views
+-- the same facts for a store whose view is s
 module _ {D : Type 0} (disk : D → Disk) {d : DurableState D} {m : Memory} {all : Bool} {left count : ℕ} {order : List ℕ} {most_entries : ℕ}
     {s : StoreState D}
     (view : cache_of disk d m left order most_entries ≡ s) (is : IsCache all (stored_of disk d) m left count) {n : ℕ}
@@ -373,7 +373,7 @@ module _ {D : Type 0} (disk : D → Disk) {d : DurableState D} {m : Memory} {all
 
 -- ---- the body is in the staging buffer
 
--- a body that was frozen as free doesn't matter, or the object is free
+-- masking by the frozen role first changes nothing, if an object frozen as free is still free
 mask_under : (fr r : Role) (c : Content Cap) → (fr ≡ role.Free → r ≡ role.Free) → masked r (masked fr c) ≡ masked r c
 mask_under other r c free = search arith
 
@@ -393,7 +393,7 @@ module _ {s : Stored} {m : Memory} {all : Bool} {left count : ℕ} (is : IsCache
       below_is : (t : Stored) → below_body t m h.number ≡ h.content
       below_is t = rw (staging, eq-eqb h.number h.number refl)
 
-      -- if the entry has no body for the frozen frame, the object was written since, and has no frozen copy
+      -- if the entry has no body for the frozen frame, the object was written since the freeze, and has no frozen copy
       bare : (e : Entry) → entry_at m.entries h.number ≡ Some e → (mark_at m.touched h.number ≡ true) × (e.kept ≡ None)
       bare e at = search (arith, nothing_frozen_state, held_pending)
 
@@ -422,7 +422,7 @@ module _ {s : Stored} {m : Memory} {all : Bool} {left count : ℕ} (is : IsCache
           ∙ ap (λ b. cond b h.content c) (ne_eqb h.number k (λ same. other (sym same))))) (λ g gone. absurd (none-some g gone))
           (content_put f_is g g_is (entry_at m.entries h.number) refl)
 
--- the same for stores that are given as views
+-- the same facts for a store whose view is s
 module _ {D : Type 0} (disk : D → Disk) {d : DurableState D} {m : Memory} {all : Bool} {left count : ℕ} {order : List ℕ} {most_entries : ℕ}
     {s : StoreState D}
     (view : cache_of disk d m left order most_entries ≡ s) (is : IsCache all (stored_of disk d) m left count) (h : Held)

@@ -1,4 +1,4 @@
--- A page is saved after reads; the outcome of a call that journals it.
+-- A page is saved after reads: the result of a call that journals it.
 use Rattle.object_cache.proofs.Names.{ℕ, Bool, true, List, Option, Some, None, option_map, Result, Ok, Err, refl, sym, ap, subst, arith, inl, inr, Disk, Entry}
 use Rattle.object_cache.proofs.Names.{Frame, ObjectHeader, frame_at, words_in, SavedFrames, Holds, LeavesEither, LeavesOneOf, journaled_saved, leaves_weaker}
 use Rattle.object_cache.proofs.Names.{DurableState, GoesOn, ReadsStore, stored_of, is_sound, left_of, on_snapshots, journaled, next_journaled, is_page_role}
@@ -9,7 +9,7 @@ use Rattle.model.specs.declared.answer.Refusal.TheVariants as refusal
 use Rattle.model.specs.declared.object.Role.TheVariants as role
 use Rattle.object_cache.proofs.Journaling.{read_first}
 
--- if each crash leaves the saved state, it leaves that or the state that is saved next
+-- each crash that leaves the saved state leaves this or the next one
 leaves_one : {old new : Disk} {saved : SavedFrames} (o : Option SavedFrames) → LeavesSaved old new saved → LeavesOneOf old new saved o
 leaves_one None leaves = leaves
 leaves_one {old} {new} {saved} (Some next) leaves = leaves_weaker {old = old} {new = new} {P = λ c. Holds old.sectors c saved}
@@ -42,7 +42,7 @@ module _ {D : Type 0} (disk : D → Disk) {s t : DurableState D} (reads : ReadsS
     cause = counts_on same saves.cause;
   }
 
-  -- the device was only read
+  -- if a call before failed, the device was only read
   pub not_saved : {T E : Type 0} {n age : ℕ} {ws : List ℕ} {e : E} (r : Result ℕ E) (Q : E → Type 0) → IsErrAnd r Q →
       Counts {T = T} (disk s.beneath) (disk t.beneath) (Err e) → SavesPage disk s t n age ws r
   not_saved {n = n} {age = age} {ws = ws} (Ok g) Q failed counts = absurd failed
@@ -57,14 +57,14 @@ module _ {D : Type 0} (disk : D → Disk) {s t : DurableState D} (reads : ReadsS
     cause = err_counts refl counts;
   }
 
-  -- the page is saved with its present words
+  -- the page was saved with its present words
   pub held_after : {E : Type 0} {u : DurableState D} {n age : ℕ} (es : List (Option Entry)) {r : Result ℕ E} →
       (disk t.beneath).failures ≡ (disk s.beneath).failures → SavesPage disk t u n age (words_in (held_now es (stored_of disk t) n)) r →
       SavesPage disk s u n age (words_in (held_now es (stored_of disk s) n)) r
   held_after {u = u} {n = n} {age = age} es {r = r} same saves =
       saves_after same (subst (λ x. SavesPage disk t u n age (words_in (held_now es x n)) r) reads.stored saves)
 
-  -- the page may still be saved
+  -- after the reads, the page may be saved
   pub may_save : (h : ObjectHeader) (n age : ℕ) → (stored_of disk s).frozen ≡ None → (stored_of disk s).saved.entries ≡ 0 →
       is_saved_page (stored_of disk s) h n ≡ true → (stored_of disk s).saved.age < age → age ≤ 2 ^ 62 → {x : ObjectHeader} →
       x ≡ (frame_at (stored_of disk s).saved.frames n).header → MaySave disk t x n age
@@ -82,13 +82,13 @@ module _ {D : Type 0} (disk : D → Disk) {s t : DurableState D} (reads : ReadsS
 module _ {D : Type 0} (disk : D → Disk) {s : DurableState D} (sound : is_sound disk s) (es : List (Option Entry)) (h : ObjectHeader)
     (is_known : Bool)
     (n age : ℕ) where
-  -- the same for a header, and for whether it is known, given in other ways
+  -- `JournalsPage` also holds for an equal header, and an equal answer to whether the number is known
   pub journals_as : {t : DurableState D} {g : ObjectHeader} {k : Bool} {r : Result ℕ Refusal} → h ≡ g → is_known ≡ k →
       JournalsPage disk s t es h is_known n age r → JournalsPage disk s t es g k n age r
   journals_as {t = t} {g = g} {r = r} h_is k_is is =
       subst (λ x. JournalsPage disk s t es g x n age r) k_is (subst (λ x. JournalsPage disk s t es x is_known n age r) h_is is)
 
-  -- nothing that is stored has changed
+  -- a refusal without a change of the stored frames
   pub refuses : {t : DurableState D} {why : Refusal} {r : Result ℕ Refusal} → (e : Refusal) × (r ≡ Err e) × (e ≡ why) →
       stored_of disk t ≡ stored_of disk s → GoesOn disk s t → (IsTurnedAway (Err why) → t ≡ s) →
       IsJournalAnswer (disk s.beneath) (disk t.beneath) (option_map left_of (stored_of disk s).frozen) (stored_of disk s).saved is_known

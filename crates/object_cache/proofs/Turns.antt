@@ -57,7 +57,7 @@ module _ {D : Type 0} (disk : D → Disk) where
     total : (g : FrozenFrames) → g.left - i - k ≡ g.left - (i + k)
     total g = omega arith
 
-  -- the next frozen frame may be written
+  -- after i of `count` frozen frames were written in turn, the next one may be
   pub next_requested : (a b : StoreState D) (count i : ℕ) → ((f : FrozenFrames) × (a.frozen ≡ Some f) × (count ≤ f.left)) →
       PutsBy disk a b i → i < count → (f : FrozenFrames) × (b.frozen ≡ Some f) × (0 < f.left)
   next_requested a b count i requested so_far lt = search (arith, ap (λ x. x.frozen) (so_far.snapshots requested.0 requested.1))

@@ -1,4 +1,4 @@
--- The present body of a page to be journaled, and how it is saved.
+-- The present body of a page to be journaled, and when and how it is saved.
 use Rattle.object_cache.specs.Names.{ℕ, Bool, Option, Some, None, List, Cap, Content, ObjectHeader, Stored, newest}
 use Rattle.object_cache.specs.Names.{Entry, entry_at, frame_at, is_same_page, Disk, DurableState, stored_of, is_sound}
 use Rattle.object_cache.specs.Names.{Result, IfOk, OnOk, OnErr, Counts, LeavesEither, journaled_saved, journaled}
@@ -8,19 +8,20 @@ use Rattle.std.specs.Prelude.{◌≡◌, ◌⊎◌, ◌+◌, ◌<◌, ◌≤◌,
 use Rattle.model.specs.declared.answer.Refusal.TheVariants as refusal
 use Rattle.model.specs.declared.object.Role.TheVariants as role
 
--- an object's present body: the one in its cache entry or, without an entry, the newest on the device
+-- the present body of an object: the one in its entry or, if it has none, the newest on the device
 abbrev pub entry_body : Option Entry → Content Cap → Content Cap
 entry_body None newest = newest
 entry_body (Some e) newest = e.present
 
--- whether the saved object n is a page with the allocation count of the present header h
+-- whether the saved object n is a page with the allocation count in h, the present header
 abbrev pub is_saved_page : Stored → ObjectHeader → ℕ → Bool
 is_saved_page s h n = is_same_page h.allocations (frame_at s.saved.frames n)
 
 abbrev pub held_now : List (Option Entry) → Stored → ℕ → Content Cap
 held_now es s n = entry_body (entry_at es n) (newest s n).content
 
--- a page may be saved anew, at an age, under its saved header: nothing is frozen, and all that is saved is home
+-- page n may be saved with new words at this age, under this header: no checkpoint is frozen, and all saved objects
+-- are home
 pub record MaySave {D : Type 0} (disk : D → Disk) (s : DurableState D) (header : ObjectHeader) (n age : ℕ) :
     Type 0 where
   pub free : (stored_of disk s).frozen ≡ None
@@ -31,7 +32,7 @@ pub record MaySave {D : Type 0} (disk : D → Disk) (s : DurableState D) (header
   pub later : (stored_of disk s).saved.age < age
   pub most : age ≤ 2 ^ 62
 
--- page n was saved with these words; after an error, nothing was
+-- page n was saved with these words or, if the call failed, nothing was saved
 pub record SavesPage {D E : Type 0} (disk : D → Disk) (s t : DurableState D) (n age : ℕ) (words : List ℕ)
     (result : Result ℕ E) : Type 0 where
   pub stored : OnOk result (stored_of disk t ≡ on_snapshots (journaled age n words) (stored_of disk s))
@@ -44,7 +45,7 @@ pub record SavesPage {D E : Type 0} (disk : D → Disk) (s t : DurableState D) (
       (journaled_saved age n words (stored_of disk s).saved)
   pub cause : Counts (disk s.beneath) (disk t.beneath) result
 
--- a page was journaled, or this was refused; `h` is its present header
+-- a page was journaled, or the journal was refused; `h` is the page's present header
 pub record JournalsPage {D : Type 0} (disk : D → Disk) (s t : DurableState D) (es : List (Option Entry))
     (h : ObjectHeader) (is_known : Bool) (n age : ℕ) (result : Result ℕ Refusal) : Type 0 where
   pub journaled : OnOk result (stored_of disk t

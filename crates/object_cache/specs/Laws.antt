@@ -1,4 +1,4 @@
--- The laws of a store.
+-- The laws that a store must satisfy.
 use Rattle.object_cache.specs.Names.{refl, ap, arith, Image, Disk, ends, leaves_on, leaves_weaker, peeks_started}
 use Rattle.object_cache.specs.Names.{Snapshots, FrozenFrames, goes_trans, goes_none, saved_state, seen_of, stored_of}
 use Rattle.object_cache.specs.Names.{is_sound, Holds, Continues}
@@ -51,7 +51,7 @@ module _ {D : Type 0} (disk : D → Disk) where
     still = λ is. second.still is ∙ first.still is;
   }
 
-  -- present objects change, and the frozen and saved frames stay
+  -- changing present objects keeps the frozen and the saved frames
   pub continues_by : (s t : StoreState D) → GoesOnIn disk s t → Continues disk (view_of disk s) (view_of disk t)
   continues_by s t goes = record {
     snapshots = λ stayed. goes.snapshots;

@@ -9,21 +9,21 @@ use Rattle.model.specs.declared.object.Role.TheVariants as role
 pub use Rattle.object_cache.specs.declared.frozen.FrozenState.{FrozenState}
 pub use Rattle.object_cache.specs.declared.frozen.FrozenState.TheVariants.{Nothing, Shared, Apart}
 
--- a frozen body in no cache entry, read so that its frame can be written again with a newer header
+-- a frozen body without an entry, read from the device so that its frame can be written with its newer, frozen header
 pub record Held : Type 0 where
   pub number : ℕ
   pub content : Content Cap
 
--- such a body with its object's number: from words and slots in a scratch buffer, or from a reference
+-- the body in the staging buffer: from words and slots in a scratch buffer, or from a reference
 abbrev pub held_in : Scratch → ℕ × Body → Held
 held_in scratch held = record { number = held.0; content = content_of held.1 scratch.slots scratch.words }
 
 abbrev pub held_behind : ℕ × ContentRef → Held
 held_behind held = record { number = held.0; content = content_behind held.1 }
 
--- What a store has in memory besides the durable store: the present and the frozen headers; the touched numbers; the
--- dirty ones, whose present frame isn't in the log; the pending ones, whose frozen frame isn't in the log; the cache
--- entries; and a frozen body that was read so that its frame can be written again.
+-- The memory of a store, besides its durable store: the present and the frozen headers; the touched numbers; the dirty
+-- ones, whose present frame isn't in the log; the pending ones, whose frozen frame isn't in the log; the cache
+-- entries; and the staging buffer.
 pub record Memory : Type 0 where
   pub headers : List ObjectHeader
   pub frozen_headers : List ObjectHeader
@@ -48,17 +48,17 @@ memory_of headers frozen_headers touched dirty pending entries staging = record 
 abbrev pub mark_at : List Bool → ℕ → Bool
 mark_at marks n = slice_index_or marks n false
 
--- a content, or `Free` if the object's role is free
+-- a content, or `Free` if the role is free
 abbrev pub masked : Role → Content Cap → Content Cap
 masked role.Free c = content.Free
 masked _ c = c
 
--- the body in the staging buffer if it is that of number n, else c
+-- the body in the staging buffer if it is number n's, else c
 abbrev pub in_staging : Option Held → ℕ → Content Cap → Content Cap
 in_staging None n c = c
 in_staging (Some h) n c = if h.number == n then h.content else c
 
--- the staging buffer, emptied if it has the body of number n
+-- the staging buffer, after the body of number n, if it has that, was dropped
 abbrev pub released : ℕ → Option Held → Option Held
 released n None = None
 released n (Some h) = if h.number == n then None else Some h
@@ -69,11 +69,11 @@ put_body Absent c = c
 put_body Broken c = c
 put_body (Kept f) c = f.content
 
--- the body below the cache entries: in the staging buffer, else the frozen one that was written, else the saved one
+-- the body of n below the entries: in the staging buffer, else the frozen frame's, else the saved frame's
 abbrev pub below_body : Stored → Memory → ℕ → Content Cap
 below_body s m n = in_staging m.staging n (below_at s n).content
 
--- the newest body outside the cache entries
+-- the newest body of n outside the entries: the working frame's, else the one below
 abbrev pub newest_body : Stored → Memory → ℕ → Content Cap
 newest_body s m n = put_body (put_at s.working n) (below_body s m n)
 
@@ -88,8 +88,8 @@ content_at s m n = present_body (entry_at m.entries n) (header_at m.headers n).r
 abbrev pub present_at : Stored → Memory → ℕ → Frame
 present_at s m n = record { header = header_at m.headers n; content = content_at s m n }
 
--- the frozen body of an object with a cache entry: its frozen copy; or the body below, if it was written since the
--- freeze; or the present body
+-- The frozen body of an object with a cache entry: its frozen copy; or the body below, if the object was written since
+-- the freeze; or else the present body.
 abbrev pub apart_body : Option (Content Cap) → Bool → Content Cap → Content Cap → Content Cap
 apart_body (Some c) touched present below = c
 apart_body None true present below = below
@@ -99,7 +99,7 @@ abbrev pub frozen_body : Option Entry → Bool → Content Cap → Content Cap
 frozen_body None touched below = below
 frozen_body (Some e) touched below = apart_body e.kept touched e.present below
 
--- the frozen body that a cache entry has: its frozen copy, or else its present body
+-- the frozen body that an entry has: its frozen copy or, if it has none, its present body
 abbrev pub own_body : Option (Content Cap) → Content Cap → Content Cap
 own_body (Some c) present = c
 own_body None present = present
@@ -107,11 +107,11 @@ own_body None present = present
 abbrev pub own_body_of : Entry → Content Cap
 own_body_of e = own_body e.kept e.present
 
--- the frame of that body, with the frozen header
+-- the frame of an entry's frozen body, with the frozen header h
 abbrev pub own_frame : ObjectHeader → Entry → Frame
 own_frame h e = record { header = h; content = masked h.role (own_body_of e) }
 
--- the frozen frame of an object: made of the frozen header and body if it is pending, else the one below
+-- the frozen frame of an object: its frozen header and body if it is pending, else the frame below
 abbrev pub frozen_frame : Bool → ObjectHeader → Content Cap → Frame → Frame
 frozen_frame false h body below = below
 frozen_frame true h body below = record { header = h; content = masked h.role body }
@@ -127,8 +127,8 @@ contents_in s m = map (content_at s m) (range_with_len 0 (length m.headers))
 unfoldable pub frozen_in : Stored → Memory → List Frame
 frozen_in s m = map (frozen_at s m) (range_with_len 0 (length m.headers))
 
--- what a cache entry has of an unwritten frozen frame, by whether the frame is pending, whether there is a frozen copy,
--- and whether the object was written since the freeze
+-- Which body an entry has for a pending frozen frame, from whether it has a frozen copy, and whether the object was
+-- written since the freeze. If the frame isn't pending, or there is no entry: `Nothing`.
 abbrev pub frozen_state_body : Bool → Bool → FrozenState
 frozen_state_body true touched = Apart
 frozen_state_body false true = Nothing

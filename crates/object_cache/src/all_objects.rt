@@ -1,4 +1,4 @@
-// Copying all objects of a store.
+// Copies all objects of a store.
 ghost use Rattle.std.specs.Prelude.{◌≡◌, ℕ, ◌<◌, Some, length, option_map, IfOk, IsSome};
 ghost use Rattle.cache_entries.specs.Entries.{entry_at, present_of};
 ghost use Rattle.model.specs.Frame.{held_at};

@@ -1,4 +1,4 @@
-// Frozen frames: which body an entry has for one, and writing one.
+// Frozen frames: which body an entry has for one, and writing it.
 ghost use Rattle.std.specs.Prelude.{◌≡◌, Some, option_map, IsSome, OnOk, OnErr};
 ghost use Rattle.model.specs.Frame.{content_behind};
 ghost use Rattle.device.specs.Calls.{Counts};
@@ -21,8 +21,8 @@ pub(crate) enum FrozenState {
     Apart,
 }
 
-// Returns the state by three facts: the frozen frame is pending, there is a frozen copy, the object was written since
-// the freeze.
+// Returns the frozen state of an entry, from three facts: its frozen frame is pending, it has a frozen copy,
+// the object was written since the freeze.
 pub(crate) fn state_by(is_pending: bool, is_kept: bool, is_touched: bool) -> FrozenState
     ensures { result ≡ frozen_state_by is_pending is_kept is_touched }
 {

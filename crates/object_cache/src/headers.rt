@@ -9,7 +9,7 @@ use model::ObjectHeader;
 use std::alloc::{AllocError, Global};
 use std::marker::Model;
 
-/// Headers by number. A pending object has the header that it had at the freeze.
+/// Headers by number. For a pending object it is the header at the freeze.
 #[derive(Drop)]
 pub(crate) struct FrozenHeaders {
     items: Vec<ObjectHeader>,

@@ -1,5 +1,5 @@
-//! The store of objects over a device. Its policy says which bodies it keeps in memory: all, or the most recently
-//! used ones.
+//! The store of objects over a device. Its policy says which bodies stay in memory: all, or those of the
+//! objects used last.
 #![tactic(auto)]
 
 mod all_objects;

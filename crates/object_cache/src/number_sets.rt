@@ -1,4 +1,4 @@
-// Which numbers of a list a set lacks, and adding them.
+// Adding a list of numbers to a set, and how many of them it lacks.
 ghost use Rattle.std.specs.Prelude.{◌≡◌, ◌↔◌, ◌+◌, ◌<◌, ◌≤◌, IsTrue, length, not, slice_index_or, slice_set, true};
 ghost use Rattle.std.specs.Prelude.{false};
 ghost use Rattle.std.specs.List.{All};
@@ -19,8 +19,8 @@ pub(crate) fn contains_all(marks: &NumberSet, numbers: &[u64]) -> bool
     true
 }
 
-// Returns how many numbers of a list the set lacks; a number that is listed twice counts once. Compares each pair of
-// the list, and takes no memory.
+// Returns how many numbers of a list the set lacks; a number that is listed twice counts once. Compares each
+// pair of the list. Doesn't allocate.
 fn count_missing(marks: &NumberSet, numbers: &[u64]) -> u64
     requires { All (λ n. n < length marks.now) numbers.now }
     ensures counted { touched_count marks.now + result ≡ touched_count (touching marks.now numbers.now) }

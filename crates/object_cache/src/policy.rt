@@ -7,15 +7,15 @@ use collections::Capacity;
 
 /// A policy: which bodies a store keeps in memory.
 pub trait Policy: Drop {
-    /// The type of a store's setting, which is given when it is opened.
+    /// The type of the setting with which a store is opened.
     type Setting: Copy;
 
-    /// Whether the store keeps every body in memory, from opening on.
+    /// Whether all bodies stay in memory from opening on.
     const KEEPS_ALL: bool;
 
     ghost KEEPS_ALL: { Bool };
 
-    /// The most objects in memory, by the setting and the number of all objects.
+    /// The capacity of a store: the most objects in memory, from its setting and the number of all objects.
     ghost most_for: { Self.Setting → ℕ → ℕ };
 
     /// Returns the most objects that a store of `count` objects keeps in memory.
@@ -26,7 +26,7 @@ pub trait Policy: Drop {
     ghost keeps: { (setting : Self.Setting) (count : ℕ) → KEEPS_ALL ≡ true → most_for setting count ≡ all_of count };
 }
 
-/// Returns the least capacity that has room for `count` objects.
+/// Returns the least capacity for `count` objects.
 pub(crate) fn capacity_for_all(count: usize) -> Capacity
     requires few { count ≤ 8192 }
     ensures all { result ≡ all_of count }
@@ -43,11 +43,11 @@ pub(crate) fn capacity_for_all(count: usize) -> Capacity
     }
 }
 
-/// Keeps every body in memory, from opening on.
+/// All bodies stay in memory, from opening on.
 #[derive(Drop)]
 pub struct KeepAll;
 
-/// Keeps at most as many objects in memory as the setting says: the most recently used ones.
+/// At most as many objects stay in memory as the setting says: those used last.
 #[derive(Drop)]
 pub struct KeepRecent;
 

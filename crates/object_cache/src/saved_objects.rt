@@ -1,4 +1,4 @@
-// The saved objects, which are read when a device is opened.
+// Receives the saved objects as a device is opened.
 ghost use Rattle.std.specs.Prelude.{◌≡◌, ◌<◌, ◌≤◌, List, Some, is_some, length, option_map, true, ℕ, IfOk, IsSome};
 ghost use Rattle.cache_entries.specs.Entries.{entry_at};
 ghost use Rattle.cache_entries.specs.Order.{EntriesState};
@@ -15,12 +15,12 @@ use model::{ContentRef, Geometry, ObjectHeader};
 use std::alloc::{AllocError, Global};
 use std::marker::{Model, PhantomData};
 
-/// The headers of the saved objects, and entries with their bodies if the policy keeps every body.
+/// The headers of the saved objects and, if the policy keeps all bodies in memory, entries with the bodies.
 #[derive(Drop)]
 pub(crate) struct SavedObjects<P: Policy> {
     headers: Vec<ObjectHeader>,
     entries: Option<Entries>,
-    /// How many objects there is memory for.
+    /// For how many objects there is memory.
     count: usize,
     policy: PhantomData<P>,
 }
@@ -48,8 +48,8 @@ fn insert_all(entries: &mut Entries, count: usize)
     }
 }
 
-// Drops frozen copies, number by number, up to the first number without an entry. Returns whether every number has an
-// entry.
+// Drops frozen copies, number by number, up to the first number without an entry. Returns whether all numbers
+// have entries.
 fn drop_all_kept(entries: &mut Entries, count: usize) -> bool
     requires { length entries.old.at ≡ count }
     ensures each { length entries.new.at ≡ count }
@@ -65,8 +65,8 @@ fn drop_all_kept(entries: &mut Entries, count: usize) -> bool
     true
 }
 
-// Returns an entry for each number, without frozen copies: the entries in `memory`, if there are as many. Fails only
-// if memory runs out.
+// Returns entries for all numbers, without frozen copies. Uses `memory` if that has as many entries. Fails
+// only if memory runs out.
 fn all_entries(
     alloc: Global,
     count: usize,
@@ -87,7 +87,8 @@ fn all_entries(
     Ok(entries)
 }
 
-// Returns an entry for each number if the policy keeps every body, else `None`. Fails only if memory runs out.
+// Returns entries for all numbers if the policy keeps all bodies in memory, else `None`. Fails only if memory
+// runs out.
 fn first_entries<P: Policy>(
     alloc: Global,
     count: usize,
@@ -104,7 +105,7 @@ fn first_entries<P: Policy>(
     Ok(Some(entries))
 }
 
-// Puts a body that was read into the entry of its object, if there are entries.
+// Puts a body that was read into its object's entry, if there are entries.
 fn keep_body(entries: &mut Option<Entries>, number: u64, body: &Body, scratch: &Scratch)
     requires { (e : EntriesState) → entries.old ≡ Some e → IsSome (entry_at e.at number) }
     ensures { entries.new ≡ option_map
@@ -154,8 +155,9 @@ impl<P: Policy> Intake for SavedObjects<P> {
 }
 
 impl<P: Policy> SavedObjects<P> {
-    /// Returns the headers and the entries. If the policy doesn't keep every body, the entries are made here, empty,
-    /// and in `memory` if possible. Fails if memory runs out, or if fewer frames were taken than there are numbers.
+    /// Returns the headers and the entries. If the policy doesn't keep all bodies, the entries are empty, and
+    /// made in `memory` if possible. Fails if memory runs out, or if fewer frames were taken than there are
+    /// numbers.
     pub(crate) fn into_parts(
         self,
         alloc: Global,

@@ -1,4 +1,5 @@
-// The staging buffer: a frozen body on its way from one slot to another, which is in no entry.
+// The staging buffer: a frozen body without an entry, to be written to another slot or under its frozen
+// header.
 ghost use Rattle.std.specs.Prelude.{◌≡◌, None, Some, IfOk, is_some, option_map};
 ghost use Rattle.layout.specs.Frame.{content_of};
 ghost use Rattle.object_cache.specs.Memory.{released, held_behind};
@@ -9,7 +10,7 @@ use std::alloc::{AllocError, Global};
 use std::marker::Model;
 use std::mem;
 
-/// The number and the body of an object, or nothing. Only `new` takes memory.
+/// An object's number and body, or nothing. Only `new` allocates.
 #[derive(Drop)]
 pub(crate) struct Staging {
     held: Option<(u64, Body)>,

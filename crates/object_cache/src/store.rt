@@ -25,8 +25,9 @@ mod prepare;
 mod present;
 mod stabilize;
 
-/// The objects over a device. The headers of all objects are always in memory; the policy says which bodies are.
-/// Objects with an entry have their bodies in memory; the other bodies lie on the device.
+/// The objects over a device. The headers of all objects are always in memory; the policy says which bodies
+/// are. Objects with an entry have their bodies in memory. The other bodies are on the device, or one of them
+/// in `staging`.
 #[derive(Drop)]
 pub struct Store<D: Device, P: Policy> {
     durable: Durable<D>,
@@ -40,17 +41,17 @@ pub struct Store<D: Device, P: Policy> {
     entries: Entries,
     /// The numbers whose frozen frame isn't in the log.
     pending: NumberSet,
-    /// The headers of pending numbers as they were frozen.
+    /// The headers of pending numbers at the freeze.
     frozen_headers: FrozenHeaders,
-    /// How many objects of the frozen checkpoint `stabilize` hasn't reached yet.
+    /// How many objects of the frozen checkpoint `stabilize` has yet to reach.
     left: u64,
-    /// A frozen body that is in no entry, and perhaps no longer in its slot.
+    /// A frozen body without an entry; its slot may be torn.
     staging: Staging,
     scratch: Scratch,
     policy: PhantomData<P>,
 }
 
-/// The store that keeps every body in memory, from opening on.
+/// The store that keeps all bodies in memory, from opening on.
 pub type PlainStore<D> = Store<D, KeepAll>;
 
 /// The store that keeps at most its capacity of objects in memory.
@@ -79,7 +80,7 @@ impl<D: Device, P: Policy> Store<D, P> {
     ghost use Rattle.object_cache.specs.StoreState.{pending_count, without_cached};
     ghost use Rattle.cache_entries.specs.Order.{without};
 
-    /// Returns the number of objects in memory: never more than the capacity that the store was opened with.
+    /// Returns how many objects are in memory: never more than the capacity.
     pub fn len(&self) -> usize
         ensures count { result ≡ length self.now.order }
         ensures bounded { IsBounded self.now }
@@ -103,7 +104,7 @@ impl<D: Device, P: Policy> Store<D, P> {
             scratch,
             ..
         } = self;
-        // Two calls drop these fields: the drop of each field here would be a step of this proof.
+        // Two drops of tuples: dropping each field by itself would be a step of this proof each.
         drop((table, touched, dirty, pending));
         drop((frozen_headers, staging, scratch));
         (durable, entries)
@@ -122,7 +123,7 @@ impl<D: Device, P: Policy> Store<D, P> {
         self.entries.promote(number)
     }
 
-    // Copies the present body of an object, which is also its unwritten frozen body, to a frozen copy.
+    // Makes a frozen copy of an object's body, which its present and its unwritten frozen frame share.
     pub(crate) fn keep_apart(&mut self, number: u64)
         requires fetched { IsFetchedIn self.old number }
         requires shared { frozen_state_at self.old.frozen_state number ≡ Shared }
@@ -131,7 +132,7 @@ impl<D: Device, P: Policy> Store<D, P> {
         self.entries.keep_apart(number);
     }
 
-    // Removes the entry of a clean object. The device must have all bodies of the entry.
+    // Removes the entry of a clean object. The log must have its frozen frame, if there is one.
     pub(crate) fn drop_entry(&mut self, number: u64)
         requires fetched { IsFetchedIn self.old number }
         requires clean { mark_at self.old.dirty number ≡ false }
@@ -203,7 +204,7 @@ impl<D: Device, P: Policy> Store<D, P> {
         FrozenState::Nothing
     }
 
-    // Writes an object's frozen frame from its entry, if the entry holds a frozen body that isn't in the log.
+    // Writes an object's frozen frame from its entry, if the entry has a frozen body that isn't in the log.
     fn write_frozen(&mut self, number: u64) -> Result<(), Failed>
         requires { IsFetchedIn self.old number }
         ensures frozen_written { OnOk result (frozen_state_at self.new.frozen_state number ≡ Nothing) }
@@ -231,7 +232,8 @@ impl<D: Device, P: Policy> Store<D, P> {
         Ok(())
     }
 
-    // Writes those frames of an entry that aren't in the log, and evicts the entry. After `Failed` the entry stays.
+    // Writes the frames of an entry that aren't in the log, and evicts the entry. After `Failed` the entry
+    // stays.
     pub(crate) fn write_and_evict(&mut self, number: u64) -> Result<(), Failed>
         requires fetched { IsFetchedIn self.old number }
         requires keepable { IsKeepableIn D.disk self.old number }

@@ -3,10 +3,10 @@ use Rattle.recovery.proofs.Names.{nat_tests, Bool, false, true, List, sym, arith
 use Rattle.std.proofs.Common.{◌≡◌, ◌∙◌}
 use Rattle.std.specs.Prelude.{◌↔◌}
 
--- a test that fails refutes the property that it tests
+-- if a test is false, the property that it decides doesn't hold
 pub refuted : (b : Bool) (P : Type 0) → (IsTrue b ↔ P) → b ≡ false → P → ⊥
 refuted b P tells is p = let so : b ≡ true = tells.1 p in let no_so : true ≡ false = sym so ∙ is in cc
 
--- if all banks are as they must be, there is no fault of banks
+-- if all rules about banks hold, no `IsUnbanked` fault does
 pub unbanked_refuted : (fs : List Frame) (why : Unbanked) → IsUnbanked fs why → AreBanked fs → ⊥
 unbanked_refuted fs why broken banked = grind (arith, nat_tests)

@@ -1,4 +1,4 @@
--- An image for which none of the ten reasons holds denotes a saved state.
+-- If none of the ten reasons holds for an image, it denotes a saved state.
 use Rattle.recovery.proofs.Names.{ℕ, zero, suc, List, [], length, refl, sym, ap, subst, inl, inr, arith, cases_lt, Frame, Image, BadImage, frame_at}
 use Rattle.recovery.proofs.Names.{AreKeepable, IsSoundFrames, IsBad, IsInconsistent, kept_of, saved_of, NotBadIsDenoted, Entry, CheckpointHeader, IsFrameOf}
 use Rattle.recovery.proofs.Names.{Encodes, HasDirectory, HasHeader, HasPlan, IsBadBy, IsTooSmall, SavedState, total_in, IsPlan, Plan, superblock_bytes}
@@ -9,13 +9,13 @@ use Rattle.layout.specs.declared.bad_image.BadImage.TheVariants as bad
 use Rattle.recovery.proofs.Denoted.{denoted_by}
 use Rattle.recovery.proofs.Sound.{consistent_is_sound}
 
--- a property of the first frame, and of the others one number further, holds of all
+-- a property of a list's first frame, and of each later one by its number, holds of all
 each_cons : (P : ℕ → Frame → Type 0) (n : ℕ) (f : Frame) (fs : List Frame) → P zero f → ((o : ℕ) → o < n → P (suc o) (frame_at fs o)) →
     (o : ℕ) → o < suc n → P o (frame_at (f ∷ fs) o)
 each_cons P n f fs first each zero lt = first
 each_cons P n f fs first each (suc o) lt = each o (omega (arith, lt))
 
--- if at none of n numbers a frame can be missing, there are frames at all
+-- if for each of n numbers a frame can't be missing, then all n frames can't be missing
 frames_there : (n : ℕ) (P : ℕ → Frame → Type 0) → ((o : ℕ) → o < n → ((f : Frame) → P o f → ⊥) → ⊥) →
     ((fs : List Frame) → length fs ≡ n → ((o : ℕ) → o < n → P o (frame_at fs o)) → ⊥) → ⊥
 frames_there zero P some none = none [] refl (λ o lt. absurd (omega (arith, lt)))
@@ -24,7 +24,7 @@ frames_there (suc n) P some none = some zero (omega arith) (λ f first.
     none (f ∷ fs) (omega (arith, long)) (each_cons P n f fs first each)))
 
 module _ (size : ℕ) (c : Image) (fair : (reason : BadImage) → IsBad size c reason → ⊥) where
-  -- each of the first seven reasons is false, so it can't be that there is no plan, header, directory or frame
+  -- no reason of 1 to 7 holds, so plan, header, directory and frames can't be missing
   first : (reason : BadImage) → IsBadBy c size reason → ⊥
   first reason why = fair reason (inl why)
 
@@ -77,7 +77,7 @@ module _ (size : ℕ) (c : Image) (fair : (reason : BadImage) → IsBad size c r
   encoded none = with_plan (λ p plan. with_header p plan (λ h header. with_directory p plan h header (λ es directory.
       with_state p plan h header es directory none)))
 
-  -- nor can the frames stand for no sound world
+  -- no reason of 8 to 10 holds, so the frames' world is sound
   module _ (s : SavedState) (e : Encodes c size s) where
     last : (reason : BadImage) → IsInconsistent s.frames reason → ⊥
     last reason why = fair reason (inr (kept_of s, (s, e, refl), why))

@@ -5,21 +5,21 @@ use Rattle.recovery.proofs.Names.{DenoteOneSaved, DenotedIsNotBad, DenotedIsOneO
 use Rattle.std.proofs.Common.{◌≡◌, ◌∷◌, ◌∙◌}
 use Rattle.recovery.proofs.Unsound.{inconsistent_is_unsound}
 
--- frames that are held are denoted
+-- an image that holds frames of a sound world denotes their saved state
 pub denoted_by : (g : Geometry) (size : ℕ) (c : Image) (fs : SavedFrames) → IsSoundSaved g fs → Holds size c fs →
     Denotes g size c (saved_of fs)
 denoted_by g size c fs sound holds = record { frames = fs; holds = holds; sound = sound; stands = refl }
 
--- a sound store: each crash leaves the state that it saves
+-- if each crash leaves saved frames of a sound world, it leaves an image that denotes their saved state
 pub leaves_saved : (g : Geometry) (disk : Disk) (fs : SavedFrames) → IsSoundSaved g fs →
     ((c : Image) → disk.may_leave c → Holds disk.sectors c fs) → Leaves g disk (saved_of fs ∷ [])
 leaves_saved g disk fs sound holds c left = inl (denoted_by g disk.sectors c fs sound (holds c left))
 
--- sectors hold at most one saved state of frames
+-- an image holds at most one list of saved frames
 pub holds_one : (size : ℕ) (c : Image) (a b : SavedFrames) → Holds size c a → Holds size c b → a ≡ b
 holds_one size c a b ha hb = sym ha.2 ∙ ap kept_of (one_state c size ha.0 hb.0 ha.1 hb.1) ∙ hb.2
 
--- they denote one saved state, that of the frames that they hold
+-- the saved state that an image denotes is that of the frames that it holds
 pub denotes_held : (g : Geometry) (size : ℕ) (c : Image) (s : Saved) (fs : SavedFrames) → Denotes g size c s → Holds size c fs →
     (saved_of fs ≡ s) × IsSoundSaved g fs
 denotes_held g size c s fs denoted held =
@@ -40,7 +40,7 @@ contains_here s ss = (zero, omega arith, refl)
 contains_more : (s t : Saved) (ss : List Saved) → Contains ss t → Contains (s ∷ ss) t
 contains_more s t ss there = (suc there.0, omega (arith, there.1), there.2)
 
--- an image that denotes one of several states
+-- if an image denotes one of several states, this is the state of the frames that it holds
 pub one_denoted : (g : Geometry) (size : ℕ) (c : Image) (ss : List Saved) (fs : SavedFrames) → DenotesOne g size ss c → Holds size c fs →
     Contains ss (saved_of fs) × IsSoundSaved g fs
 one_denoted g size c [] fs denoted held = absurd denoted
@@ -52,7 +52,7 @@ one_denoted g size c (s ∷ ss) fs denoted held = ⊎_elim (λ here. let is = de
 pub denoted_one_of : DenotedIsOneOf
 denoted_one_of g h size c ss t one denoted = grind (arith, nat_tests, one_denoted)
 
--- an image that denotes a saved state is refused for no reason
+-- no reason holds for an image that denotes a saved state
 pub denoted_not_bad : DenotedIsNotBad
 denoted_not_bad g size c s reason denoted why = ⊎_elim (λ first. frames_not_bad c size denoted.holds.0 denoted.holds.1 reason first)
     (λ last.

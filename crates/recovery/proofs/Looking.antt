@@ -1,4 +1,4 @@
--- Frames that were read and not changed.
+-- Steps that only read frames.
 use Rattle.capability.specs.Parts.{Parts}
 use Rattle.std.proofs.Common.{◌≡◌}
 

@@ -1,4 +1,4 @@
--- The capabilities of objects, and whether they are as `IsNamed` requires.
+-- Whether the capabilities of objects satisfy `IsNamed`.
 use Rattle.recovery.proofs.Names.{nat_tests, ℕ, inl, inr, Bool, true, List, [], length, slice_index_or, sym, ap, subst, arith, IsTrue, nat_lt, All, cases_lt}
 use Rattle.recovery.proofs.Names.{get_or_default, Cap, Frame, ObjectHeader, Content, Role, Root, current_count, frame_at, headers, caps_in, role_of, Parts}
 use Rattle.recovery.proofs.Names.{frames_of, AreNamed, IsNamed, NamesItsRole}
@@ -7,7 +7,7 @@ use Rattle.model.specs.declared.object.Content.TheVariants as content
 use Rattle.model.specs.declared.object.Role.TheVariants as role
 use Rattle.recovery.proofs.Tables.{frame_beyond, table_read}
 
--- one capability, by its count
+-- facts about one capability, from its object's present count
 module _ (p : Parts) (hs : List ObjectHeader) (c : Cap) (current : ℕ) (table : hs ≡ p.headers) (is : current ≡ current_count hs c.what)
   where
     count_is : current ≡ current_count (headers (frames_of p)) c.what
@@ -19,15 +19,15 @@ module _ (p : Parts) (hs : List ObjectHeader) (c : Cap) (current : ℕ) (table :
     pub named_stale : (c.count ≡ current → ⊥) → IsTrue (nat_lt c.count current) ↔ IsNamed (frames_of p) c
     named_stale other = grind (arith, nat_tests, count_is)
 
--- the capabilities of one object
+-- facts about the capabilities of one object
 module _ (fs : List Frame) (c : Content Cap) (n : ℕ) (is : c ≡ (frame_at fs n).content) (b : Bool) where
-  -- the capabilities of an object with a list of slots
+  -- if all slots of a node or annex satisfy `IsNamed`, so do all capabilities of the object
   pub held_named : (slots : List Cap) → caps_in c ≡ slots → (IsTrue b ↔ All (IsNamed fs) slots) →
       IsTrue b ↔ All (IsNamed fs) (caps_in (frame_at fs n).content)
   held_named slots all tells = subst (λ (cs : List Cap). IsTrue b ↔ All (IsNamed fs) cs) (sym all ∙ ap (λ (d : Content Cap). caps_in d) is)
       tells
 
-  -- the capability of a root
+  -- if the address space of a root satisfies `IsNamed`, so do all capabilities of the object
   pub space_named : (held : Cap) → caps_in c ≡ held ∷ [] → (IsTrue b ↔ IsNamed fs held) →
       IsTrue b ↔ All (IsNamed fs) (caps_in (frame_at fs n).content)
   space_named held all tells = grind (arith, nat_tests)
@@ -44,12 +44,12 @@ pub role_holds_none : (c : Content Cap) (r : Role) → r ≡ role_of c → (r �
     caps_in c ≡ []
 role_holds_none c r is node root annex = grind (arith, nat_tests)
 
--- all objects
+-- if there are at most n objects, and the capabilities of each satisfy `IsNamed`, `AreNamed` holds
 pub named_whole : (p : Parts) (hs : List ObjectHeader) (count n : ℕ) → hs ≡ p.headers → count ≡ length hs → count ≤ n →
     ((m : ℕ) → m < n → All (IsNamed (frames_of p)) (caps_in (frame_at (frames_of p) m).content)) → AreNamed (frames_of p)
 named_whole p hs count n table all past each m k d inside = grind (arith, nat_tests, frame_beyond)
 
--- one more capability of a list
+-- one more capability of a list satisfies `IsNamed`
 pub named_more : (fs : List Frame) (held : List Cap) (i : ℕ) (e : Cap) → i < length held →
     ((k : ℕ) (d : Cap) → k < i → IsNamed fs (slice_index_or held k d)) → IsNamed fs (slice_index_or held i e) →
     (k : ℕ) (d : Cap) → k < i + 1 → IsNamed fs (slice_index_or held k d)
@@ -58,7 +58,7 @@ named_more fs held i e inside before here k d next = elim (cases_lt k i) [
   | inr later ↦ grind (arith, nat_tests, get_or_default)
 ]
 
--- one more object
+-- the capabilities of one more object satisfy `IsNamed`
 pub named_next : (fs : List Frame) (n : ℕ) → ((m : ℕ) → m < n → All (IsNamed fs) (caps_in (frame_at fs m).content)) →
     All (IsNamed fs) (caps_in (frame_at fs n).content) → (m : ℕ) → m < n + 1 → All (IsNamed fs) (caps_in (frame_at fs m).content)
 named_next fs n before here m next = elim (cases_lt m n) [

@@ -1,4 +1,4 @@
--- A device that was opened, and one that was refused.
+-- Opening a device, or refusing to.
 use Rattle.recovery.proofs.Names.{nat_tests, ℕ, None, List, refl, sym, ap, subst, inr, arith, Result, Err, IsErrOf, Frame, Geometry}
 use Rattle.recovery.proofs.Names.{IsSoundFrames, opened, touched_count, Only, Image, Disk, Peeks, CountsNow, ends, BadImage, OpenFault, OnlyReads, Holds}
 use Rattle.recovery.proofs.Names.{OnlyFetches, Parts, frames_of, objects_in, untouched_count, Snapshots, FrozenFrames, Continues, OpensStore, View, unrisen}
@@ -9,12 +9,12 @@ use Rattle.layout.specs.declared.open_fault.OpenFault.TheVariants as fault
 use Rattle.recovery.proofs.Denoted.{leaves_saved}
 use Rattle.recovery.proofs.Renewed.{base_saved, none_renewed}
 
--- two runs that only read, one after the other, where a crash leaves what a read returns
+-- if nothing is written after a sync, opening only reads
 only_reads_on : (old mid new : Disk) → OnlyReads old mid → Only mid.seen mid → new.sectors ≡ mid.sectors → Peeks mid new → CountsNow new →
     new.may_leave new.seen → OnlyReads old new
 only_reads_on old mid new first durable size peeks counts_now seen_left = grind (arith, nat_tests)
 
--- a crash still leaves what a read returns
+-- if nothing was written since a sync, each crash still leaves what a read gives
 durable_on : (mid new : Disk) → Only mid.seen mid → Peeks mid new → CountsNow new → new.may_leave new.seen → Only new.seen new
 durable_on mid new durable peeks counts_now seen_left c left i =
     let crash : (x : Image) → new.may_leave x → mid.may_leave x = λ x now. ends {old = mid} {new = new} {P = mid.may_leave} peeks counts_now
@@ -36,7 +36,7 @@ module _ {D S : Type 0} (disk : D → Disk) (view : S → View D) (parts : S →
     looked : OnlyReads (disk device) (disk (view t).beneath)
     looked = search (arith, nat_tests, only_reads_on, still_untouched)
 
-    -- opening was refused
+    -- if opening was refused, nothing was written, and the reason holds
     pub refuses : (why : OpenFault) → (disk (view s).beneath).failures ≤ (disk (view t).beneath).failures →
         ((why ≡ fault.Failed) ↔ ((disk (view s).beneath).failures < (disk (view t).beneath).failures)) →
         ((reason : BadImage) → why ≡ fault.Bad reason → IsInconsistent (frames_of (parts s)) reason) → (back : D) →
@@ -65,7 +65,7 @@ module _ {D S : Type 0} (disk : D → Disk) (view : S → View D) (parts : S →
           ),
         )
 
-    -- the device was opened
+    -- facts if the device was opened
     module _ (banks : BanksState) (age : ℕ) (age_is : age ≡ (view s).snapshots.saved.age) (now : parts t ≡ parts s)
         (failures : (disk (view t).beneath).failures ≡ (disk (view s).beneath).failures)
         (sound : IsSoundFrames (parts s).geometry age (frames_of (parts s))) (counted :
@@ -124,7 +124,7 @@ module _ {D S : Type 0} (disk : D → Disk) (view : S → View D) (parts : S →
         failures = failures ∙ opens.failures;
       }
 
--- ---- the failures of a read, as the device counts them
+-- ---- failures of reads, counted for the store and for the device
 
 module _ (p q : Parts) (old new : Disk) (before : p.failures ≡ old.failures) (after : q.failures ≡ new.failures) where
   pub risen_later : p.failures ≤ q.failures → old.failures ≤ new.failures
@@ -137,7 +137,7 @@ module _ (p q : Parts) (old new : Disk) (before : p.failures ≡ old.failures) (
       (p.failures < q.failures)) → (why ≡ fault.Failed) ↔ (old.failures < new.failures)
   refused_cause {T} why cause = grind (arith, nat_tests)
 
--- the reason of a refusal, as that of an answer
+-- if P holds of each reason with which opening is refused, it holds of the reason in `why`
 pub refused_for : {T : Type 0} (why : OpenFault) {P : BadImage → Type 0} → ((reason : BadImage) →
     (let r : Result T OpenFault = Err why in IsErrOf r (fault.Bad reason)) → P reason) → (reason : BadImage) → why ≡ fault.Bad reason →
     P reason

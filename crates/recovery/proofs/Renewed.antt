@@ -1,14 +1,14 @@
--- Which numbers were renewed since the last checkpoint or restart, by their allocation counts.
+-- The renewed numbers: those whose allocation counts rose since the last checkpoint or restart.
 use Rattle.recovery.proofs.Names.{ℕ, Bool, false, not, Option, None, Some, List, length, replicate, slice_index_or, refl, ap, sym, arith, eq-eqb, ext_get_or}
 use Rattle.recovery.proofs.Names.{get_or-replicate, length-replicate, get_or-map-range_with_len, length-map-range_with_len, Frame, Geometry, frame_at}
 use Rattle.recovery.proofs.Names.{untouched, Snapshots, FrozenFrames, base_of, renewed_since}
 use Rattle.std.proofs.Common.{◌≡◌, ◌+◌, ◌<◌, ◌==◌, ◌∙◌}
 
--- the count of allocations of a number, among frames
+-- the allocation count of a number in a list of frames
 abbrev pub allocations_at : List Frame → ℕ → ℕ
 allocations_at fs n = (frame_at fs n).header.allocations
 
--- whether a number was renewed since
+-- whether the allocation count of a number differs between two lists of frames
 abbrev has_risen : List Frame → List Frame → ℕ → Bool
 has_risen base fs n = not (allocations_at fs n == allocations_at base n)
 
@@ -21,7 +21,7 @@ pub renewed_length : (base fs : List Frame) → length (renewed_since base fs) �
 unfolding renewed_since
 renewed_length base fs = length-map-range_with_len (has_risen base fs) 0 (length base)
 
--- at the beginning no number is renewed
+-- compared with itself, no number is renewed
 pub none_renewed : (g : Geometry) (fs : List Frame) → length fs ≡ g.nodes + g.pages → renewed_since fs fs ≡ untouched g
 unfolding untouched
 none_renewed g fs count =
@@ -33,7 +33,7 @@ none_renewed g fs count =
     renewed_at fs fs n known ∙ (ap (λ (b : Bool). not b) (eq-eqb (allocations_at fs n) (allocations_at fs n) refl)
     ∙ sym (get_or-replicate (g.nodes + g.pages) n false false (omega (arith, known, count)))))
 
--- the frames at the beginning
+-- the frames of the last checkpoint if one is frozen, else the saved frames
 abbrev pub base_by : List Frame → Option FrozenFrames → List Frame
 base_by saved o = elim o [ None ↦ saved | Some f ↦ f.frames ]
 

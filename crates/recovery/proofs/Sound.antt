@@ -1,4 +1,4 @@
--- Consistent frames are sound, part by part.
+-- Consistent frames are sound: the proof, part by part.
 use Rattle.recovery.proofs.Names.{nat_tests, ℕ, inl, inr, Bool, List, map, length, slice_index, slice_index_or, sym, ap, subst, arith, nat_lt, All, get_or-map}
 use Rattle.recovery.proofs.Names.{cases_lt, get_or_past, length-map, Cap, Capability, Void, Frame, Geometry, Content, IsWellFormed, conveyed, current_count}
 use Rattle.recovery.proofs.Names.{frame_at, headers, objects_of, void_held, AreKeepable, Follows, IsKeepable, IsKeptCap, MayBeKept, caps_in, map_content}
@@ -10,11 +10,11 @@ use Rattle.model.specs.declared.object.Content.TheVariants as content
 use Rattle.recovery.proofs.Standing.{annex_role, bank_role, content_is, free_role, length_is, limit_is, names_kind, owner_is, process_of, role_annex}
 use Rattle.recovery.proofs.Standing.{role_bank, role_free, root_of}
 
--- the consequences for a capability that may be kept
+-- a capability that may be kept is well formed
 follows_formed : (g : Geometry) (age count : ℕ) (c : Capability) → Follows g age count c → IsWellFormed c
 follows_formed g age count c f = grind (arith, nat_tests)
 
--- at each number there is a frame that may be kept, since missing ones count as free
+-- the frame at each number may be kept; numbers without a frame count as free
 pub kept_at : (g : Geometry) (age : ℕ) (fs : List Frame) → AreKeepable g age fs → (n : ℕ) → IsKeepable g age n (frame_at fs n)
 kept_at g age fs k n = grind (arith, nat_tests, get_or_past)
 
@@ -41,7 +41,7 @@ module _ (g : Geometry) (age : ℕ) (fs : List Frame) (k : AreKeepable g age fs)
   words_fit : (words : List ℕ) → All (λ w. w < 2 ^ 64) words → (i : ℕ) → slice_index words i < 2 ^ 64
   words_fit words each i = grind (arith, nat_tests, get_or_past)
 
-  -- the capabilities of a content that may be kept fill it
+  -- a content is filled if its capabilities may be kept and satisfy `IsNamed`
   filled : (c : Content Cap) → MayBeKept g age c → All (IsNamed fs) (caps_in c) →
       IsFilled (objects_of fs) (Waits (objects_of fs)) (map_content (conveyed (headers fs)) c)
   filled content.Free kept named = grind (arith, nat_tests, held_void)

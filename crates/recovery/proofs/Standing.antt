@@ -1,4 +1,4 @@
--- The frame at a number, and the object that it stands for.
+-- The frame and the object at a number.
 use Rattle.recovery.proofs.Names.{arith, ℕ, zero, suc, Bool, true, List, Option, Some, length, sym, ap, nat_tests, IsTrue, get_or-map, eqb-true, length-map}
 use Rattle.recovery.proofs.Names.{Capability, Frame, Content, Object, Role, blank_frame, conveyed, frame_at, header_at, headers, object_of, objects_of}
 use Rattle.recovery.proofs.Names.{is_annex, is_bank, is_free, is_node, is_page, is_root, is_waiting, limit_in, map_content, role_number, role_of, NamesItsKind}
@@ -7,7 +7,7 @@ use Rattle.recovery.proofs.Names.{is_waiting_root, owner_of, role_at}
 use Rattle.std.proofs.Common.{◌≡◌, ◌==◌, ◌∙◌}
 use Rattle.model.specs.declared.object.Role.TheVariants as role
 
--- the header, the content and the owner at a number
+-- the header at a number is that of its frame
 pub header_is : (fs : List Frame) (n : ℕ) → header_at (headers fs) n ≡ (frame_at fs n).header
 header_is fs n = get_or-map (λ (f : Frame). f.header) fs n blank_frame
 
@@ -50,7 +50,7 @@ record AreTested {C : Type 0} (c : Content C) : Type 0 where
 tested : {C : Type 0} (c : Content C) → AreTested c
 tested {C} c = grind (arith, nat_tests)
 
--- two equal options have the same number
+-- the values of equal options are equal
 pub some_same : (a b : ℕ) → (let x : Option ℕ = Some a in x) ≡ Some b → a ≡ b
 some_same a b same = cc
 
@@ -62,7 +62,7 @@ module _ (fs : List Frame) (p : ℕ) where
   annex_is : annex_in (content_at (objects_of fs) p) ≡ annex_in (frame_at fs p).content
   annex_is = grind (arith, nat_tests, content_is)
 
-  -- a number is a process exactly if it is a root with its annex
+  -- if p is a process, its frame is a root that names the process's annex
   pub root_of : IsTrue (is_process (objects_of fs) p) → IsRootOf fs p (annex_at (objects_of fs) p)
   root_of process = grind (arith, nat_tests, annex_is)
 
@@ -79,7 +79,7 @@ module _ (fs : List Frame) (p : ℕ) where
   waits_of : IsTrue (is_waiting (root_at (objects_of fs) p).state) → IsTrue (is_waiting_root (frame_at fs p).content)
   waits_of waits = grind (arith, nat_tests, waiting_is)
 
--- the kinds of objects follow from the roles of frames, and conversely
+-- the kind of an object follows from its frame's role, and conversely
 module _ (fs : List Frame) (roles : HaveTheirRoles fs) (n : ℕ) where
   role_is : role_of (content_at (objects_of fs) n) ≡ role_at fs n
   role_is = ap (λ (c : Content Capability). role_of c) (content_is fs n) ∙ (mapped (conveyed (headers fs)) (frame_at fs n).content).role
@@ -127,7 +127,7 @@ module _ (fs : List Frame) (roles : HaveTheirRoles fs) (n : ℕ) where
   pub role_bank : role_at fs n ≡ role.Bank → is_bank (content_at (objects_of fs) n) ≡ true
   role_bank = of_role role.Bank (is_bank (content_at (objects_of fs) n)) (tested (content_at (objects_of fs) n)).bank
 
--- the object that a capability names
+-- a capability names an object of its kind exactly if the frame has the capability's role
 module _ (fs : List Frame) (roles : HaveTheirRoles fs) where
   pub names_kind : (c : Capability) → NamesItsRole fs c → NamesItsKind (objects_of fs) c
   names_kind c names = grind (arith, nat_tests, role_page, role_node, role_root, waiting_of, role_bank)

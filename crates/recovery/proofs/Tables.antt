@@ -1,11 +1,11 @@
--- What the headers and contents in memory say about frames.
+-- Facts about frames, from the headers and contents in memory.
 use Rattle.recovery.proofs.Names.{nat_tests, ℕ, List, length, sym, ap, arith, get_or_past, Cap, Frame, ObjectHeader, Content, blank_frame, frame_at, header_at}
 use Rattle.recovery.proofs.Names.{headers, held_at, Parts, frames_of, frame_in, headers_in, length_in, role_at}
 use Rattle.std.proofs.Common.{◌≡◌, ◌<◌, ◌≤◌, ◌∙◌}
 use Rattle.model.specs.declared.object.Role.TheVariants as role
 use Rattle.recovery.proofs.Standing.{header_is}
 
--- a header that was read
+-- a header that was read is the one in the frame
 pub header_read : (p : Parts) (hs : List ObjectHeader) (h : ObjectHeader) (n : ℕ) → hs ≡ p.headers → h ≡ header_at hs n →
     h ≡ (frame_at (frames_of p) n).header
 header_read p hs h n table is =
@@ -13,16 +13,16 @@ header_read p hs h n table is =
     ∙ ap (λ (ks : List ObjectHeader). header_at ks n) (table ∙ sym (headers_in p.headers p.contents))
     ∙ header_is (frames_of p) n
 
--- a content that was read
+-- a content that was read is the one in the frame
 pub content_read : (p : Parts) (n : ℕ) (c : Content Cap) → n < length p.headers → c ≡ held_at p.contents n →
     c ≡ (frame_at (frames_of p) n).content
 content_read p n c known is = is ∙ sym (ap (λ (f : Frame). f.content) (frame_in p.headers p.contents n known))
 
--- the table is that of the frames
+-- the table has the headers of the frames
 pub table_read : (p : Parts) (hs : List ObjectHeader) → hs ≡ p.headers → hs ≡ headers (frames_of p)
 table_read p hs table = table ∙ sym (headers_in p.headers p.contents)
 
--- past the table there is no frame, so each number with another role than free is in the table
+-- a number past the table has no frame, and counts as free
 pub frame_beyond : (p : Parts) (n : ℕ) → length p.headers ≤ n → frame_at (frames_of p) n ≡ blank_frame
 frame_beyond p n past = get_or_past (frames_of p) n blank_frame (omega (arith, length_in p.headers p.contents, past))
 

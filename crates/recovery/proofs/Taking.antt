@@ -1,4 +1,4 @@
--- Annexes, as roots take them.
+-- Each root takes its annex.
 use Rattle.recovery.proofs.Names.{nat_tests, ℕ, Bool, true, List, length, arith, get_or-set_same, get_or-set_other, Frame, Parts, frames_of, AreWholeProcesses}
 use Rattle.recovery.proofs.Names.{IsRootOf, role_at, AreTaken, IsTaking, is_taken}
 use Rattle.std.proofs.Common.{◌≡◌, ◌+◌, ◌<◌}
@@ -6,22 +6,22 @@ use Rattle.model.specs.declared.object.Role.TheVariants as role
 use Rattle.recovery.proofs.Standing.{some_same}
 use Rattle.recovery.proofs.Tables.{frame_beyond}
 
--- a root is a number of the table
+-- a root's number is in the table
 pub root_known : (p : Parts) (r a : ℕ) → IsRootOf (frames_of p) r a → r < length p.headers
 root_known p r a root = grind (arith, nat_tests, frame_beyond)
 
--- the annexes taken by the roots below a number, and the next number
+-- the roots below n have taken their annexes; facts about n
 module _ (fs : List Frame) (n : ℕ) (old : List Bool) (before : AreTaken fs n old) where
-  -- the next number isn't a root
+  -- if n isn't a root, nothing more is taken
   pub taken_same : ((a : ℕ) → IsRootOf fs n a → ⊥) → AreTaken fs (n + 1) old
   taken_same other = grind (arith, nat_tests)
 
-  -- the next number is a root, and takes its annex
+  -- if n is a root and takes its annex, the roots below n + 1 have
   module _ (new : List Bool) (a : ℕ) (root : IsRootOf fs n a) (takes : IsTaking fs n a old new) (room : a < length old) where
     pub taken_more : AreTaken fs (n + 1) new
     taken_more = grind (arith, nat_tests, some_same, get_or-set_same, get_or-set_other)
 
--- the annexes taken by all roots
+-- facts after all roots have taken their annexes
 module _ (p : Parts) (taken : List Bool) (all : AreTaken (frames_of p) (length p.headers) taken) where
   pub whole_taken : ((a : ℕ) → role_at (frames_of p) a ≡ role.Annex → is_taken taken a ≡ true) → AreWholeProcesses (frames_of p)
   whole_taken each = grind (arith, nat_tests, root_known)

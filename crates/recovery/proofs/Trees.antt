@@ -12,7 +12,7 @@ use Rattle.recovery.proofs.Sound.{kept_at}
 use Rattle.recovery.proofs.Standing.{bank_role, free_role, limit_is, owner_is, role_bank, role_free}
 use Rattle.recovery.proofs.Tables.{bank_known, role_known}
 
--- a list contains a number exactly if the test finds it
+-- a list contains number 0 exactly if the test finds it
 any_of : (xs : List ℕ) → Contains xs 0 → list_any (nat_eq 0) xs ≡ true
 any_of xs h = go xs h.0 h.1 h.2
   where
@@ -27,14 +27,14 @@ reaches b xs P is p = (
   λ there. is ∙ any_of xs (there p),
 )
 
--- all numbers
+-- if number 0, and all numbers below n, satisfy the rules of owners and chains, and no object has a greater number, `AreOwned` holds
 module _ (p : Parts) (hs : List ObjectHeader) (count n : ℕ) (table : hs ≡ p.headers) (all : count ≡ length hs) (past : count ≤ n) where
   pub owned_whole : (role_at (frames_of p) 0 ≡ role.Bank) × (owner_of (frames_of p) 0 ≡ 0) →
       ((m : ℕ) → m < n → role_at (frames_of p) m ≢ role.Free → role_at (frames_of p) (owner_of (frames_of p) m) ≡ role.Bank) →
       ((b : ℕ) → b < n → role_at (frames_of p) b ≡ role.Bank → Contains (chain (objects_in p) b) 0) → AreOwned (frames_of p)
   owned_whole prime owners chains = grind (arith, nat_tests, role_known)
 
--- owned objects are a tree
+-- banks that own all objects form a tree
 module _ (g : Geometry) (age : ℕ) (fs : List Frame) (k : AreKeepable g age fs) where
   roles : HaveTheirRoles fs
   roles = keepable_roles g age fs k
@@ -48,7 +48,7 @@ module _ (g : Geometry) (age : ℕ) (fs : List Frame) (k : AreKeepable g age fs)
     chains = λ b bank. owned.chains b (bank_role fs roles b bank);
   }
 
--- limits by number, against usages
+-- usages and limits, number by number
 module _ (g : Geometry) (age : ℕ) (p : Parts) (k : AreKeepable g age (frames_of p)) (hs : List ObjectHeader) (count : ℕ)
     (table : hs ≡ p.headers)
     (all : count ≡ length hs) where
@@ -84,7 +84,7 @@ module _ (g : Geometry) (age : ℕ) (p : Parts) (k : AreKeepable g age (frames_o
         let bank = role_bank (frames_of p) (keepable_roles g age (frames_of p) k) b is.0 in
         (is.0, is.1 ∙ used b bank, is.2 ∙ limit_there b (bank_counted b bank), is.3, owned, λ m less role. within m role (is.4 m less role))
 
-    -- the first bank whose usage is above its limit, or none
+    -- the search finds the first bank whose usage is above its limit, or none is
     pub limited : AreOwned (frames_of p) → (found : Option Unbanked)
         → MatchOption found ((b : ℕ) → role_at (frames_of p) b ≡ role.Bank → slice_index usages b ≤ slice_index limits b)
         (λ why. IsAboveLimit (frames_of p) usages limits why)

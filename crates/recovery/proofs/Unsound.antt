@@ -1,4 +1,4 @@
--- Sound frames have no reason of inconsistency.
+-- No reason of inconsistency holds for sound frames.
 use Rattle.recovery.proofs.Names.{nat_tests, ℕ, List, Option, Some, map, slice_index_or, sym, ap, subst, arith, IsTrue, All, get_or-map, All-from_get_or, Cap}
 use Rattle.recovery.proofs.Names.{Capability, Void, Frame, Geometry, Content, conveyed, current_count, frame_at, headers, objects_of, void_held, IsSoundFrames}
 use Rattle.recovery.proofs.Names.{caps_in, is_annex, map_content, root_in, slots_in, MayBeHeld, content_at, owner_at, HaveTheirRoles, keepable_roles}

@@ -1,4 +1,4 @@
--- The machine that an open store stands for.
+-- The machine of an open store.
 use Rattle.recovery.specs.Names.{ℕ, Bool, not, Option, None, Some, List, [], length, map, range_with_len, Frame}
 use Rattle.recovery.specs.Names.{Geometry, frame_at, Snapshots, IsSoundFrames, world_at, Frozen, Running, Disk, Parts}
 use Rattle.recovery.specs.Names.{frames_of, objects_in, FrozenFrames, View, AreCounted, BanksState}
@@ -6,21 +6,21 @@ use Rattle.std.specs.Prelude.{◌≡◌, ◌<◌, ◌≤◌, ◌==◌, ◌∷◌
 use Rattle.recovery.specs.declared.live.Live.{Live}
 use Rattle.recovery.specs.Denotes.{saved_of, IsSoundSaved, Leaves}
 
--- the frozen checkpoint that frozen frames stand for at an age
+-- the frozen checkpoint of the machine, from the frozen frames and their age
 abbrev pub frozen_of : ℕ → Option FrozenFrames → Option Frozen
 frozen_of age None = None
 frozen_of age (Some f) = Some (record { world = world_at age f.frames; size = f.size; left = f.left })
 
--- the frames that the last checkpoint or restart began from
+-- the frames with which the last checkpoint or restart began
 abbrev pub base_of : Snapshots FrozenFrames → List Frame
 base_of a = elim a.frozen [ None ↦ a.saved.frames | Some f ↦ f.frames ]
 
--- which numbers have another allocation count than in `base`
+-- which numbers have a different allocation count than in `base`
 unfoldable pub renewed_since : List Frame → List Frame → List Bool
 renewed_since base fs = map (λ n. not ((frame_at fs n).header.allocations == (frame_at base n).header.allocations))
     (range_with_len 0 (length base))
 
--- the machine of these present frames, and of the frozen and saved state
+-- the machine of these present frames, and of this frozen and saved state
 abbrev pub running_of : Parts → Snapshots FrozenFrames → ℕ → ℕ → Running
 running_of p snapshots age frozen_age = record {
   now = world_at age (frames_of p);
@@ -31,13 +31,14 @@ running_of p snapshots age frozen_age = record {
   to_move = snapshots.to_move;
 }
 
--- frozen frames are sound at their age, which lies between the saved age and the present one
+-- frozen frames are sound at their age, which lies above the saved age and up to the present one
 pub record IsSoundFrozen (g : Geometry) (saved_age frozen_age age : ℕ) (f : FrozenFrames) : Type 0 where
   pub after : saved_age < frozen_age
   pub before : frozen_age ≤ age
   pub sound : IsSoundFrames g frozen_age f.frames
 
--- all frames of a kernel are sound, the state of the banks agrees with them, and no allocation count has fallen
+-- the invariant of a kernel's frames: all are sound, the banks' state agrees with them, and no allocation count has
+-- fallen
 pub record AreSoundTogether (g : Geometry) (p : Parts) (snapshots : Snapshots FrozenFrames) (banks : BanksState)
     (age frozen_age : ℕ) : Type 0 where
   pub geometry : p.geometry ≡ g
@@ -49,16 +50,16 @@ pub record AreSoundTogether (g : Geometry) (p : Parts) (snapshots : Snapshots Fr
   pub risen : (n : ℕ) → (frame_at (base_of snapshots) n).header.allocations ≤
       (frame_at (frames_of p) n).header.allocations
 
--- The parameters are ghost members of a device and of an object store.
+-- The parameters are the ghost members of a device and of an object store.
 module _ {D S : Type 0} (disk : D → Disk) (view : S → View D) (parts : S → Parts) where
-  -- the machine of a store, which is up
+  -- the machine of an open store
   abbrev pub running : Live S → Running
   running l = running_of (parts l.store) (view l.store).snapshots l.age l.frozen_age
 
   abbrev pub disk_at : Live S → Disk
   disk_at l = disk (view l.store).beneath
 
-  -- a store that serves a machine: it is usable and sound, and a crash leaves what is saved
+  -- an open store can be used, all its frames are sound, and each crash leaves what is saved
   pub record IsUp (g : Geometry) (l : Live S) : Type 0 where
     pub store : (view l.store).usable
     pub sound : AreSoundTogether g (parts l.store) (view l.store).snapshots l.banks l.age l.frozen_age

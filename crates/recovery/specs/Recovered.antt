@@ -1,4 +1,4 @@
--- The outcomes of opening a device.
+-- The results of opening a device.
 use Rattle.recovery.specs.Names.{ℕ, opened, Only, Image, Disk, BadImage, IsBadBy, OpenFault, OnlyReads, SavedFrames}
 use Rattle.recovery.specs.Names.{Holds, Parts, frames_of, View}
 use Rattle.std.specs.Prelude.{◌≡◌, ◌⊎◌, ◌<◌}
@@ -8,7 +8,7 @@ use Rattle.recovery.specs.declared.live.Live.{Live}
 use Rattle.recovery.specs.Denotes.{saved_of}
 use Rattle.recovery.specs.Live.{IsUp, disk_at, running}
 
--- the least of the ten reasons to refuse an image
+-- this is the least of the ten reasons that holds for an image
 abbrev pub IsBad : ℕ → Image → BadImage → Type 0
 IsBad size c reason =
     IsBadBy c size reason
@@ -25,10 +25,10 @@ pub record RefusesToOpen {D : Type 0} (disk : D → Disk) (device back : D) (why
   pub is_why : IsWhy (disk device) (disk back) why
   pub only_reads : OnlyReads (disk device) (disk back)
 
--- The parameters are ghost members of a device and of an object store.
+-- The parameters are the ghost members of a device and of an object store.
 module _ {D S : Type 0} (disk : D → Disk) (view : S → View D) (parts : S → Parts) where
-  -- a device was opened, and nothing was written: the store is up at what is saved, and a crash leaves what a read
-  -- gives
+  -- A device was opened, and nothing was written: the store is up at the saved state, and each crash leaves what a
+  -- read gives.
   pub record Recovers (device : D) (l : Live S) : Type 0 where
     pub holds : Holds (disk device).sectors (disk device).seen (view l.store).snapshots.saved
     pub up : IsUp disk view parts (view l.store).snapshots.saved.geometry l

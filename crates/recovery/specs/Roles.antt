@@ -1,8 +1,8 @@
--- The role that an object must have for a capability to it.
+-- The role of an object that a capability names.
 use Rattle.recovery.specs.Names.{Capability, Page, Node, Space, Process, Start, Resume, Bank, Role}
 use Rattle.model.specs.declared.object.Role.TheVariants as role
 
--- the role of the object that a capability is for; free if it names none
+-- the role that the object of a capability must have; free if the capability names no object
 abbrev pub role_for : Capability → Role
 role_for (Page o a) = role.Page
 role_for (Node o a) = role.Node

@@ -1,4 +1,4 @@
-// A store that serves.
+// An open store, with its banks and ages.
 ghost use Rattle.std.specs.Prelude.{◌≡◌};
 
 use space_bank::Banks;
@@ -8,14 +8,14 @@ use space_bank::Banks;
 pub struct Live<S> {
     pub store: S,
     pub banks: Banks,
-    /// The age now.
+    /// The present age.
     pub age: u64,
     /// The age of the frozen state, if there is one.
     pub frozen_age: u64,
 }
 
 impl<S: Drop> Live<S> {
-    /// The store. The rest is dropped.
+    /// Returns the store. The rest is dropped.
     pub fn into_store(self) -> S
         ensures { result ≡ self.store }
     {

@@ -15,7 +15,7 @@ use layout::BadImage;
 use space_bank::Banks;
 use std::alloc::Global;
 
-// Checks that the frames of a store stand for a sound world at an age, and counts its banks.
+// Checks that the world of a store's frames is sound at an age, and computes the state of its banks.
 fn examine<F: Frames>(alloc: Global, store: &mut F, age: u64) -> Result<Banks, OpenFault>
     requires usable { F.IsUsable store.old }
     requires keepable { AreKeepable (F.parts store.old).geometry age
@@ -38,8 +38,8 @@ fn examine<F: Frames>(alloc: Global, store: &mut F, age: u64) -> Result<Banks, O
 
 /// Opens the device at the saved state that its sectors denote, and writes nothing to it.
 ///
-/// A refusal gives the device back: `Failed` exactly if the device failed, `NoMemory` if memory ran
-/// out, and else `Bad` with the least of the ten reasons to refuse an image.
+/// A refusal returns the device, with `Failed` exactly if the device failed, `NoMemory` if memory ran out,
+/// and else `Bad` with the least of the ten reasons that holds.
 pub fn recover<D: Device, S: ObjectStore<D>>(
     alloc: Global,
     device: D,
@@ -52,7 +52,7 @@ pub fn recover<D: Device, S: ObjectStore<D>>(
     recover_in(alloc, device, setting, &mut None)
 }
 
-/// The same as `recover`. The store takes from `memory` what it can use.
+/// As `recover`, but the store may take over `memory`, instead of allocating its own.
 pub fn recover_in<D: Device, S: ObjectStore<D>>(
     alloc: Global,
     device: D,

@@ -3,7 +3,7 @@ use Rattle.seal.proofs.Names.{ℕ, zero, suc, List, [], length, get_or, inl, inr
 use Rattle.std.proofs.Common.{◌≡◌, ◌+◌, ◌-◌, ◌*◌, ◌^◌, ◌<◌, ◌≤◌, ◌∷◌}
 use Rattle.seal.proofs.Weights.{one, place, sums, triangle}
 
--- the weights of n numbers together
+-- the sum of the weights of n places
 abbrev weights : (ℕ → ℕ) → ℕ → ℕ
 weights weight zero = 0
 weights weight (suc n) = weight (suc n) + weights weight n

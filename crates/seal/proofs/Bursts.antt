@@ -24,7 +24,7 @@ same_byte x y q bx by same =
     same_from_bits_below 8 (get_or x q 0) (get_or y q 0) (bx q) (by q) (λ j lt. sym (bit_in_byte x q j lt) ∙ same j lt
     ∙ bit_in_byte y q j lt)
 
--- bytes that differ at most in the twelve bytes of three numbers from number w on
+-- rows that differ at most in the twelve bytes of numbers w, w + 1 and w + 2
 pub record IsNear (w : ℕ) (x y : List ℕ) : Type 0 where
   pub before : (q : ℕ) → q < 4 * w → get_or x q 0 ≡ get_or y q 0
   pub after : (q : ℕ) → 4 * w + 12 ≤ q → get_or x q 0 ≡ get_or y q 0
@@ -35,7 +35,7 @@ near i x y rx ry burst = record {
   after = λ q ge. same_byte x y q (are_bytes x rx.bytes) (are_bytes y ry.bytes) (λ j small. burst.after (8 * q + j) (omega arith));
 }
 
--- lists that are equal except at n places from w on differ in at most n places
+-- if two lists of one length differ only in the n places from w on, they differ in at most n places
 pub few_differ : (n w : ℕ) (xs ys : List ℕ) → length xs ≡ length ys → ((k : ℕ) → k < w → get_or xs k 0 ≡ get_or ys k 0)
     → ((k : ℕ) → w + n ≤ k → get_or xs k 0 ≡ get_or ys k 0) → differences xs ys ≤ n
 few_differ n w [] [] len before after = omega arith

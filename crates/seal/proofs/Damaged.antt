@@ -20,7 +20,7 @@ row_words row r =
     let small = sums_small row r in
     record { a = omega (arith, small.a); b = omega (arith, small.b); c = omega (arith, small.c) }
 
--- ---- a sealed row is its body and their sums
+-- ---- a sealed row is its body and the body's sums
 
 pub bodies_decide : BodiesDecideSeals
 bodies_decide x y sx sy same =
@@ -80,7 +80,7 @@ module _ (w : ℕ) (x y : List ℕ) (rx : IsRow x) (ry : IsRow y) (len : length 
   row_y : IsRow (body_of y)
   row_y = body_row y (sealed_room y sy) ry
 
-  -- if the burst is before the seal: the seals are the same, and so are the sums
+  -- if the burst lies before the seal, the bodies are equal, because the seals are equal, and so are the sums
   in_body : 4 * w + 12 ≤ length x - 24 → body_of x ≡ body_of y
   in_body clear =
       let tails : seal_of x ≡ seal_of y =
@@ -90,7 +90,7 @@ module _ (w : ℕ) (x y : List ℕ) (rx : IsRow x) (ry : IsRow y) (len : length 
       (sym sx ∙ tails ∙ sy) in
       near_changes w (body_of x) (body_of y) row_x row_y (same_length x y len) (body_near w x y len is) sums
 
-  -- if the burst is in the seal: the bodies are the same
+  -- if the burst lies in the seal, the bodies are equal
   in_seal : length x - 24 ≤ 4 * w → body_of x ≡ body_of y
   in_seal late =
       same_lists (body_of x) (body_of y) (same_length x y len) (λ q d lt.
@@ -98,7 +98,7 @@ module _ (w : ℕ) (x y : List ℕ) (rx : IsRow x) (ry : IsRow y) (len : length 
       get_or_default (body_of x) q d 0 lt ∙ body_byte x y q len (is.before q (omega (arith, lt, length_body x, late)))
       ∙ get_or_default (body_of y) q 0 d inside)
 
-  -- if the burst is in both: b and c are the same, and at most two numbers of the body differ
+  -- if the burst lies across body and seal, the bodies are equal: b and c are equal, and at most two numbers differ
   across : 4 * w < length x - 24 → length x - 24 < 4 * w + 12 → body_of x ≡ body_of y
   unfolding sums_of
   across early late =

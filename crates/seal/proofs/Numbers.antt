@@ -13,7 +13,7 @@ pub number_there : (row : List ℕ) (k : ℕ) → k < length row / 4 → get_or 
 unfolding numbers
 number_there row k lt = get_or-map-range_with_len (λ (j : ℕ). little_number 4 (drop (4 * j) row)) 0 (length row / 4) k k 0 lt (omega arith)
 
--- a number as the sum of its four bytes, weighted
+-- a number is the weighted sum of its four bytes, lowest byte first
 number_of : (row : List ℕ) (at : ℕ) → little_number 4 (drop at row)
     ≡ get_or row (at + 0) 0 + 256 * (get_or row (at + 1) 0 + 256 * (get_or row (at + 2) 0 + 256 * get_or row (at + 3) 0))
 number_of row at = omega (arith, get_or-drop at row 0 0, get_or-drop at row 1 0, get_or-drop at row 2 0, get_or-drop at row 3 0)
@@ -21,7 +21,7 @@ number_of row at = omega (arith, get_or-drop at row 0 0, get_or-drop at row 1 0,
 abbrev pub AreBytes : List ℕ → Type 0
 AreBytes row = (i : ℕ) → get_or row i 0 < 256
 
--- the numbers of bytes are below 2^32
+-- each number of a row of bytes is below 2^32
 pub numbers_small : (row : List ℕ) → AreBytes row → AreBelow (2 ^ 32 - 1) (numbers row)
 numbers_small row small k =
     elim (cases_lt k (length row / 4)) [

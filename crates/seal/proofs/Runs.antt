@@ -1,4 +1,4 @@
--- Numbers that differ at three places at most have different sums.
+-- Two lists that differ in at most three numbers have different sums.
 use Rattle.seal.proofs.Names.{ℕ, List, [], length, ap, sym, subst, refl, inl, inr, arith, cases_eq, cases_order, nat_tests, length_push, same_from_push}
 use Rattle.seal.proofs.Names.{differences, weighted, Sums}
 use Rattle.std.proofs.Common.{◌≡◌, ◌+◌, ◌<◌, ◌≤◌, ◌∷◌, ◌++◌, ◌∙◌}
@@ -45,18 +45,18 @@ one_more x y (z ∷ xs) (w ∷ ys) len =
           omega (arith, other_heads z w xs ys ne, other_heads z w (xs ++ x ∷ []) (ys ++ y ∷ []) ne, one_more x y xs ys (omega (arith, len)))
     ]
 
--- ---- from the end backwards: what equal sums at the end say of the sums before
+-- ---- from the last number backwards: what equal sums at the end imply of the sums before
 
 abbrev Same : Sums → Sums → Type 0
 Same s t = (s.a ≡ t.a) × (s.b ≡ t.b) × (s.c ≡ t.c)
 
--- after the last difference the sums are the same
+-- if two runs over the same numbers end with equal sums, they started with equal sums
 none_left : (s t : Sums) (hs : List ℕ) → Same (run s hs) (run t hs) → Same s t
 none_left s t [] same = same
 none_left s t (h ∷ hs) same = let next = none_left (step s h) (step t h) hs same in
     (omega (arith, next), omega (arith, next), omega (arith, next))
 
--- before the last difference, b and c balance the difference in a
+-- how b and c must differ, given which list has the greater a, if the sums are to be equal after one more difference
 record IsBalanced (s t : Sums) : Type 0 where
   pub less_b : s.a < t.a → t.b ≤ s.b
   pub less_c : s.a < t.a → s.c ≤ t.c
@@ -106,7 +106,7 @@ one_left s t (x ∷ xs) (y ∷ ys) len few same =
           }
     ]
 
--- if all three sums are greater, two differences don't make them equal again
+-- if all three sums of s are greater than those of t, lists with at most two differences don't make them equal
 two_left : (s t : Sums) (xs ys : List ℕ) → length xs ≡ length ys → differences xs ys ≤ 2 → t.a < s.a → t.b < s.b → t.c < s.c →
     Same (run s xs) (run t ys) → ⊥
 two_left s t [] [] len few a b c same = omega (arith, same)
@@ -126,7 +126,7 @@ two_left s t (x ∷ xs) (y ∷ ys) len few a b c same =
           ]
     ]
 
--- from equal sums on, at most three differences change one of the sums
+-- if lists differ in at most three numbers, and give equal sums from the same start, they are equal
 three_left : (s : Sums) (xs ys : List ℕ) → length xs ≡ length ys → differences xs ys ≤ 3 → Same (run s xs) (run s ys) → xs ≡ ys
 three_left s [] [] len few same = refl
 three_left s [] (y ∷ ys) len few same = absurd (omega (arith, len))
@@ -157,7 +157,7 @@ three_told xs ys len few e =
     let runs : run (sums []) xs ≡ run (sums []) ys = run_is xs ∙ e ∙ sym (run_is ys) in
     three_left (sums []) xs ys len few (ap (λ (s : Sums). s.a) runs, ap (λ (s : Sums). s.b) runs, ap (λ (s : Sums). s.c) runs)
 
--- b and c reveal two differences: with one more number, which balances a, the lists differ at three places
+-- lists that differ in at most two numbers, and have the same b and c, are equal
 pub two_told : (xs ys : List ℕ) → length xs ≡ length ys → differences xs ys ≤ 2 → weighted place xs ≡ weighted place ys →
     weighted triangle xs ≡ weighted triangle ys → xs ≡ ys
 two_told xs ys len few b c =

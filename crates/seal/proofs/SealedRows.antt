@@ -20,7 +20,7 @@ three_tests a b c d e f test is passes = grind (arith, nat_tests)
 tests_pass : (a b c d e f : ℕ) (test : Bool) → test ≡ (eqb a d && (eqb b e && eqb c f)) → a ≡ d → b ≡ e → c ≡ f → test ≡ true
 tests_pass a b c d e f test is same_a same_b same_c = grind (arith, nat_tests)
 
--- the sums that were read are those of the body exactly if the row is sealed
+-- the sums read from the seal are those of the body exactly if the row is sealed
 pub seal_decides : (row : List ℕ) (s t : Sums) (test : Bool) → AreBytes row → length row % 4 ≡ 0 → 24 ≤ length row → length row ≤ 4096 →
     AreWords s → drop (length row - 24) row ≡ sums_bytes s ++ drop (length row - 24 + 24) row → t ≡ sums_of (take (length row - 24) row)
     → test ≡ (eqb s.a t.a && (eqb s.b t.b && eqb s.c t.c)) → (test ≡ true → IsSealed row) × (IsSealed row → test ≡ true)

@@ -25,7 +25,7 @@ two_numbers a b d e a' b' d' e' same =
     let first = number_first a d (little_bytes 8 b) (little_bytes 8 e) a' d' same in
     (first.0, (number_first b e [] [] b' e' first.1).0)
 
--- given bytes encode one value of sums
+-- values of sums with the same bytes are equal
 pub one_spelling : (s t : Sums) → AreWords s → AreWords t → sums_bytes s ≡ sums_bytes t → s ≡ t
 unfolding sums_bytes
 one_spelling s t small small' e =
@@ -34,7 +34,7 @@ one_spelling s t small small' e =
     let rest = two_numbers s.b s.c t.b t.c small.b small.c small'.b small'.c first.1 in
     same_sums s t first.0 rest.0 rest.1
 
--- after the first eight bytes they encode b and c
+-- bytes 8 to 23 of the sums determine b and c
 pub tail_spelling : (s t : Sums) → AreWords s → AreWords t → drop 8 (sums_bytes s) ≡ drop 8 (sums_bytes t) → (s.b ≡ t.b) × (s.c ≡ t.c)
 unfolding sums_bytes
 tail_spelling s t small small' e = two_numbers s.b s.c t.b t.c small.b small.c small'.b small'.c e
@@ -52,7 +52,7 @@ length_sums s = refl
 as_le : (xs : List ℕ) → little_number 8 xs ≡ from_le_bytes w64 xs
 as_le xs = omega arith
 
--- eight bytes are the encoding of the number that they encode
+-- the bytes of the number that eight bytes encode are these eight bytes
 number_back : (xs : List ℕ) → length xs ≡ 8 → AreBytes xs → little_bytes 8 (little_number 8 xs) ≡ xs
 number_back xs l small = le_bytes_8 xs (little_number 8 xs) l small (as_le xs)
 
@@ -102,7 +102,7 @@ written bytes buf at n room is =
     ap (λ (t : List ℕ). little_bytes 8 n ++ t) (drop-drop 8 at bytes) in
     rw (past, whole, append-nil) (sym (append_assoc (take at bytes) (little_bytes 8 n) (drop (at + 8) bytes)))
 
--- writing one number after another
+-- writing one number after the front extends the front by it
 behind : (old mid new front number : List ℕ) (at : ℕ) → length front ≡ at → length number ≡ 8 → mid ≡ front ++ drop at old →
     new ≡ (take at mid ++ number) ++ drop (at + 8) mid → new ≡ (front ++ number) ++ drop (at + 8) old
 behind old mid new front number at len eight was is =

@@ -1,4 +1,4 @@
--- The sums of a row, while they are added up.
+-- The sums of a row, as they are added up.
 use Rattle.seal.proofs.Names.{ℕ, List, [], length, get_or, take, drop, ap, sym, subst, refl, inl, inr, arith, length-take, take_all, take_more, take_rest}
 use Rattle.seal.proofs.Names.{get_or-take, get_or_past, cases_lt, little_number, Fit, numbers, sums_of, Sums}
 use Rattle.std.proofs.Common.{◌≡◌, ◌+◌, ◌-◌, ◌*◌, ◌/◌, ◌^◌, ◌<◌, ◌≤◌, ◌∷◌, ◌++◌, ◌∙◌}
@@ -27,7 +27,7 @@ summed_more row i h s lt is was =
       whole = ap (λ (t : Sums). step t h) was.whole ∙ sums_push (take i hs) h ∙ ap sums (sym longer);
     }
 
--- the sums fit their bound
+-- the sums of the first i numbers are below 2^60
 pub summed_fits : (row : List ℕ) (i : ℕ) (s : Sums) → AreBytes row → length row ≤ 4096 → IsSummed row i s → Fit s
 summed_fits row i s bytes short was =
     let hs : List ℕ = take i (numbers row) in
@@ -43,7 +43,7 @@ pub summed_all : (row : List ℕ) (i : ℕ) (s : Sums) → length row / 4 ≤ i 
 unfolding sums_of
 summed_all row i s past was = was.whole ∙ ap sums (take_all i (numbers row) (omega (arith, length_numbers row, past)))
 
--- adding one more number to the sums
+-- adding number h to the sums gives the sums of one more number, without overflow
 pub record Goes (row : List ℕ) (i h : ℕ) (s : Sums) : Type 0 where
   pub a : s.a + h < 2 ^ 60
   pub b : s.b + (s.a + h) < 2 ^ 60

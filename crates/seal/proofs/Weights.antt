@@ -1,8 +1,8 @@
--- The sums of numbers, one more number at a time.
+-- The sums of numbers, as one number after another is added.
 use Rattle.seal.proofs.Names.{ℕ, suc, List, [], length, ap, sym, arith, append_assoc, append-nil, length_push, add-mul, mul_comm, weighted, Sums}
 use Rattle.std.proofs.Common.{◌≡◌, ◌+◌, ◌*◌, ◌/◌, ◌∷◌, ◌++◌, ◌∙◌}
 
--- the weights of a, b and c
+-- the weights of a, b and c by place
 abbrev pub one : ℕ → ℕ
 one k = 1
 
@@ -30,7 +30,7 @@ pub a_push : (h : ℕ) (hs : List ℕ) → weighted one (hs ++ h ∷ []) ≡ wei
 a_push h [] = omega arith
 a_push h (x ∷ hs) = omega (arith, a_push h hs)
 
--- a number at the end moves all places by one
+-- if h is added at the end, the place of each other number rises by one, so b grows by a + h
 pub b_push : (h : ℕ) (hs : List ℕ) → weighted place (hs ++ h ∷ []) ≡ weighted place hs + (weighted one hs + h)
 b_push h [] = omega arith
 b_push h (x ∷ hs) =
@@ -48,7 +48,7 @@ c_push h (x ∷ hs) =
     ap (λ (k : ℕ). triangle k * x) longer ∙ ap (λ (w : ℕ). w * x) (triangle_more n) ∙ add-mul (triangle n) (n + 1) x in
     omega (arith, moved, add-mul n 1 x, c_push h hs)
 
--- ---- the sums as one number after the other changes them
+-- ---- the sums after one more number
 
 abbrev pub step : Sums → ℕ → Sums
 step s h = record { a = s.a + h; b = s.b + (s.a + h); c = s.c + (s.b + (s.a + h)) }

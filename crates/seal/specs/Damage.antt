@@ -3,7 +3,7 @@ use Rattle.std.specs.Prelude.{◌≡◌, ℕ, ◌+◌, ◌/◌, ◌%◌, ◌<◌
 use Rattle.std.specs.Int.{bit_at}
 use Rattle.std.specs.List.{All}
 
--- bytes that can have sums: their number is a multiple of 4, at most 4096
+-- a row that can have sums: bytes, a multiple of 4 of them, at most 4096
 pub record IsRow (row : List ℕ) : Type 0 where
   pub bytes : All (λ b. b < 256) row
   pub whole : length row % 4 ≡ 0
@@ -13,7 +13,7 @@ pub record IsRow (row : List ℕ) : Type 0 where
 abbrev pub row_bit : List ℕ → ℕ → ℕ
 row_bit row i = bit_at (slice_index row (i / 8)) (i % 8)
 
--- two rows of one length that differ only in a burst: in some or all of the 64 bits from bit i on
+-- two rows of one length that differ only in a burst: in some of the 64 bits from bit i on
 pub record DifferInBurst (i : ℕ) (x y : List ℕ) : Type 0 where
   pub size : length x ≡ length y
   pub before : (j : ℕ) → j < i → row_bit x j ≡ row_bit y j

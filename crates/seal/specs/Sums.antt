@@ -8,12 +8,12 @@ use Rattle.seal.specs.declared.sums.Sums.{Sums}
 unfoldable pub numbers : List ℕ → List ℕ
 numbers row = map (λ k. little_number 4 (drop (4 * k) row)) (range_with_len 0 (length row / 4))
 
--- the sum of numbers, each times the weight of its place. Places count from the end: the last number has place 1
+-- the sum of numbers, each times the weight of its place; places count from the end, and the last number has place 1
 abbrev pub weighted : (ℕ → ℕ) → List ℕ → ℕ
 weighted weight [] = 0
 weighted weight (h ∷ hs) = weight (length (h ∷ hs)) * h + weighted weight hs
 
--- three sums of a row's numbers: a number with place k counts once, k times, and 1 + 2 + .. + k times
+-- three sums of a row's numbers: a number with place k is multiplied by 1, by k, and by 1 + 2 + .. + k
 unfoldable pub sums_of : List ℕ → Sums
 sums_of row = record {
   a = weighted (λ k. 1) (numbers row);

@@ -1,4 +1,4 @@
-// Laws of sums and seals, stated by functions that do nothing.
+// Laws of sums and seals, as contracts of functions that do nothing.
 ghost use Rattle.seal.specs.Laws.{BodiesDecideSeals, BurstsBreakSeals, BurstsChangeSums, FewChangesChangeSums, SumsFit};
 ghost use Rattle.seal.specs.Laws.{ZerosAreSealed};
 

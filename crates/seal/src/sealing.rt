@@ -15,7 +15,8 @@ pub fn is_sealed(row: &[u8]) -> bool
     sums_at(row, body) == sums_of(&row[..body])
 }
 
-/// Seals a row of at most 4096 bytes: writes the sums of all but its last 24 bytes into these 24. The others stay.
+/// Seals a row of at most 4096 bytes: overwrites its last 24 bytes with the sums of the bytes before. No
+/// other byte changes.
 pub fn seal(row: &mut [u8])
     requires whole { length row.old % 4 ≡ 0 }
     requires room { 24 ≤ length row.old }

@@ -8,7 +8,8 @@ use byteorder::{ByteOrder, LittleEndian};
 /// How many bytes sums take.
 pub const SUMS_BYTES: usize = 24;
 
-/// The sums of a row of bytes. A row that differs in at most three numbers of 4 bytes has other sums.
+/// The sums of a row of bytes. Rows of one length that differ in at most three numbers of 4 bytes have
+/// different sums.
 #[derive(Clone, Copy, PartialEq, Eq)]
 pub struct Sums {
     /// The sum of all numbers of 4 bytes in the row.
@@ -47,7 +48,7 @@ pub fn sums_at(bytes: &[u8], at: usize) -> Sums
     }
 }
 
-// Writes `n` little-endian into the eight bytes from `at` on. The others stay.
+// Writes `n` little-endian into the eight bytes from `at` on. No other byte changes.
 fn put_number(bytes: &mut [u8], at: usize, n: u64)
     requires { at + 8 ≤ length bytes.old }
     ensures { bytes.new ≡ (take at bytes.old ++ little_bytes 8 n) ++ drop (at + 8) bytes.old }
@@ -55,7 +56,7 @@ fn put_number(bytes: &mut [u8], at: usize, n: u64)
     LittleEndian::write_u64(&mut bytes[at..], n);
 }
 
-/// Writes sums into the 24 bytes from `at` on. The others stay.
+/// Writes sums into the 24 bytes from `at` on. No other byte changes.
 pub fn put_sums(bytes: &mut [u8], at: usize, sums: Sums)
     requires { at + 24 ≤ length bytes.old }
     ensures { bytes.new ≡ (take at bytes.old ++ sums_bytes sums) ++ drop (at + 24) bytes.old }

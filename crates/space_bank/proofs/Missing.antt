@@ -1,4 +1,4 @@
--- The least free numbers, and numbers in use, found by marks. The banks' state and the usages, counted number by number.
+-- The least free numbers, and the numbers in use, found by marks. The banks' state and usages, computed number by number.
 use Rattle.space_bank.proofs.Names.{and-false, nat_tests, ℕ, zero, suc, None, Some, Bool, cond, List, [], length, ⊎_elim, refl, sym, ap, subst, zero-add, arith}
 use Rattle.space_bank.proofs.Names.{cases_lt, range_with_len, Geometry, Object, are_free, free_nodes, free_pages, is_free, content_at, MakeProcess, process_at}
 use Rattle.space_bank.proofs.Names.{AreCounted, BanksState, AreMarked, HasNoneMarked, IsNextMarked, is_marked, map, IsTrue, slice_index, slice_set}
@@ -14,7 +14,7 @@ use Rattle.model.specs.declared.object.ContentRef.TheVariants as content_ref
 use Rattle.model.specs.declared.object.Role.TheVariants as role
 use Rattle.space_bank.proofs.Tallies.{marks_counted}
 
--- marks of the numbers from a base on
+-- marks of the free numbers from `base` on
 module _ (os : List Object) (base : ℕ) (marks : List Bool) (same : (n : ℕ) → n < length marks →
     is_marked marks n ≡ is_free (content_at os (base + n))) where
   -- the free numbers from a mark on
@@ -31,7 +31,7 @@ module _ (os : List Object) (base : ℕ) (marks : List Bool) (same : (n : ℕ) �
       let next_is : IsNextMarked marks (from + 1) n = search (arith, nat_tests, next.least) in
       search (arith, nat_tests, free_one, next_by k (from + 1) n (omega arith) next_is)
 
-  -- the least number that is free from a mark on
+  -- the free numbers from a mark on are the next marked one, and then those after it
   pub next_free : (from n : ℕ) → IsNextMarked marks from n → free_from from ≡ (base + n) ∷ free_from (n + 1)
   next_free from n next = next_by (n - from) from n (omega (arith, next.past)) next
 
@@ -60,7 +60,7 @@ module _ (os : List Object) (base : ℕ) (marks : List Bool) (same : (n : ℕ) �
       are_free os (range_with_len base (length marks)) ≡ (base + n) ∷ (base + m) ∷ free_from (m + 1)
   found_two n m first second = found_one n first ∙ ap (λ (xs : List ℕ). (base + n) ∷ xs) (next_free (n + 1) m second)
 
--- a process is made of the first two nodes that are free
+-- a new process takes the first two free nodes
 module _ (os : List Object) (marks : List Bool) (same : (n : ℕ) → n < length marks → is_marked marks n ≡ is_free (content_at os (0 + n)))
     (b n : ℕ) where
   pub process_missing : IsNextMarked marks 0 n → HasNoneMarked marks (n + 1) →
@@ -73,7 +73,7 @@ module _ (os : List Object) (marks : List Bool) (same : (n : ℕ) → n < length
       ap (λ (r : ℕ). Some (MakeProcess r m b)) (sym (zero-add n)) ∙ ap (λ (a : ℕ). Some (MakeProcess (0 + n) a b)) (sym (zero-add m))
       ∙ ap (process_at b) (sym (found_two os 0 marks same n m first second))
 
--- the marks that the code reads are the counted ones, so a new object gets the number that the model gives it
+-- the marks that the code reads agree with the objects, so a new object gets the same number as in the model
 module _ {g : Geometry} {os : List Object} {s : BanksState} (h : AreCounted g os s) {marks : List Bool} {X : Type 0} (make : List ℕ → X)
     {x : X} where
   pub made_of_nodes : marks ≡ s.free_nodes →
@@ -88,19 +88,19 @@ module _ {g : Geometry} {os : List Object} {s : BanksState} (h : AreCounted g os
   unfolding free_pages
   made_of_pages are first is made = grind (arith, nat_tests)
 
--- no number is kept for an object of another role
+-- the number recorded for an object of another role is 0
 pub kept_other : (r : Role) (c : Content Capability) → (role_of c ≡ r → ⊥) → kept_number r c ≡ 0
 kept_other r c other = grind (arith, nat_tests)
 
 pub no_limit : (r : ContentRef) → ((x : ℕ) → r ≡ content_ref.Bank x → ⊥) → limit_in (content_behind r) ≡ 0
 no_limit r bank = grind (arith, nat_tests)
 
--- the limit of what is held at a number
+-- the limit in a content that was read is the one of the object
 pub limit_held : (p : Parts) (n : ℕ) (c : Content Cap) → n < length p.headers → c ≡ held_at p.contents n →
     limit_in c ≡ limit_in (content_at (objects_in p) n)
 limit_held p n c known is = grind (arith, nat_tests, mapped, content_there)
 
--- one more number, read after a call that only reads
+-- if the numbers of the first n objects were read, and then the next, n + 1 are read
 pub numbers_more : (old now : Parts) (r : Role) (n one : ℕ) (kept new : List ℕ) → now ≡ old →
     one ≡ kept_number r (content_at (objects_in now) n) → kept ≡ map (λ m. kept_number r (content_at (objects_in old) m))
     (range_with_len 0 n) → new ≡ kept ++ one ∷ [] → new ≡ map (λ m. kept_number r (content_at (objects_in old) m))
@@ -111,25 +111,25 @@ numbers_more old now r n one kept new same is so more =
     more ∙ ap (λ (xs : List ℕ). xs ++ one ∷ []) so ∙ ap (λ (m : ℕ). map f (range_with_len 0 n) ++ m ∷ []) here
     ∙ sym (map-range_with_len_more f 0 n n (zero-add n))
 
--- the limits, and the annexes read after them, are those of the same objects
+-- the limits, and the annexes read after them, are of the same objects
 pub both_kept : {p q r : Parts} {nodes : ℕ} {limits annexes : List ℕ} → q ≡ p → r ≡ q → nodes ≡ p.geometry.nodes →
     limits ≡ map (λ n. kept_number role.Bank (content_at (objects_in p) n)) (range_with_len 0 nodes) →
     annexes ≡ map (λ n. kept_number role.Root (content_at (objects_in q) n)) (range_with_len 0 nodes) →
     AreKept (objects_in r) r.geometry.nodes limits annexes
 both_kept {p} {q} {r} {nodes} {limits} {annexes} first second size limits_are annexes_are = grind (arith, nat_tests)
 
--- the numbers of nodes and pages fit, since each has a header
+-- the numbers of nodes and pages have 64 bits, because each object has a header
 pub numbers_fit : (p : Parts) (hs : List ObjectHeader) (h : Geometry) (count : ℕ) → hs ≡ p.headers → count ≡ length hs → count < 2 ^ 64 →
     h ≡ p.geometry → length p.headers ≡ object_count p.geometry → h.nodes + h.pages < 2 ^ 64
 numbers_fit p hs h count table is fits same all = grind (arith, nat_tests)
 
--- one more number is marked
+-- if the first n numbers are marked right, and then the next, n + 1 are
 pub marks_more : (os : List Object) (first n : ℕ) (marks new : List Bool) (free : Bool) → n < length marks → new ≡ slice_set marks n free →
     free ≡ is_free (content_at os (first + n)) → ((m : ℕ) → m < n → is_marked marks m ≡ is_free (content_at os (first + m))) →
     (m : ℕ) → m < n + 1 → is_marked new m ≡ is_free (content_at os (first + m))
 marks_more os first n marks new free inside is here so_far m lt = grind (arith, nat_tests, get_or-set_same, get_or-set_other)
 
--- the counts of a bank state, part by part
+-- facts that make the banks' state agree with the objects, part by part
 module _ (g : Geometry) (os : List Object) (s : BanksState) (below : (b : ℕ) → IsTrue (is_bank (content_at os b)) → b < g.nodes)
     (process_below : (p : ℕ) → IsTrue (is_root (content_at os p)) → p < g.nodes) where
   counted_parts : AreMarked os 0 g.nodes s.free_nodes → AreMarked os g.nodes g.pages s.free_pages → length s.usages ≡ g.nodes →
@@ -142,7 +142,7 @@ module _ (g : Geometry) (os : List Object) (s : BanksState) (below : (b : ℕ) �
       AreKept os g.nodes s.limits s.annexes → object_count g + 2 ≤ s.room → AreCounted g os s
   counted_from h is nodes pages size has same given = grind (arith, nat_tests, counted_parts)
 
--- appending one more number
+-- appending to a list that may have one item in front
 cond_append : (b : Bool) (x : ℕ) (ys zs : List ℕ) → cond b (x ∷ (ys ++ zs)) (ys ++ zs) ≡ cond b (x ∷ ys) ys ++ zs
 cond_append b x ys zs = grind (arith, nat_tests)
 
@@ -151,7 +151,7 @@ filter_more : (p : ℕ → Bool) (a n m : ℕ) → a + n ≡ m → filter p (ran
 filter_more p a zero m is = grind (arith, nat_tests)
 filter_more p a (suc n) m is = search (arith, nat_tests, cond_append, filter_more p (a + 1) n m (omega arith))
 
--- the list so far, before the next number
+-- if number n passes the test, appending it lists the numbers below n + 1 that pass
 pub listed_more : (p : ℕ → Bool) (before now new : List ℕ) (n : ℕ) → now ≡ before ++ filter p (range_with_len 0 n) → p n ≡ true →
     new ≡ now ++ n ∷ [] → new ≡ before ++ filter p (range_with_len 0 (n + 1))
 listed_more p before now new n so passes is =
@@ -170,7 +170,7 @@ pub listed_whole : (os : List Object) (b : ℕ) (deep : Bool) → filter (is_lis
 unfolding under owned_by
 listed_whole os b deep = grind (arith, nat_tests)
 
--- ---- lists of what passes a test, where none between two numbers does
+-- ---- listing numbers that pass a test, if none in a range does
 
 pub listed_past : (p : ℕ → Bool) (before now : List ℕ) (from k : ℕ) → now ≡ before ++ filter p (range_with_len 0 from)
     → ((m : ℕ) → from ≤ m → m < from + k → p m ≡ false) → now ≡ before ++ filter p (range_with_len 0 (from + k))
@@ -188,7 +188,7 @@ listed_up_to p before now from n past so none =
     subst (λ (j : ℕ). now ≡ before ++ filter p (range_with_len 0 j)) sum
     (listed_past p before now from (n - from) so (λ m after within. none m after (omega (arith, within, past))))
 
--- a number that is free isn't listed, nor is number 0
+-- neither a free number nor number 0 is listed for a bank
 pub free_not_listed : (os : List Object) (b m : ℕ) (deep : Bool) → is_free (content_at os b) ≡ false → is_free (content_at os m) ≡ true →
     is_listed os b deep m ≡ false
 free_not_listed os b m deep used free = grind (arith, nat_tests)
@@ -199,9 +199,9 @@ prime_not_listed os b deep prime other = grind (arith, nat_tests, chain_prime, a
 pub listed_inner : (os : List Object) (b n : ℕ) (deep : Bool) → owner_at os 0 ≡ 0 → b ≢ 0 → is_listed os b deep n ≡ true → n ≢ 0
 listed_inner os b n deep prime other is same = grind (arith, nat_tests, prime_not_listed)
 
--- ---- what is counted of banks
+-- ---- facts about the banks' state
 
--- the counts hold whatever is listed
+-- the banks' state agrees with the objects whatever is listed
 pub counted_listed : {g : Geometry} {os : List Object} {s t : BanksState} {list : List ℕ} → t ≡ record s { listed = list } →
     AreCounted g os s → AreCounted g os t
 counted_listed {g} {os} {s} {t} {list} is h = grind (arith, nat_tests)
@@ -215,11 +215,11 @@ module _ {p : Parts} {s : BanksState} {b : ℕ} (h : MayServe p s b) where
         free = λ n inside. marks_counted h.counted n (omega (arith, inside, count, length_objects p.headers p.contents));
       })
 
-  -- an order may still be served after other numbers were listed
+  -- a bank may be served whatever is listed
   pub bank_listing : {t : BanksState} {list : List ℕ} → t ≡ record s { listed = list } → MayServe p t b
   bank_listing is = record { sound = h.sound; counted = counted_listed is h.counted; bank = h.bank }
 
--- how many of the objects below a number count for the usage of a bank
+-- whether the object at a number counts for the usage of bank b; the usage from the objects below n
 abbrev pub is_used : List Object → ℕ → ℕ × Object → Bool
 is_used os b p = not (p.0 == b) && is_under os b p.1
 
@@ -246,7 +246,7 @@ pub used_whole : (os : List Object) (b n : ℕ) → length os ≤ n → usage os
 unfolding usage
 used_whole os b n whole = ap (count_by (is_used os b)) (sym (take_all n (enumerate_from 0 os) (rw (length-enumerate_from 0 os) whole)))
 
--- number 0 counts for no usage
+-- if the banks of a list of objects form a tree, the list isn't empty
 not_empty : (os : List Object) → IsTree os → 0 < length os
 not_empty os t = grind (arith, nat_tests, get_or_past)
 
@@ -256,7 +256,7 @@ used_first os t b = used_same os b 0 (not_empty os t) (elim (cases_eq 0 b) [
   | inr other ↦ grind (arith, nat_tests, chain_prime, and-false)
 ])
 
--- the usages with one more number: nothing changes for a free one, else the chain of its owner is raised by one
+-- counting one more object: a free one changes no usage, any other raises those in its owner's chain by one
 pub used_free : (os : List Object) (b n : ℕ) → n < length os → is_free (content_at os n) ≡ true →
     used_below os b (n + 1) ≡ used_below os b n
 used_free os b n inside none = used_same os b n inside (rw none (and-false (not (n == b))))

@@ -1,4 +1,4 @@
--- Chains of banks, walked from owner to owner. The plan of an order has the order's effect, and planned changes may be made.
+-- Walks along chains of banks, from owner to owner. The plan of an order has the order's effect, and the planned change may be made.
 use Rattle.space_bank.proofs.Names.{nat_tests, ℕ, suc, Bool, true, false, List, [], length, map, min, nat_eq, refl, sym, ap, subst, arith, IsTrue, nat_le}
 use Rattle.space_bank.proofs.Names.{slice_index, list_all, list_any, eq-eqb, le-leb, lt-leb, ne_eqb, ObjectHeader, Object, chain, chain_within, usage}
 use Rattle.space_bank.proofs.Names.{has_quota, least, left_of, remaining, is_bank, limit_in, content_at, owner_at, Parts, objects_in, length_objects}
@@ -29,8 +29,7 @@ pub past_read : (p : Parts) (hs : List ObjectHeader) (count n : ℕ) → hs ≡ 
     length (objects_in p) ≤ n
 past_read p hs count n table is past = grind (arith, nat_tests, length_objects)
 
--- A walk along a chain, where i banks were passed: it stands at the bank that is sought, at the last, goes on with
--- the owner, or has passed 16.
+-- a walk along a chain that has passed fewer than 16 banks, and is at the bank it looks for, has found it
 pub chain_here : (os : List Object) (i b sought : ℕ) → i < 16 → b ≡ sought → list_any (nat_eq sought) (chain_within (16 - i) os b) ≡ true
 chain_here os i b sought inside same = grind (arith, nat_tests)
 
@@ -48,7 +47,7 @@ pub chain_begun : (os : List Object) (b : ℕ) → chain os b ≡ chain_within (
 unfolding chain
 chain_begun os b = refl
 
--- whether the bank that is sought is in the rest of the chain
+-- whether the rest of the chain contains the bank looked for
 module _ (os : List Object) (i b sought : ℕ) (other : b ≡ sought → ⊥) where
   pub sought_last : i < 16 → b ≡ 0 → list_any (nat_eq sought) (chain_within (16 - i) os b) ≡ false
   sought_last inside root = grind (arith, nat_tests)
@@ -57,7 +56,7 @@ module _ (os : List Object) (i b sought : ℕ) (other : b ≡ sought → ⊥) wh
       list_any (nat_eq sought) (chain_within (16 - i) os b) ≡ list_any (nat_eq sought) (chain_within (16 - (i + 1)) os owner)
   sought_next owner inside inner is = grind (arith, nat_tests)
 
--- whether a number of objects passes no limit in the chain: it is at most the least number that is left
+-- `count` more objects pass no limit in the rest of the chain exactly if `count` is at most the least that any of them allows
 fits_left : (count used limit : ℕ) → used ≤ limit → nat_le count (limit - used) ≡ nat_le (used + count) limit
 fits_left count used limit within = grind (arith, nat_tests)
 
@@ -90,7 +89,7 @@ quota_is os b count within =
     ∙ ap (λ (t : Bool). t && list_all (λ c. nat_le (usage os c + count) (limit_in (content_at os c))) rest)
     (fits_left count (usage os b) (limit_in (content_at os b)) (within 0 0 (omega arith))))
 
--- the least number that is left in the rest of the chain
+-- at the beginning of a walk, the least that the limits allow is still to be found
 pub least_begun : (os : List Object) (b m : ℕ) → left_of os b ≤ m → remaining os b ≡ least m (map (left_of os) (chain_within (16 - 0) os b))
 unfolding remaining chain
 least_begun os b m within =
@@ -112,7 +111,7 @@ module _ (os : List Object) (i b m left now : ℕ) (inside : i < 16) (here : lef
       least m (map (left_of os) (chain_within (16 - i) os b)) ≡ least now (map (left_of os) (chain_within (16 - (i + 1)) os owner))
   least_next owner inner at = grind (arith, nat_tests)
 
--- the counts of a bank that exists
+-- facts about a bank that may be served
 module _ {p : Parts} {s : BanksState} {b : ℕ} (h : MayServe p s b) where
   pub node_of_bank : b < p.geometry.nodes
   node_of_bank = bank_number p.geometry b (content_at (objects_in p) b) (h.sound.1.sound.kinds b) h.bank
@@ -120,18 +119,18 @@ module _ {p : Parts} {s : BanksState} {b : ℕ} (h : MayServe p s b) where
   pub left_there : HasLeft s b
   left_there = grind (arith, nat_tests)
 
-  -- the usages in the chain of the bank don't exceed their limits
+  -- the usages of all banks in the chain are within their limits
   pub chain_within_limits : All (λ c. usage (objects_in p) c ≤ limit_in (content_at (objects_in p) c)) (chain (objects_in p) b)
   chain_within_limits = all_members _ (chain (objects_in p) b) (λ c member. h.sound.1.sound.limits c (chain_bank h c member))
 
   pub left_counted : slice_index s.limits b - slice_index s.usages b ≡ left_of (objects_in p) b
   left_counted = omega (arith, h.counted.usage b h.bank, h.counted.limit b h.bank)
 
-  -- the owner of the bank is a bank for which the same holds
+  -- the owner of a bank that may be served may be served
   pub owner_is_bank : {owner : ℕ} → owner ≡ owner_at (objects_in p) b → MayServe p s owner
   owner_is_bank {owner} is = grind (arith, nat_tests)
 
--- a plan that refuses, one that changes a bank, and one that replies with three words
+-- plans: one that refuses, one that changes a bank, one that replies with three words
 abbrev pub refusal : ResultCode → OrderPlan
 refusal why = record { reply = reply_of_code why; change = change.Nothing }
 
@@ -166,7 +165,7 @@ pub allocating_is : (g : Geometry) (os : List Object) (b : ℕ) (order : BankOrd
 unfolding on_bank
 allocating_is g os b order args kind is = grind (arith, nat_tests)
 
--- with the same frame, the same object is made
+-- if two lists of objects have the `SameFrame`, an order makes the same object in both
 module _ (os us : List Object) (frame : SameFrame os us) (g : Geometry) (b : ℕ) where
   pub made_alike : (kind : New) → made_for g us b kind ≡ made_for g os b kind
   made_alike kind = grind (arith, nat_tests, pages_alike, nodes_alike)
@@ -174,7 +173,7 @@ module _ (os us : List Object) (frame : SameFrame os us) (g : Geometry) (b : ℕ
   pub deep_alike : (kind : New) → is_deep us b kind ≡ is_deep os b kind
   deep_alike kind = grind (arith, nat_tests, chain_same)
 
--- a new object, by the tests that the code makes
+-- an order that makes an object, as the tests of the code find it
 pub new_is : (g : Geometry) (os : List Object) (b : ℕ) (order : BankOrder) (args : Arguments) (kind : New) → new_of order args ≡ Some kind →
     (us : List Object) → SameFrame os us → on_bank g us b order args ≡
     (if has_quota os b (count_of kind) then allocated_by us (is_deep os b kind) (made_for g os b kind) else refused us code.Limit)
@@ -186,7 +185,7 @@ new_is g os b order args kind is us frame =
     )
     refl
 
--- the effect of orders that free
+-- the effects of the orders that free objects
 module _ (g : Geometry) (os : List Object) (b : ℕ) (args : Arguments) where
   pub frees_none : (c : Capability) → args.capability ≡ c → freed_by os c ≡ [] →
       on_bank g os b bank.Free args ≡ refused os code.BadCapability
@@ -223,7 +222,7 @@ module _ (g : Geometry) (os : List Object) (b : ℕ) (args : Arguments) where
   unfolding on_bank
   remaining_replying = refl
 
--- the same for later objects with the same frame, with what was read from the earlier ones
+-- the same effects in later objects that have the `SameFrame`
 module _ (g : Geometry) (os : List Object) (b : ℕ) (args : Arguments) (us : List Object) (frame : SameFrame os us) where
   pub frees_none_there : (c : Capability) → args.capability ≡ c → freed_by os c ≡ [] →
       on_bank g us b bank.Free args ≡ refused us code.BadCapability
@@ -250,24 +249,24 @@ module _ (g : Geometry) (os : List Object) (b : ℕ) (args : Arguments) (us : Li
   remaining_there = remaining_replying g us b args ∙ rw (remaining_alike os us frame b, usage_same os us frame b, (frame.alike b).limit)
       refl
 
--- the capacity that is left for a bank's order
+-- the list has space for the numbers of a bank's order
 pub bank_room : {p : Parts} {s : BanksState} {b : ℕ} → MayServe p s b → (n : ℕ) → n ≤ 2 → n + length p.headers ≤ s.room
 bank_room {p} h n few = omega (arith, keepable_count p.geometry h.sound.0 p h.sound.1.keepable, h.counted.room)
 
 root_not_bank : (c : Content Capability) → IsTrue (is_root c) → IsTrue (is_bank c) → ⊥
 root_not_bank c root is = grind (arith, nat_tests)
 
--- beside a bank and a process four more numbers fit
+-- the list has space for a process's root and annex after the numbers that the invocation writes
 pub process_room : {p : Parts} {s t : BanksState} {b : ℕ} (c : Capability) (q n : ℕ) → MayServe p s b → MayBeHeld (objects_in p) c →
     c ≡ Process q → length s.listed ≤ 2 → t ≡ record s { listed = s.listed ++ n ∷ [] } → length t.listed < t.room
 process_room {p} {s} {t} {b} c q n h sent is few listed = grind (arith, nat_tests, root_number, root_not_bank, node_of_bank, length-append)
 
--- the annex of a process that may be sent is kept
+-- the annex recorded for a process is its annex
 pub annex_kept : {p : Parts} {s : BanksState} {b : ℕ} (c : Capability) → MayServe p s b → MayBeHeld (objects_in p) c →
     annex_among s.annexes c ≡ annex_of (objects_in p) c
 annex_kept {p} {s} {b} c h sent = grind (arith, nat_tests)
 
--- the objects that a capability frees, if a bank owns them
+-- if a bank owns what a capability frees, the list of it may be freed
 pub freed_list : (g : Geometry) (os : List Object) (b : ℕ) (c : Capability) (list : List ℕ) → IsNow g os →
     IsTrue (is_bank (content_at os b)) → NamesItsKind os c → freed_by os c ≡ list → 0 < length list → owner_at os (slice_index list 0) ≡ b →
     MayFree os b list
@@ -287,7 +286,7 @@ freed_list g os b c (n ∷ ns) h is names frees some own =
       );
     }
 
--- no bank above another is under it
+-- no bank in the chain of b's owner is under b
 module _ (os : List Object) (t : IsTree os) (b : ℕ) (is : IsTrue (is_bank (content_at os b))) (on : b ≢ 0) where
   no_loop : (x : ℕ) → is_member (chain os (owner_at os b)) x ≡ true → is_member (chain os (owner_at os x)) b ≡ true → ⊥
   no_loop x above below = grind (arith, nat_tests, chain_banks, owner_bank, chain_shorter, chain_longer, chain_zero, chain_nonempty)
@@ -299,7 +298,7 @@ module _ (os : List Object) (t : IsTree os) (b : ℕ) (is : IsTrue (is_bank (con
         | inr below ↦ grind (arith, nat_tests, no_loop)
       ])
 
--- a bank with all objects under it
+-- a bank may be freed with all objects under it
 pub destroyed_gives : (g : Geometry) (os : List Object) (b : ℕ) → IsNow g os → IsTrue (is_bank (content_at os b)) → b ≢ 0 →
     MayFree os (owner_at os b) (under os b)
 destroyed_gives g os b h is on = record {
@@ -309,7 +308,7 @@ destroyed_gives g os b h is on = record {
   lowered = λ x bank stays. omega (arith, usage_destroyed g os b h is on x stays, destroyed_fits g os b h is on x stays);
 }
 
--- a free number among the `count` numbers from `from` on
+-- n is free, and one of the `count` numbers from `from` on
 pub record IsFreeAmong (os : List Object) (from count n : ℕ) : Type 0 where
   pub from_on : from ≤ n
   pub below : n < from + count
@@ -323,14 +322,14 @@ first_free : (os : List Object) (from count n : ℕ) (ns : List ℕ) → are_fre
     IsFreeAmong os from count n
 first_free os from count n ns are = free_among os from count n (ap (λ (xs : List ℕ). is_member xs n) are ∙ member_head n n ns refl)
 
--- one new object, at the first free number
+-- one new object may be made at the first free number
 one_may : (g : Geometry) (os : List Object) (b from count : ℕ) (f : Fresh) (c : BankChange) → IsTrue (is_bank (content_at os b)) →
     IsTrue (has_quota os b 1) → ((n : ℕ) → IsFreeAmong os from count n → IsFreshAt g n f) → IsMadeUnder os b f → (ns : List ℕ) →
     are_free os (range_with_len from count) ≡ ns
     → new_at b f ns ≡ Some c → MayMake g os (numbers_of c) c
 one_may g os b from count f c bank room place kind ns are is = grind (arith, nat_tests, first_free)
 
--- a new process, at the first two free numbers
+-- a new process may be made at the first two free numbers
 two_may : (g : Geometry) (os : List Object) (b : ℕ) (c : BankChange) → IsTrue (is_bank (content_at os b)) → IsTrue (has_quota os b 2) →
     (ns : List ℕ) → are_free os (range_with_len 0 g.nodes) ≡ ns → process_at b ns ≡ Some c → MayMake g os (numbers_of c) c
 two_may g os b c bank room [] are is = cc
@@ -361,7 +360,7 @@ new_may : (g : Geometry) (os : List Object) (b : ℕ) (c : BankChange) → IsTru
 unfolding free_nodes free_pages
 new_may g os b c bank kind room some short = grind (arith, nat_tests, one_may, two_may, short_chain)
 
--- with the same frame, a capability names an object of its kind
+-- if os and us have the `SameFrame`, and a capability that frees an object names one of its kind in os, it does in us
 names_there : (os us : List Object) → SameFrame os us → (c : Capability) (n : ℕ) (ns : List ℕ) → freed_by os c ≡ n ∷ ns →
     NamesItsKind os c → NamesItsKind us c
 names_there os us frame c n ns some names = grind (arith, nat_tests)

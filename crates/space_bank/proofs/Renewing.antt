@@ -1,4 +1,4 @@
--- Allocation counts, and the banks' state, where objects are freed. A bank that is returned to its parent.
+-- Allocation counts and the banks' state when objects are freed. Returning a bank to its parent.
 use Rattle.space_bank.proofs.Names.{nat_tests, ℕ, Bool, true, false, not, List, sym, ap, arith, Capability, ObjectHeader, Content, Object, with_new, given_up}
 use Rattle.space_bank.proofs.Names.{header_at, is_free, is_member, rescind, content_at, new_used, rescinded_given_up, AreGivenUp, Parts, Renews, objects_in}
 use Rattle.space_bank.proofs.Names.{⊎_elim, cases_lt, zero, suc, [], drop, take, length, refl, subst, IsTrue, slice_index, slice_index_or, All, eq-eqb}
@@ -13,18 +13,18 @@ use Rattle.std.specs.Prelude.{if◌then◌else◌, nat_eq}
 use Rattle.space_bank.proofs.Tallies.{chain_bank, few_allocations, few_calls, serve_count, serve_now, serve_tree, annex_in, counted_from, marks_counted}
 use Rattle.space_bank.proofs.Tallies.{transferred_same}
 
--- a count that neither fell nor rose is the same
+-- a count that neither fell nor rose is unchanged
 pub unrisen : (m n : ℕ) → m ≤ n → (m < n → ⊥) → n ≡ m
 unrisen m n later stayed = ⊎_elim (λ (rose : m < n). absurd (stayed rose)) (λ (within : n ≤ m). omega arith) (cases_lt m n)
 
--- parts with the same allocation counts, and with the same free numbers
+-- the same allocation counts; the same free numbers
 abbrev pub SameAllocations : Parts → Parts → Type 0
 SameAllocations p q = (n : ℕ) → (header_at q.headers n).allocations ≡ (header_at p.headers n).allocations
 
 abbrev pub SameFree : Parts → Parts → Type 0
 SameFree p q = (n : ℕ) → is_free (content_at (objects_in q) n) ≡ is_free (content_at (objects_in p) n)
 
--- a count of allocations by whether the object was freed
+-- if a header is given up exactly if `gone` holds, its allocation count rises by one then, and else stays
 given_or_kept : (gone : Bool) (member : Bool) (h k : ObjectHeader) → gone ≡ member → k ≡ (if member then given_up h else h) →
     k.allocations ≡ h.allocations + (if gone then 1 else 0)
 given_or_kept gone member h k e is = grind (arith, nat_tests)
@@ -42,19 +42,19 @@ pub renews_rescinded : (p q : Parts) (set : List ℕ) → AreGivenUp set p q →
     → ((n : ℕ) → is_member set n ≡ true → is_free (content_at (objects_in p) n) ≡ false) → Renews p q
 renews_rescinded p q set given objects used = grind (arith, nat_tests, given_or_kept, rescinded_given_up)
 
--- a change before or after that keeps allocation counts and free numbers renews nothing more
+-- if an earlier change keeps allocation counts and free numbers, both changes together renew what the later does
 pub renews_after : (o p q : Parts) → SameAllocations o p → SameFree o p → Renews p q → Renews o q
 renews_after o p q same free renews = grind (arith, nat_tests)
 
 pub renews_then : (o p q : Parts) → Renews o p → SameAllocations p q → SameFree p q → Renews o q
 renews_then o p q renews same free = grind (arith, nat_tests)
 
--- a new object leaves all others in use
+-- making a new object frees no other
 pub new_stays : (os us : List Object) (n b : ℕ) (c : Content Capability) → is_free c ≡ false → us ≡ with_new os n b c
     → (m : ℕ) → is_free (content_at os m) ≡ false → is_free (content_at us m) ≡ false
 new_stays os us n b c some is m used = ap (λ (vs : List Object). is_free (content_at vs m)) is ∙ new_used os n b c some m used
 
--- lists of numbers
+-- the item at an index of a list is a member
 
 pub member_at : (ns : List ℕ) (i : ℕ) → i < length ns → is_member ns (slice_index ns i) ≡ true
 member_at ns i inside = list_any_at (nat_eq (slice_index ns i)) ns i 0 inside (eq-eqb (slice_index ns i) (slice_index ns i) refl)
@@ -70,7 +70,7 @@ once_of_differ (n ∷ ns) differ (suc i) inside = search (
   once_of_differ ns differ.1 i (omega arith),
 )
 
--- contents after a rescind
+-- the content of each number after a rescind
 
 module _ (set : List ℕ) (os : List Object) (n : ℕ) where
   went : is_member set n ≡ true → object_at (rescind set os) n ≡ free
@@ -93,7 +93,7 @@ module _ (set : List ℕ) (os : List Object) (n : ℕ) where
       subst (λ (o : Object). IsMapped (void_where (names_member set)) (content_at os n) o.content) (sym (kept stays))
       (without_mapped (names_member set) (object_at os n))
 
--- The usages in the chain of a bank fall by `count`, and a set is marked as free.
+-- The usages of `banks` fall by `count`, and the members of `set` are marked as free.
 pub record IsReleased (banks : List ℕ) (count : ℕ) (s t : BanksState) (set : List ℕ) : Type 0 where
   pub usages : IsRaised banks count t.usages s.usages
   pub nodes : length t.free_nodes ≡ length s.free_nodes
@@ -103,7 +103,7 @@ pub record IsReleased (banks : List ℕ) (count : ℕ) (s t : BanksState) (set :
   pub room : t.room ≡ s.room
   pub marks : (n : ℕ) → is_marked (marks_of t) n ≡ (if is_member set n then true else is_marked (marks_of s) n)
 
--- Freeing a set of objects, where the counted objects may differ from the present ones except in their contents.
+-- Freeing a set of objects keeps the counts right. The counted objects vs may differ from os, but not in their contents.
 pub counted_gone : {g : Geometry} {os : List Object} (vs : List Object) {s t : BanksState} {set banks : List ℕ} {count : ℕ} →
     AreCounted g os s → ((n : ℕ) → content_at vs n ≡ content_at os n) → IsReleased banks count s t set
     → ((x : ℕ) → IsTrue (is_bank (content_at os x)) → is_member set x ≡ false →
@@ -135,7 +135,7 @@ counted_gone {g} {os} vs {s} {t} {set} {banks} {count} counted same released usa
     was_bank : (x : ℕ) → IsTrue (is_bank (content_at (rescind set vs) x)) → IsTrue (is_bank (content_at os x))
     was_bank x is = ap is_bank (sym (same x)) ∙ (sym (was set vs x (bank_stays set vs x is)).bank ∙ is)
 
--- counts that can rise
+-- counts that may still rise by one
 module _ {p : Parts} {s : BanksState} {b : ℕ} (asks : MayServe p s b) (n : ℕ) (known : n < length p.headers) where
   pub serve_allocations : (header_at p.headers n).allocations < 2 ^ 64 - 1
   serve_allocations = omega (arith, few_allocations p.geometry asks.sound.0 p asks.sound.1.keepable n known, asks.sound.1.sound.age)
@@ -143,7 +143,7 @@ module _ {p : Parts} {s : BanksState} {b : ℕ} (asks : MayServe p s b) (n : ℕ
   pub serve_calls : (header_at p.headers n).calls < 2 ^ 64 - 1
   serve_calls = omega (arith, few_calls p.geometry asks.sound.0 p asks.sound.1.keepable n known, asks.sound.1.sound.age)
 
--- the usages in the chain of a bank are at least the number of freed objects
+-- the usage of each bank in the chain of `above` is at least the number of freed objects
 pub enough_used : {p : Parts} {s : BanksState} {above : ℕ} {list : List ℕ} → MayServe p s above → MayFree (objects_in p) above list
     → (x : ℕ) → is_member (chain (objects_in p) above) x ≡ true → length list ≤ slice_index s.usages x
 enough_used {p} {s} {above} {list} asks gives x member =
@@ -151,7 +151,7 @@ enough_used {p} {s} {above} {list} asks gives x member =
     let all : (if is_member (chain (objects_in p) above) x then length list else 0) ≡ length list = rw member refl in
     omega (arith, asks.counted.usage x bank, gives.lowered x bank (gives.apart x member), all)
 
--- the snapshots after a set was freed
+-- what the store keeps after a set was freed
 module _ {S : Type 0} (parts : S → Parts) (Fetched Announced : S → ℕ → Type 0) (Continues : S → S → Type 0) where
   pub ended_snapshots : (old new : S) (set : List ℕ) → AreGivenUp set (parts old) (parts new) →
       objects_in (parts new) ≡ rescind set (objects_in (parts old)) → ((n : ℕ) → is_member set n ≡ true →
@@ -172,7 +172,7 @@ module _ {S : Type 0} (parts : S → Parts) (Fetched Announced : S → ℕ → T
       → KeepsObjects parts Fetched Announced Continues old new
   snapshots_alone old new a stays = grind (arith, nat_tests)
 
--- the rest of a list as a slice
+-- the rest of a list as the slice that the code takes
 pub rest_is : (xs ys : List ℕ) (i : ℕ) → xs ≡ ys → take (length xs - i) (drop i xs) ≡ drop i ys
 rest_is xs ys i same = take_rest xs i ∙ ap (λ (zs : List ℕ). drop i zs) same
 
@@ -181,7 +181,7 @@ pub listed_rest : {xs : List ℕ} {r v : BanksState} (s : BanksState) (i : ℕ) 
 listed_rest s i value same kept = rest_is _ s.listed i (value ∙ (ap (λ (k : BanksState). k.listed) same
     ∙ ap (λ (k : BanksState). k.listed) kept))
 
--- each number of a list has an object
+-- each number in the list has a header
 abbrev pub AreKnown : Parts → List ℕ → Type 0
 AreKnown p list = All (λ n. n < length p.headers) list
 
@@ -195,7 +195,7 @@ module _ {p : Parts} {s : BanksState} {b : ℕ} (asks : MayServe p s b) (list : 
   pub list_marks : All (λ n. n < length s.free_nodes + length s.free_pages) list
   list_marks k d inside = omega (arith, known k d inside, serve_count asks, asks.counted.nodes, asks.counted.pages)
 
--- usages fall, and then numbers are marked as free
+-- if usages fall and then numbers are marked as free, `IsReleased` holds
 pub released_then : {banks : List ℕ} {count : ℕ} {s r v : BanksState} {nodes pages : List Bool} (set : List ℕ) →
     IsRaised banks count r.usages s.usages → r ≡ record s { usages = r.usages } → v ≡ r → length nodes ≡ length v.free_nodes →
     length pages ≡ length v.free_pages
@@ -203,7 +203,7 @@ pub released_then : {banks : List ℕ} {count : ℕ} {s r v : BanksState} {nodes
     → IsReleased banks count s (record v { free_nodes = nodes; free_pages = pages }) set
 released_then {banks} {count} {s} {r} {v} {nodes} {pages} set raised kept same nodes_same pages_same marks = grind (arith, nat_tests)
 
--- the result of freeing a list
+-- freeing a list carries out its order
 pub ended_carried : {p q : Parts} {s t : BanksState} {above : ℕ} {list : List ℕ} → MayServe p s above → MayFree (objects_in p) above list
     → IsReleased (chain (objects_in p) above) (length list) s t list → objects_in q ≡ rescind list (objects_in p)
     → AreCurrent (frames_of q) → ((age : ℕ) → age + 1 < 2 ^ 64 → AreKeepable p.geometry age (frames_of p) →
@@ -216,7 +216,7 @@ ended_carried {p} {q} {s} {t} asks gives released objects current keepable = rec
   keepable = keepable;
 }
 
--- lists
+-- if a list has x at index i, the rest after x is the list from i + 1 on
 
 drop_suc : (l : List ℕ) (i x : ℕ) (ys : List ℕ) → drop i l ≡ x ∷ ys → drop (suc i) l ≡ ys
 drop_suc [] zero x ys is = cc
@@ -233,18 +233,18 @@ one_all P n h is d inside = grind (arith, nat_tests)
 pub rest_all : (P : ℕ → Type 0) (n : ℕ) (ns : List ℕ) → All P (n ∷ ns) → All P ns
 rest_all P n ns all k d inside = all (suc k) d (omega arith)
 
--- one number is marked as free
+-- marking one number as free
 pub mark_one : (before now : List Bool) (n : ℕ) → n < length before → now ≡ slice_set before n true
     → (m : ℕ) → is_marked now m ≡ (if is_member (n ∷ []) m then true else is_marked before m)
 mark_one before now n inside is m = grind (arith, nat_tests, get_or-set_same, member_head, get_or-set_other, member_tail)
 
--- a bank by itself is in use
+-- a bank is in use
 pub only_used : (os : List Object) (b : ℕ) → IsTrue (is_bank (content_at os b)) → (n : ℕ) → is_member (b ∷ []) n ≡ true →
     is_free (content_at os n) ≡ false
 only_used os b is n member = subst (λ (k : ℕ). is_free (content_at os k) ≡ false) (sym (only_member b n member))
     (used_where is_bank refl (content_at os b) is)
 
--- transferring the objects that a bank owns
+-- the objects that a bank owns are in use
 pub owned_used : (os : List Object) (b : ℕ) → All (λ n. is_free (content_at os n) ≡ false) (owned_by os b)
 owned_used os b = all_members (λ n. is_free (content_at os n) ≡ false) (owned_by os b) (λ n member. (owned_found os b n member).1)
 
@@ -267,7 +267,7 @@ module _ {p : Parts} {s : BanksState} {b : ℕ} (asks : MayServe p s b) (on : b 
   abbrev before : List Object
   before = objects_in p
 
-  -- each bank above counts this bank in its usage
+  -- each bank above b has a usage of at least one: b itself
   pub one_enough : (x : ℕ) → is_member (chain before (owner_at before b)) x ≡ true → 1 ≤ slice_index s.usages x
   one_enough x member =
       let t = serve_tree asks in
@@ -276,7 +276,7 @@ module _ {p : Parts} {s : BanksState} {b : ℕ} (asks : MayServe p s b) (on : b 
       let all = ap {B = ℕ} (λ t. if t then 1 else 0) member in
       omega (arith, asks.counted.usage x bank, returned_fits p.geometry before b (serve_now asks) asks.bank on x differ, all)
 
-  -- the result after the bank was freed
+  -- freeing a bank whose objects were transferred carries out the order
   pub returned_carried : {q : Parts} {t : BanksState} {us : List Object} → AreTransferred (owned_by before b) (owner_at before b) before us
       → IsReleased (chain before (owner_at before b)) 1 s t (b ∷ []) → objects_in q ≡ rescind (b ∷ []) us → AreCurrent (frames_of q)
       → ((age : ℕ) → age + 1 < 2 ^ 64 → AreKeepable p.geometry age (frames_of p) → AreKeepable p.geometry (age + 1) (frames_of q)) →
@@ -298,7 +298,7 @@ module _ {p : Parts} {s : BanksState} {b : ℕ} (asks : MayServe p s b) (on : b 
         keepable = keepable;
       }
 
-  -- the counts of the bank can still rise after its objects were transferred
+  -- after the objects were transferred, the counts of the bank may still rise
   module _ (q : Parts) (keepable : (age : ℕ) → AreKeepable p.geometry age (frames_of p) → AreKeepable p.geometry age (frames_of q))
       (known : b < length q.headers) where
     pub transferred_allocations : (header_at q.headers b).allocations < 2 ^ 64 - 1

@@ -1,5 +1,4 @@
--- Sound frames with which the banks' state agrees, also after objects were made, freed or transferred. A walk along a chain, owner by
--- owner.
+-- The banks' state agrees with sound frames, also after objects were made, freed or transferred. A walk along a chain of banks.
 use Rattle.space_bank.proofs.Names.{nat_tests, ℕ, true, false, List, length, refl, sym, ap, arith, IsTrue, slice_index, Cap, Capability, Geometry}
 use Rattle.space_bank.proofs.Names.{Content, Object, chain, usage, has_quota, conveyed, header_at, held_at, AreKeepable, world_at, is_free, limit_in}
 use Rattle.space_bank.proofs.Names.{map_content, role_of, is_member, HasShape, object_count, content_at, IsTree, chain_banks, tree_of, member_passes, IsNow}
@@ -38,7 +37,7 @@ module _ (g : Geometry) (age : ℕ) (p : Parts) (k : AreKeepable g age (frames_o
       role_used (conveyed p.headers) (held_at p.contents n) (sym (ap (λ (c : Content Capability). is_free c) there) ∙ is)
       (sym (keepable_at g age p n known k).kept.role ∙ e)
 
-  -- counts are no more than the age
+  -- each count is at most the age
   pub few_allocations : (header_at p.headers n).allocations ≤ age
   few_allocations = (keepable_at g age p n known k).kept.allocations.0
 
@@ -48,7 +47,7 @@ module _ (g : Geometry) (age : ℕ) (p : Parts) (k : AreKeepable g age (frames_o
 limit_shape : (c : Content Capability) → HasShape c → limit_in c < 2 ^ 64
 limit_shape c shape = grind (arith, nat_tests)
 
--- quota in a chain
+-- if the quota allows `count` objects, each usage in the chain plus `count` is within its limit
 pub room_within : (os : List Object) (b count x : ℕ) → IsTrue (has_quota os b count) → is_member (chain os b) x ≡ true →
     usage os x + count ≤ limit_in (content_at os x)
 unfolding has_quota
@@ -70,7 +69,7 @@ module _ {p : Parts} {s : BanksState} {b : ℕ} (asks : MayServe p s b) where
   pub serve_roles : HaveTheirRoles (frames_of p)
   serve_roles = keepable_roles p.geometry asks.sound.0 (frames_of p) asks.sound.1.keepable
 
-  -- the usages in a chain are at most its limits, and these are numbers of 64 bits
+  -- each number in the chain of a bank is a bank
   pub chain_bank : (x : ℕ) → is_member (chain (objects_in p) b) x ≡ true → IsTrue (is_bank (content_at (objects_in p) x))
   chain_bank x member = chain_banks (objects_in p) serve_tree b x asks.bank member
 
@@ -96,17 +95,17 @@ module _ {p : Parts} {s : BanksState} {b : ℕ} (asks : MayServe p s b) where
   pub free_role : (n : ℕ) → n < length p.headers → IsTrue (is_free (content_at (objects_in p) n)) → (header_at p.headers n).role ≡ role.Free
   free_role n known is = free_header p.geometry asks.sound.0 p asks.sound.1.keepable n known is
 
--- how much a bank adds to the usage of each bank in its chain
+-- the share of bank x if `amount` is added along the chain of b: `amount` if x is in the chain, else 0
 abbrev pub share : List Object → ℕ → ℕ → ℕ → ℕ
 share os c count x = if is_member (chain os c) x then count else 0
 
--- A walk from the bank b is at the bank c after i banks.
+-- A walk from bank b has passed i banks and is at bank c.
 pub record Climbs (os : List Object) (b i c : ℕ) : Type 0 where
   pub bank : IsTrue (is_bank (content_at os c))
   pub short : length (chain os c) + i ≤ 16
   pub within : (x : ℕ) → is_member (chain os c) x ≡ true → is_member (chain os b) x ≡ true
 
--- `more` is added, and `less` subtracted, at the banks of b's chain that aren't in that of c.
+-- `more` was added, and `less` subtracted, for the banks in b's chain that aren't in that of c.
 pub record IsShifting (os : List Object) (b c more less : ℕ) (old now : List ℕ) : Type 0 where
   pub size : length now ≡ length old
   pub each : (x : ℕ) → slice_index now x + share os b less x + share os c more x ≡ slice_index old x + share os b more x + share os c less x
@@ -148,7 +147,7 @@ module _ {os : List Object} (t : IsTree os) {b i c : ℕ} (at : Climbs os b i c)
       inside : c < length now
       inside = omega (arith, each c at.bank, r.size)
 
-      -- the usage of the bank c before it is changed
+      -- the usage of bank c is unchanged so far
       same_here : slice_index now c ≡ slice_index old c
       same_here = omega (arith, r.each c, share_here more, share_here less, share_first more, share_first less)
 
@@ -184,7 +183,7 @@ module _ {os : List Object} (t : IsTree os) {b i c : ℕ} (at : Climbs os b i c)
         share_prime,
       )
 
--- a usage is only added, or only subtracted
+-- a step of the proof: the choice between 0 and 0 is 0
 nothing : (is : Bool) → ◌≡◌ {A = ℕ} (if is then 0 else 0) 0
 nothing is = grind (arith, nat_tests)
 
@@ -195,7 +194,7 @@ module _ {banks : List ℕ} {count : ℕ} {old new : List ℕ} where
   pub lowered_of : IsShifted banks 0 count old new → IsRaised banks count new old
   lowered_of s = record { size = sym s.size; each = λ b. omega (arith, s.each b, nothing (is_member banks b)) }
 
--- an object that gets another owner if it is transferred
+-- an object, with owner b if it is transferred
 abbrev pub transferred : Bool → ℕ → Object → Object
 transferred goes b o = if goes then record { owner = b; content = o.content } else o
 
@@ -212,7 +211,7 @@ pub transferred_used : (list : List ℕ) (b : ℕ) (os us : List Object) → Are
     is_free (content_at os n) ≡ false → is_free (content_at us n) ≡ false
 transferred_used list b os us are n used = ap (λ (c : Content Capability). is_free c) (transferred_same list b os us are n) ∙ used
 
--- one more number of a list
+-- the first i + 1 numbers of a list are the first i and the next
 taken : (list : List ℕ) (i n : ℕ) → i < length list → is_member (take (i + 1) list) n
     ≡ (is_member (take i list) n || (n == slice_index list i))
 taken list i n inside = list_any_more (nat_eq n) list i 0 inside
@@ -224,21 +223,21 @@ pub transferred_more : (list : List ℕ) (i b : ℕ) (os us vs : List Object) �
 transferred_more list i b os us vs inside known are is =
     grind (arith, nat_tests, length-set, get_or-set_same, transferred_same, taken, get_or-set_other)
 
--- one more number of a list was marked as free
+-- if the first i numbers of a list are marked as free, and then the next, i + 1 are
 pub marked_more : (before now next : List Bool) (list : List ℕ) (i : ℕ) → i < length list → slice_index list i < length now
     → next ≡ slice_set now (slice_index list i) true
     → ((n : ℕ) → slice_index_or now n false ≡ (if is_member (take i list) n then true else slice_index_or before n false))
     → (n : ℕ) → slice_index_or next n false ≡ (if is_member (take (i + 1) list) n then true else slice_index_or before n false)
 marked_more before now next list i inside known is marks n = grind (arith, nat_tests, taken, get_or-set_same, get_or-set_other)
 
--- each number is marked as free exactly if it is
+-- the marks say of each number whether it is free
 abbrev pub AreMarked : Geometry → List Object → List Bool → Type 0
 AreMarked g os marks = (n : ℕ) → n < object_count g → is_marked marks n ≡ is_free (content_at os n)
 
 pub marks_counted : {g : Geometry} {os : List Object} {s : BanksState} → AreCounted g os s → AreMarked g os (marks_of s)
 marks_counted {g} {os} {s} counted n known = grind (arith, nat_tests, inside, get_or_append_left, get_or-append_right)
 
--- the lengths of the lists, and the memory for the list of an order, stay
+-- both have lists of the same lengths, and memory for the same list of numbers
 pub record IsAsWide (s t : BanksState) : Type 0 where
   pub nodes : length t.free_nodes ≡ length s.free_nodes
   pub pages : length t.free_pages ≡ length s.free_pages
@@ -247,7 +246,7 @@ pub record IsAsWide (s t : BanksState) : Type 0 where
   pub annexes : length t.annexes ≡ length s.annexes
   pub room : t.room ≡ s.room
 
--- a list has a number of each object that passes a test
+-- for each object that passes a test, the list has at its index the number computed from its content
 abbrev pub HasEach : (Content Capability → Bool) → (Content Capability → ℕ) → List Object → List ℕ → Type 0
 HasEach passes number os xs = (x : ℕ) → IsTrue (passes (content_at os x)) → slice_index xs x ≡ number (content_at os x)
 
@@ -262,12 +261,12 @@ counted_from {g} {os} us {s} t counted wide marks usages limits annexes = grind 
 marks_length : {g : Geometry} {os : List Object} {s : BanksState} → AreCounted g os s → length (marks_of s) ≡ object_count g
 marks_length {g} {os} {s} counted = omega (arith, length-append s.free_nodes s.free_pages, counted.nodes, counted.pages)
 
--- a new object's number is marked as taken
+-- after the number of a new object is marked as taken, all marks are right
 marked_new : (g : Geometry) (os : List Object) (marks : List Bool) (n b : ℕ) (c : Content Capability) → n < length os → n < length marks →
     is_free c ≡ false → AreMarked g os marks → AreMarked g (with_new os n b c) (slice_set marks n false)
 marked_new g os marks n b c inside known used is m within = grind (arith, nat_tests, get_or-set_same, at_new, get_or-set_other, at_other)
 
--- Usages are raised along the chain of a bank, and these marks are set.
+-- The usages of `banks` rise by `count`, and the marks are these.
 pub record IsTaken (banks : List ℕ) (count : ℕ) (s t : BanksState) (marks : List Bool) : Type 0 where
   pub usages : IsRaised banks count s.usages t.usages
   pub nodes : length t.free_nodes ≡ length s.free_nodes
@@ -288,14 +287,14 @@ module _ (os : List Object) (n b : ℕ) (inside : n < length os) (c : Content Ca
   new_content = ap (λ (o : Object). o.content) (at_new os n b c inside)
 
   module _ (passes : Content Capability → Bool) where
-    -- an object that passes a test which the new one fails is an old one
+    -- if the new object fails a test, each object that passes it is an old one
     old_one : passes c ≡ false → (x : ℕ) → IsTrue (passes (content_at (with_new os n b c) x)) → x ≢ n
     old_one plain x is e = grind (arith, nat_tests, new_content)
 
     other_one : (x : ℕ) → x ≢ n → IsTrue (passes (content_at (with_new os n b c) x)) → IsTrue (passes (content_at os x))
     other_one x differ is = sym (ap passes (other_content x differ)) ∙ is
 
-    -- the kept numbers of objects that pass the test stay, or the new object has its own
+    -- the recorded numbers stay right, or get that of the new object
     module _ (number : Content Capability → ℕ) (xs : List ℕ) (each : HasEach passes number os xs) where
       each_kept : passes c ≡ false → HasEach passes number (with_new os n b c) xs
       each_kept plain x is = grind (arith, nat_tests, old_one, other_one, other_content)
@@ -312,7 +311,7 @@ module _ {g : Geometry} {os : List Object} (size : length os ≡ object_count g)
   known_mark : n < length (marks_of s)
   known_mark = omega (arith, marks_length counted, size)
 
-  -- one new object that is neither a bank nor a process
+  -- making an object that is neither a bank nor a process keeps the counts right
   pub counted_alone : (c : Content Capability) {u : BanksState} → is_free c ≡ false → is_bank c ≡ false → is_root c ≡ false
       → IsTaken (chain os b) 1 s u (slice_set (marks_of s) n false) → AreCounted g (with_new os n b c) u
   counted_alone c {u} used plain other taken =
@@ -330,7 +329,7 @@ module _ {g : Geometry} {os : List Object} (size : length os ≡ object_count g)
       (subst (HasEach is_root annex_in (with_new os n b c)) (sym taken.annexes)
       (each_kept os n b inside c is_root annex_in s.annexes counted.annex other))
 
-  -- a bank that isn't counted yet
+  -- making a bank keeps the counts right, once its usage and limit are recorded
   pub counted_bank : (limit : ℕ) {u : BanksState} (v : BanksState) → length (chain os b) < 16 → n < g.nodes →
       IsTaken (chain os b) 1 s u (slice_set (marks_of s) n false)
       → v ≡ record u { usages = slice_set u.usages n 0; limits = slice_set u.limits n limit } →
@@ -362,7 +361,7 @@ module _ {g : Geometry} {os : List Object} (size : length os ≡ object_count g)
       (subst (HasEach is_root annex_in (with_new os n b c)) (sym taken.annexes)
       (each_kept os n b inside c is_root annex_in s.annexes counted.annex refl)))
 
-  -- a process: two objects, neither a bank
+  -- making a process keeps the counts right, once its annex is recorded
   pub counted_process : (m : ℕ) {u : BanksState} (v : BanksState) → m < length os → m ≢ n → n < g.nodes → IsTrue (is_free (content_at os m))
       → IsTaken (chain os b) 2 s u (slice_set (slice_set (marks_of s) n false) m false) → v ≡ record u { annexes = slice_set u.annexes n m }
       → AreCounted g (with_new (with_new os n b (new_root m)) m b new_annex) v
@@ -410,17 +409,17 @@ module _ {g : Geometry} {os : List Object} (size : length os ≡ object_count g)
       twice : (is : Bool) → (if is then 2 else 0) ≡ (if is then 1 else 0) + (if is then 1 else 0)
       twice is = grind (arith, nat_tests)
 
--- raising usages, then taking a number
+-- if usages were raised, and then number n was marked as taken, `IsTaken` holds
 pub taken_one : {banks : List ℕ} {count n : ℕ} {s r t : BanksState} → IsRaised banks count s.usages r.usages →
     r ≡ record s { usages = r.usages } → IsMade r t n → IsTaken banks count s t (slice_set (marks_of s) n false)
 taken_one {banks} {count} {n} {s} {r} {t} raised kept made = grind (arith, nat_tests)
 
--- taking one more number
+-- if one more number is marked as taken, `IsTaken` still holds
 pub taken_two : {banks : List ℕ} {count n : ℕ} {s r t : BanksState} {marks : List Bool} → IsTaken banks count s r marks → IsMade r t n →
     IsTaken banks count s t (slice_set marks n false)
 taken_two {banks} {count} {n} {s} {r} {t} {marks} taken made = grind (arith, nat_tests)
 
--- a number that stays free beside a new object keeps the free role
+-- if a new object is made at another number, a free number still has the free role
 pub still_free : (g : Geometry) (age : ℕ) (p q : Parts) (n m b : ℕ) (c : Content Capability) → AreKeepable g age (frames_of q) →
     length q.headers ≡ length p.headers → objects_in q ≡ with_new (objects_in p) n b c → m < length p.headers → m ≢ n
     → IsTrue (is_free (content_at (objects_in p) m)) → (header_at q.headers m).role ≡ role.Free
@@ -433,7 +432,7 @@ still_free g age p q n m b c k count objects known two unused =
 pub fresh_used : (f : Fresh) → is_free (fresh_content Void f) ≡ false
 fresh_used f = grind (arith, nat_tests)
 
--- a page or a node is neither a bank nor a process
+-- a new object that is neither a bank nor a process
 pub record IsPlain (f : Fresh) : Type 0 where
   pub fits : FreshFits f
   pub bank : is_bank (fresh_content Void f) ≡ false

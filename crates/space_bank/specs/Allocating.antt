@@ -1,4 +1,4 @@
--- The four orders that allocate, as one.
+-- The four orders that allocate objects.
 use Rattle.space_bank.specs.Names.{ℕ, nat_lt, Bool, false, not, Option, None, Some, List, [], length, Capability, Void}
 use Rattle.space_bank.specs.Names.{Page, Node, Process, Bank, Geometry, Object, Arguments, BankOrder, chain, free_nodes}
 use Rattle.space_bank.specs.Names.{free_pages, has_quota, full, OrderOutcome, made, refused, BankChange, Fresh}
@@ -40,7 +40,7 @@ made_for g os b new.Node = new_at b fresh.Node (free_nodes g os)
 made_for g os b new.Process = process_at b (free_nodes g os)
 made_for g os b (new.Bank limit) = new_at b (fresh.Bank limit) (free_nodes g os)
 
--- the numbers of the objects that a change makes; the capability to them
+-- the numbers of the objects that a change makes; the capability to the first of them
 abbrev pub numbers_of : BankChange → List ℕ
 numbers_of (bank.Make n f b) = n ∷ []
 numbers_of (bank.MakeProcess r a b) = r ∷ a ∷ []
@@ -57,12 +57,12 @@ given_by (bank.Make n f b) = given_for n f
 given_by (bank.MakeProcess r a b) = Process r
 given_by _ = Void
 
--- whether a new bank would be too deep: the chain of its owner has 16 banks already
+-- whether a new bank would be too deep: the chain of its owner already has 16 banks
 abbrev pub is_deep : List Object → ℕ → New → Bool
 is_deep os b (new.Bank limit) = not (nat_lt (length (chain os b)) 16)
 is_deep os b _ = false
 
--- the outcome of an order that allocates: over a limit, no free number, too deep, or done
+-- the outcome of an order that allocates, within the limits: no free number, too deep, or done
 abbrev pub allocated_by : List Object → Bool → Option BankChange → OrderOutcome
 allocated_by os deep None = refused os code.NoFrame
 allocated_by os deep (Some c) = if deep then refused os code.TooDeep else made (bank_changed os (numbers_of c) c)

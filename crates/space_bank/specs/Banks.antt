@@ -1,11 +1,11 @@
--- The counts of banks, kept beside the objects, and the orders of banks.
+-- The state of banks, which is stored apart from the objects, and the conditions of their orders.
 use Rattle.space_bank.specs.Names.{ℕ, Bool, false, List, length, slice_index, IsTrue, Geometry, Object, Arguments}
 use Rattle.space_bank.specs.Names.{usage, is_bank, is_free, limit_in, MayBeHeld, object_count, annex_at, content_at}
 use Rattle.space_bank.specs.Names.{is_process, AreSound, Parts, Renews, objects_in, is_marked}
 use Rattle.std.specs.Prelude.{◌≡◌, ◌+◌, ◌<◌, ◌≤◌}
 
--- Which nodes and which pages are free, counted from the first of each; by number, the usages and limits of banks, and
--- the annexes of processes; and the numbers that were listed for an order, with the capacity of that list.
+-- Which nodes and which pages are free, each from the first one on; the usages and limits of banks, and the annexes of
+-- processes, by number; the numbers listed for an order, and how many the list has memory for.
 pub record BanksState : Type 0 where
   pub free_nodes : List Bool
   pub free_pages : List Bool
@@ -29,19 +29,19 @@ pub record AreCounted (g : Geometry) (os : List Object) (s : BanksState) : Type 
   pub annex : (p : ℕ) → IsTrue (is_process os p) → slice_index s.annexes p ≡ annex_at os p
   pub room : object_count g + 2 ≤ s.room
 
--- a bank may be served: the frames are sound, and the state of the banks agrees with them
+-- bank b may be served: the frames are sound, and the banks' state agrees with them
 pub record MayServe (p : Parts) (s : BanksState) (b : ℕ) : Type 0 where
   pub sound : AreSound p
   pub counted : AreCounted p.geometry (objects_in p) s
   pub bank : IsTrue (is_bank (content_at (objects_in p) b))
 
--- a bank's order may be planned: the capability that is sent may be held
+-- an order of bank b may be planned: b may be served, and the capability that was sent may be held
 pub record MayAsk (p : Parts) (s : BanksState) (b : ℕ) (args : Arguments) : Type 0 where
   pub serves : MayServe p s b
   pub sent : MayBeHeld (objects_in p) args.capability
 
--- Touched numbers, geometry and failures stay, allocation counts rise with each object that is freed, and all others
--- stay fetched and announced. The parameters are ghost members of a store of present frames.
+-- Touched numbers, geometry and failures stay. Allocation counts rise for freed objects only. All other objects stay
+-- fetched and announced. The parameters are the ghost members of a store of present frames.
 pub record KeepsObjects {S : Type 0} (parts : S → Parts) (Fetched Announced : S → ℕ → Type 0)
     (Continues : S → S → Type 0) (old new : S) : Type 0 where
   pub count : length (parts new).headers ≡ length (parts old).headers

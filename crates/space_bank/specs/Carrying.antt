@@ -1,4 +1,4 @@
--- What the orders of a bank require, and what holds after them.
+-- What the orders of banks require, and what they change.
 use Rattle.space_bank.specs.Names.{[], ℕ, Bool, true, false, List, length, IsTrue, Geometry, Object, Arguments}
 use Rattle.space_bank.specs.Names.{BankOrder, chain, usage, has_quota, on_bank, owned_by, AreCurrent, AreKeepable}
 use Rattle.space_bank.specs.Names.{is_bank, is_free, is_member, rescind, content_at, object_at, IsNow, SameFrame}
@@ -14,22 +14,23 @@ use Rattle.space_bank.specs.Banks.{AreCounted, BanksState}
 abbrev pub marks_of : BanksState → List Bool
 marks_of s = s.free_nodes ++ s.free_pages
 
--- a number is marked as taken, and nothing else changes
+-- number n is marked as taken, and nothing else changes
 pub record IsMade (s t : BanksState) (n : ℕ) : Type 0 where
   pub nodes : length t.free_nodes ≡ length s.free_nodes
   pub pages : length t.free_pages ≡ length s.free_pages
   pub marks : marks_of t ≡ slice_set (marks_of s) n false
   pub kept : t ≡ record s { free_nodes = t.free_nodes; free_pages = t.free_pages }
 
--- the state of the banks agrees with the new objects, and their frames can be kept at the next age
+-- after an order the banks' state agrees with the objects, no capability's count is above its object's, and the frames
+-- may be kept at the next age
 pub record CarriesOut (old new : Parts) (s : BanksState) : Type 0 where
   pub counted : AreCounted old.geometry (objects_in new) s
   pub current : AreCurrent (frames_of new)
   pub keepable : (age : ℕ) → age + 1 < 2 ^ 64 → AreKeepable old.geometry age (frames_of old) →
       AreKeepable old.geometry (age + 1) (frames_of new)
 
--- A list can be freed: it has no number twice, each number has an object, and no bank of the chain of `above` is in it.
--- A bank outside the list counts the whole list in its usage if it is in that chain, else nothing of it.
+-- A list may be freed: its numbers are in use, none occurs twice, and none is a bank in the chain of `above`. Each
+-- bank outside the list has all of the list under it if it is in that chain, else none.
 pub record MayFree (os : List Object) (above : ℕ) (list : List ℕ) : Type 0 where
   pub once : IsOnce list
   pub used : (n : ℕ) → is_member list n ≡ true → is_free (content_at os n) ≡ false
@@ -43,14 +44,15 @@ pub record AreTransferred (list : List ℕ) (b : ℕ) (old new : List Object) : 
   pub each : (n : ℕ) → object_at new n ≡
       (if is_member list n then record { owner = b; content = content_at old n } else object_at old n)
 
--- a new object that is a page, a node, or a bank whose owner's chain has fewer than 16 banks
+-- a page, a node, or a bank whose owner's chain has fewer than 16 banks may be made under bank b
 abbrev pub IsMadeUnder : List Object → ℕ → Fresh → Type 0
 IsMadeUnder os b (fresh.Bank limit) = length (chain os b) < 16
 IsMadeUnder os b (fresh.Root annex) = ⊥
 IsMadeUnder os b fresh.Annex = ⊥
 IsMadeUnder os b _ = Unit {0}
 
--- when a bank may make its changes: one new object, a process, objects freed, objects moved to its owner
+-- the conditions of a bank's changes: to make an object, to make a process, to free objects, to transfer objects to
+-- the owner
 pub record MakesOne (g : Geometry) (os : List Object) (list : List ℕ) (n : ℕ) (f : Fresh) (b : ℕ) : Type 0 where
   pub listed : list ≡ n ∷ []
   pub bank : IsTrue (is_bank (content_at os b))
@@ -78,27 +80,27 @@ pub record Transfers (os : List Object) (list : List ℕ) (b : ℕ) : Type 0 whe
   pub other : b ≢ 0
   pub listed : list ≡ b ∷ owned_by os b
 
--- a change of a bank may be made; its order writes the numbers of the list
+-- the condition of any change of a bank; its order writes the numbers of the list
 abbrev pub MayMake : Geometry → List Object → List ℕ → BankChange → Type 0
 MayMake g os list (bank.Make n f b) = MakesOne g os list n f b
 MayMake g os list (bank.MakeProcess r a b) = MakesTwo g os list r a b
 MayMake g os list (bank.GiveUp above) = Frees os list above
 MayMake g os list (bank.Transfer b) = Transfers os list b
 
--- a change that an order of a bank may make
+-- a change that an order of a bank may plan
 abbrev pub IsForBank : Geometry → List Object → List ℕ → Change → Type 0
 IsForBank g os list change.Nothing = list ≡ []
 IsForBank g os list (change.Bank made) = MayMake g os list made
 IsForBank g os list _ = ⊥
 
--- An order is planned that writes the numbers of a list. Whatever else changes in words, slots and states before it is
--- carried out, its outcome is the planned one, and the change may be made.
+-- An order was planned, and writes these numbers. Words, slots and states may change before it is carried out: its
+-- outcome is still the planned one, and its change may still be made.
 pub record PlansAs (g : Geometry) (os : List Object) (b : ℕ) (order : BankOrder) (args : Arguments) (written : List ℕ)
     (plan : OrderPlan) : Type 0 where
   pub outcome : (us : List Object) → SameFrame os us → on_bank g us b order args ≡ outcome_by us written plan
   pub may : (us : List Object) → SameFrame os us → IsNow g us → IsForBank g us written plan.change
 
--- the plan of an order, and the list: the numbers that the invocation writes itself, then those of the order
+-- an order was planned; `list` has the numbers that the invocation writes itself, then those that the order writes
 pub record IsPlanned (p : Parts) (b : ℕ) (order : BankOrder) (args : Arguments) (first : List ℕ) (plan : OrderPlan)
     (list : List ℕ) : Type 0 where
   pub plans : PlansAs p.geometry (objects_in p) b order args (on_bank p.geometry (objects_in p) b order args).written

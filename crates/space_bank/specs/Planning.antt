@@ -1,4 +1,4 @@
--- What planning reads of a bank.
+-- What the planning of a bank's order reads.
 use Rattle.space_bank.specs.Names.{ℕ, Bool, true, false, List, [], length, slice_index, Capability, Process, Operation}
 use Rattle.space_bank.specs.Names.{Call, Return, Send, Object, is_free, annex_at, content_at, is_marked, is_under}
 use Rattle.space_bank.specs.Names.{owned_by, under, object_at, owner_at, not}
@@ -10,7 +10,7 @@ abbrev pub annex_of : List Object → Capability → List ℕ
 annex_of os (Process p) = annex_at os p ∷ []
 annex_of os _ = []
 
--- the same, from a list of the annexes of all processes
+-- the same, looked up in the recorded annexes
 abbrev pub annex_among : List ℕ → Capability → List ℕ
 annex_among annexes (Process p) = slice_index annexes p ∷ []
 annex_among annexes _ = []
@@ -23,7 +23,7 @@ is_listed os b deep n = if deep then (n == b) || is_under os b (object_at os n) 
 abbrev pub listed_by : List Object → ℕ → Bool → List ℕ
 listed_by os b deep = if deep then under os b else owned_by os b
 
--- bank b has a usage and a limit, and its usage is within the limit
+-- bank b has a usage and a limit, and the usage is within the limit
 pub record HasLeft (s : BanksState) (b : ℕ) : Type 0 where
   pub usage : b < length s.usages
   pub limit : b < length s.limits
@@ -45,12 +45,12 @@ pub record IsNextUsed (os : List Object) (from n : ℕ) : Type 0 where
 abbrev pub HasNoneUsed : List Object → ℕ → Type 0
 HasNoneUsed os from = (m : ℕ) → from ≤ m → m < length os → is_free (content_at os m) ≡ true
 
--- the numbers that an invocation of a kernel object writes itself: with a call the process and its annex, with a
--- return the process
+-- the numbers that an invocation of a kernel object writes itself: for a call the process and its annex, for a return
+-- the process, else none
 abbrev pub writers : Operation → ℕ → ℕ → List ℕ
 writers operation p annex = elim operation [ Call ↦ p ∷ annex ∷ [] | Return ↦ p ∷ [] | Send ↦ [] ]
 
--- how many numbers these are
+-- how many numbers `writers` has
 abbrev pub writer_count : Operation → ℕ
 writer_count Call = 2
 writer_count Return = 1

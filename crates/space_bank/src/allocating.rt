@@ -1,4 +1,4 @@
-// New objects of a bank.
+// Makes new objects for banks.
 ghost use Rattle.std.specs.Prelude.{◌≡◌, ℕ, ◌+◌, ◌<◌, ◌^◌, [], ◌∷◌, length, slice_set};
 ghost use Rattle.model.specs.Banking.{new_annex, new_root, with_new};
 ghost use Rattle.model.specs.Frame.{header_at};
@@ -14,9 +14,9 @@ use capability::{Fresh, PresentFrames};
 use model::{Capability, Content, Role};
 
 impl Banks {
-    // Turns a free number, which is fetched and announced, into a page, a node or a bank that `bank` owns. No limit
-    // in the chain of `bank` may be reached already, and if the new object is a bank, the chain must have fewer than
-    // 16 banks.
+    // Turns a free number, which is fetched and announced, into a page, a node or a bank that `bank` owns.
+    // All limits in the chain of `bank` must allow one more object. For a new bank the chain must have fewer
+    // than 16 banks.
     pub(crate) fn allocate<F: PresentFrames>(
         &mut self,
         store: &mut F,
@@ -57,7 +57,8 @@ impl Banks {
         self.limits[number as usize] = limit;
     }
 
-    // Turns two free numbers, which are fetched and announced, into the root and the annex of a process of a bank.
+    // Turns two free numbers, which are fetched and announced, into the root and the annex of a process that
+    // `bank` owns.
     pub(crate) fn new_process<F: PresentFrames>(
         &mut self,
         store: &mut F,
@@ -85,7 +86,7 @@ impl Banks {
         self.annexes[root as usize] = annex;
     }
 
-    // Turns a free number into a new object, and marks it as taken. The usages of banks don't change.
+    // Turns a free number into a new object, and marks it as taken. No usage changes.
     #[tactic(auto, unfolding(model::specs::Banking::with_new))]
     fn make<F: PresentFrames>(&mut self, store: &mut F, number: u64, fresh: Fresh, bank: u64)
         requires nodes { length self.old.limits ≡ length self.old.free_nodes }
@@ -105,7 +106,7 @@ impl Banks {
         ensures snapshots { KeepsRest F.parts F.IsFetched F.IsAnnounced F.ContinuesTo store.old store.new }
         ensures made { IsMade self.old self.new number }
     {
-        // There is a limit for each node, and pages come after the nodes.
+        // `limits` has an item for each node, so its length is the number of the first page.
         let first_page = self.limits.len();
         mark(&mut self.nodes, &mut self.pages, first_page, number, false);
         claim(store, number, fresh, bank);

@@ -1,12 +1,12 @@
-// Counts about banks that are kept beside the objects.
+// The state of banks, stored apart from the objects.
 ghost use Rattle.std.specs.Prelude.{◌≡◌, slice_index};
 
 use collections::NumberSet;
 use std::marker::Model;
 
-/// Which numbers are free; for each bank its limit and usage; and for each process its annex.
+/// Which numbers are free; the limit and usage of each bank; the annex of each process.
 ///
-/// These are counted once from the objects, then every order of a bank updates them. Only the counting takes memory.
+/// These are computed once from the objects. Each order of a bank updates them. Only `count` allocates.
 #[derive(Drop)]
 pub struct Banks {
     pub(crate) nodes: NumberSet,
@@ -35,8 +35,8 @@ impl Model for Banks {
 }
 
 impl Banks {
-    /// Returns the usage of a bank: how many other objects have it in the chain of their owner. 0 for any other
-    /// number.
+    /// Returns the usage of a bank: how many other objects have it in their owner's chain. Returns 0 for any
+    /// other number.
     pub fn usage(&self, bank: u64) -> u64
         ensures { result ≡ slice_index self.now.usages bank }
     {
@@ -46,7 +46,7 @@ impl Banks {
         }
     }
 
-    /// Returns the annex of a process; 0 for any other number.
+    /// Returns the annex of a process, or 0 for any other number.
     pub fn annex(&self, process: u64) -> u64
         ensures { result ≡ slice_index self.now.annexes process }
     {
@@ -56,7 +56,7 @@ impl Banks {
         }
     }
 
-    /// Returns the numbers listed for the order that was planned last.
+    /// Returns the numbers listed by the last order that was planned.
     pub fn listed(&self) -> &[u64]
         ensures { result.now ≡ self.now.listed }
     {

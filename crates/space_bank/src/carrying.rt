@@ -1,4 +1,4 @@
-// Carrying out the change that an order of a bank planned.
+// Carries out the change that an order of a bank planned.
 ghost use Rattle.std.specs.Prelude.{◌≡◌, ◌≤◌, drop, length};
 ghost use Rattle.std.specs.List.{All};
 ghost use Rattle.capability.specs.Changes.{bank_changed};
@@ -11,11 +11,11 @@ use crate::banks::Banks;
 use capability::{BankChange, PresentFrames};
 
 impl Banks {
-    /// Carries out a planned change. The numbers that its order writes are listed from index `skip` on. They must be
+    /// Carries out a planned change. `listed[skip..]` has the numbers that its order writes. They must be
     /// announced, and those of new objects fetched.
     ///
-    /// Takes no memory, and can't fail. If objects are freed or transferred, it goes over the listed
-    /// numbers; otherwise over at most 16 banks.
+    /// Doesn't allocate, and can't fail. Takes time in proportion to the listed numbers if objects are freed
+    /// or transferred, and to at most 16 banks otherwise.
     pub fn carry_out<F: PresentFrames>(&mut self, store: &mut F, skip: usize, change: BankChange)
         requires sound { AreSound (F.parts store.old) }
         requires counted { AreCounted (F.parts store.old).geometry

@@ -16,7 +16,7 @@ use capability::Frames;
 
 /// Adds `more` to the usage of each bank in a chain, and subtracts `less`.
 ///
-/// Goes over at most 16 banks, and reads only the table.
+/// Visits at most 16 banks, and reads only the table.
 #[tactic(auto, using(crate::proofs::Tallies::climb_ended))]
 pub(crate) fn shift<F: Frames>(usages: &mut [u64], store: &F, bank: u64, more: u64, less: u64)
     requires tree { IsTree (objects_in (F.parts store.now)) }
@@ -41,7 +41,7 @@ pub(crate) fn shift<F: Frames>(usages: &mut [u64], store: &F, bank: u64, more: u
 }
 
 impl Banks {
-    /// Adds `count` to the usage of each bank in the chain of `bank`. No usage may then exceed its limit.
+    /// Adds `count` to the usage of each bank in the chain of `bank`. All limits in the chain must allow it.
     #[tactic(auto, using(crate::proofs::Tallies::room_fits))]
     pub(crate) fn account<F: Frames>(&mut self, store: &F, bank: u64, count: u64)
         requires asks { MayServe (F.parts store.now) self.old bank }

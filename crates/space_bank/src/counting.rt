@@ -1,4 +1,4 @@
-// Counting usages, limits, annexes and free numbers from the objects.
+// Computes usages, limits, annexes and free numbers from the objects.
 ghost use Rattle.std.specs.Prelude.{◌≡◌, ◌↔◌, ℕ, ◌+◌, ◌<◌, ◌≤◌, ◌^◌, false, length, map, slice_index, IfOk};
 ghost use Rattle.std.specs.Prelude.{IsTrue};
 ghost use Rattle.std.specs.List.{range_with_len};
@@ -31,7 +31,7 @@ fn limit_there<F: Frames>(store: &F, number: u64) -> u64
     }
 }
 
-// Returns the number that is kept for a fetched object of this role: a bank's limit or a process's annex.
+// Returns the number recorded for a fetched object of this role: a bank's limit or a process's annex.
 fn number_there<F: Frames>(store: &F, number: u64, role: Role) -> u64
     requires { F.IsFetched store.now number }
     ensures { result ≡ kept_number role (content_at (objects_in (F.parts store.now)) number) }
@@ -43,7 +43,7 @@ fn number_there<F: Frames>(store: &F, number: u64, role: Role) -> u64
     }
 }
 
-// If an object has this role, fetches it and returns the number that is kept for it; else returns 0.
+// If an object has this role, fetches it and returns the number recorded for it, else 0.
 fn read_number<F: Frames>(store: &mut F, number: u64, role: Role) -> Result<u64, Failed>
     requires known { number < length (F.parts store.old).headers }
     requires may { MayFetch F.IsUsable F.parts store.old }
@@ -58,8 +58,8 @@ fn read_number<F: Frames>(store: &mut F, number: u64, role: Role) -> Result<u64,
     Ok(number_there(store, number, role))
 }
 
-/// Returns the numbers that are kept for the objects below `count`, by number: the limits of banks, or the annexes of
-/// processes, and 0 for objects of another role. Fetches each object of this role, one at a time, and no other.
+/// Returns a number for each object below `count`: the limit of a bank or the annex of a process, if the
+/// object has this role, else 0. Fetches the objects of this role, one at a time, and no others.
 ///
 /// Returns `NoMemory` if memory ran out, and `Fault` exactly if the device failed. No object changes.
 pub fn read_numbers<F: Frames>(
@@ -116,7 +116,7 @@ fn free_numbers<F: Frames>(
     Ok(numbers)
 }
 
-// Computes the usages of all banks. `usages` must be all 0.
+// Computes the usages of all banks. All of `usages` must be 0.
 fn add_usages<F: Frames>(store: &F, usages: &mut [u64])
     requires roles { HaveTheirRoles (frames_of (F.parts store.now)) }
     requires tree { IsTree (objects_in (F.parts store.now)) }
@@ -136,8 +136,8 @@ fn add_usages<F: Frames>(store: &F, usages: &mut [u64])
     }
 }
 
-/// Returns the usages of all banks, by number, from the table alone. The banks must be a tree. Fails only if memory
-/// runs out.
+/// Returns the usages of all banks, by number, from the table alone. The banks must form a tree. Fails only
+/// if memory runs out.
 pub fn count_usages<F: Frames>(alloc: Global, store: &F, count: u64) -> Result<Vec<u64>, AllocError>
     requires roles { HaveTheirRoles (frames_of (F.parts store.now)) }
     requires tree { IsTree (objects_in (F.parts store.now)) }
@@ -156,11 +156,11 @@ pub fn count_usages<F: Frames>(alloc: Global, store: &F, count: u64) -> Result<V
 }
 
 impl Banks {
-    /// Counts the free numbers, usages, limits and annexes. Fetches each bank for its limit and each process for its
-    /// annex, one at a time, and no other object.
+    /// Computes the free numbers, usages, limits and annexes. Fetches each bank for its limit and each
+    /// process for its annex, one at a time, and no other object.
     ///
-    /// Takes all the memory that any order will need; no other call takes any. Returns `NoMemory` if memory ran out,
-    /// and `Fault` exactly if the device failed. No object changes.
+    /// Allocates all memory that orders will need; no later call allocates. Returns `NoMemory` if memory ran
+    /// out, and `Fault` exactly if the device failed. No object changes.
     pub fn count<F: Frames>(alloc: Global, store: &mut F) -> Result<Banks, Refusal>
         requires usable { F.IsUsable store.old }
         requires sound { AreSound (F.parts store.old) }
@@ -174,7 +174,7 @@ impl Banks {
         Ok(Banks::with_numbers(alloc, store, limits, annexes)?)
     }
 
-    // Counts the free numbers and the usages, beside these limits and annexes.
+    // Computes the free numbers and the usages, and returns them with these limits and annexes.
     fn with_numbers<F: Frames>(
         alloc: Global,
         store: &F,

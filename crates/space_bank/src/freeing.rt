@@ -16,7 +16,7 @@ use crate::walking::owner;
 use capability::PresentFrames;
 use capability::objects::{rescind, set_owner};
 
-// Makes a bank the owner of these objects, which are announced.
+// Makes a bank the owner of these objects, which must be announced.
 fn transfer<F: PresentFrames>(store: &mut F, numbers: &[u64], bank: u64)
     requires announced { All (F.IsAnnounced store.old) numbers.now }
     requires used { All
@@ -37,8 +37,8 @@ fn transfer<F: PresentFrames>(store: &mut F, numbers: &[u64], bank: u64)
 }
 
 impl Banks {
-    // Frees a bank other than the prime bank, and transfers the objects that it owns to its owner. The bank and these
-    // objects must be announced, and listed from index `skip` on.
+    // Frees a bank other than the prime bank, and transfers the objects that it owns to its owner.
+    // `listed[skip..]` must have the bank and these objects, all announced.
     pub(crate) fn return_to_parent<F: PresentFrames>(
         &mut self,
         store: &mut F,
@@ -60,12 +60,12 @@ impl Banks {
         self.release(store, parent, 1);
         transfer(store, &self.listed[skip + 1..], parent);
         rescind(store, &[bank]);
-        // There is a limit for each node, and pages come after the nodes.
+        // `limits` has an item for each node, so its length is the number of the first page.
         let first_page = self.limits.len();
         mark(&mut self.nodes, &mut self.pages, first_page, bank, true);
     }
 
-    // Frees `listed[skip..]`, and subtracts their count from the usages of `above` and its ancestors.
+    // Frees `listed[skip..]`, and subtracts their number from the usage of each bank in the chain of `above`.
     pub(crate) fn free_listed<F: PresentFrames>(&mut self, store: &mut F, skip: usize, above: u64)
         requires asks { MayServe (F.parts store.old) self.old above }
         requires may { MayFree (objects_in (F.parts store.old)) above
@@ -81,7 +81,7 @@ impl Banks {
         let count = (self.listed.len() - skip) as u64;
         self.release(store, above, count);
         rescind(store, &self.listed[skip..]);
-        // There is a limit for each node, and pages come after the nodes.
+        // `limits` has an item for each node, so its length is the number of the first page.
         let first_page = self.limits.len();
         mark_free(
             &mut self.nodes,

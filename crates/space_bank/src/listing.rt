@@ -1,5 +1,5 @@
-// Lists of the numbers that an order writes. Each list has memory for all numbers from the start, so adding to it
-// takes none.
+// Lists of the numbers that an order writes. There is memory for all numbers from the start, so adding to a
+// list doesn't allocate.
 ghost use Rattle.std.specs.Prelude.{◌≡◌, ◌≢◌, ◌+◌, ◌<◌, ◌≤◌, ◌++◌, [], ◌∷◌, false, length, vec_len};
 ghost use Rattle.std.specs.Vec.{vec_capacity};
 ghost use Rattle.model.specs.Object.{is_free as counts_as_free};
@@ -15,7 +15,7 @@ use capability::{Caller, Frames};
 use collections::NumberSet;
 use model::Operation;
 
-// Whether a number is to be listed for a bank. If `deep`, these are the bank and all objects below it; else the
+// Whether a number is to be listed for a bank. If `deep`: the bank, and all objects under it; else: the
 // objects that it owns itself.
 fn is_listed<F: Frames>(store: &F, bank: u64, deep: bool, number: u64) -> bool
     requires { HaveTheirRoles (frames_of (F.parts store.now)) }
@@ -28,8 +28,8 @@ fn is_listed<F: Frames>(store: &F, bank: u64, deep: bool, number: u64) -> bool
     }
 }
 
-// Lists the numbers of a bank other than the prime bank, in rising order. Number 0 isn't among them. Goes over all
-// numbers that aren't free.
+// Lists the numbers of a bank other than the prime bank, in rising order. Number 0 is never among them.
+// Visits all numbers in use.
 #[tactic(auto, using(capability::proofs::FrameLists::length_objects, crate::proofs::Missing::listed_inner))]
 fn list_all<F: Frames>(
     store: &F,
@@ -62,8 +62,8 @@ fn list_all<F: Frames>(
 }
 
 impl Banks {
-    /// Replaces the list by the numbers that an invocation of a kernel object writes itself: for a call the process
-    /// and its annex, for a return the process.
+    /// Replaces the list by the numbers that an invocation of a kernel object writes itself: for a call the
+    /// process and its annex, for a return the process, else none.
     pub fn list_writers(&mut self, caller: Caller)
         requires { 2 ≤ self.old.room }
         ensures { self.new ≡ record self.old {
@@ -89,7 +89,8 @@ impl Banks {
         self.listed.push_reserved(number);
     }
 
-    // Appends the numbers of a bank to the list.
+    // Appends the numbers of a bank to the list. If `deep`: the bank, and all objects under it; else: the
+    // objects that it owns itself.
     #[tactic(auto, using(crate::proofs::Tallies::serve_roles, crate::proofs::Missing::bank_free))]
     pub(crate) fn list_all<F: Frames>(&mut self, store: &F, bank: u64, deep: bool)
         requires bank { MayServe (F.parts store.now) self.old bank }

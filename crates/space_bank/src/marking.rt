@@ -1,4 +1,4 @@
-// Sets of free numbers. Nodes have the lower numbers, and pages those after them.
+// Sets of free numbers. Nodes have the lower numbers, pages the numbers after them.
 ghost use Rattle.std.specs.Prelude.{◌≡◌, ℕ, List, ◌+◌, ◌<◌, ◌^◌, ◌++◌, None, IfSome, true, false, if◌then◌else◌};
 ghost use Rattle.std.specs.Prelude.{length, slice_index_or, slice_set};
 ghost use Rattle.std.specs.List.{All};

@@ -18,7 +18,8 @@ use crate::walking::owner;
 use capability::{BankChange, Change, Frames, OrderPlan};
 use model::{Access, Arguments, BankOrder, Capability, ResultCode};
 
-// Returns the object that freeing a capability frees (of a process, its root), or `None` if it frees none.
+// Returns the object that freeing a capability frees, or `None` if it frees none. For a process this is the
+// root.
 fn freed_object(capability: Capability) -> Option<u64>
     ensures { (os : List Object) → MatchOption result (freed_by os capability ≡ [])
         (λ n. freed_by os capability ≡ n ∷ annex_of os capability) }
@@ -37,10 +38,10 @@ fn freed_object(capability: Capability) -> Option<u64>
 }
 
 impl Banks {
-    /// Plans an order. Appends the numbers that it writes to the list, which may have at most two before.
+    /// Plans an order. Appends the numbers that it writes to the list, which may have at most two numbers
+    /// already. Changes nothing else. Doesn't allocate.
     ///
-    /// Changes nothing else and takes no memory. A new object is planned at the least free number. If more than one
-    /// result code applies, the plan has the least.
+    /// A new object gets the least free number. If several result codes apply, the plan has the least.
     pub fn plan<F: Frames>(
         &mut self,
         store: &F,
@@ -69,8 +70,8 @@ impl Banks {
         }
     }
 
-    /// Returns how many more objects a bank may own under the limits of its whole chain, its usage, and its own
-    /// limit.
+    /// Returns how many more objects a bank may own under all limits in its chain, then its usage, then its
+    /// own limit.
     pub fn remaining<F: Frames>(&self, store: &F, bank: u64) -> [u64; 3]
         requires { MayServe (F.parts store.now) self.now bank }
         ensures { let objects = objects_in (F.parts store.now) in result
@@ -85,7 +86,7 @@ impl Banks {
         ]
     }
 
-    // Plans to free the object of a capability. The bank must own it.
+    // Plans to free the object that a capability names. The bank must own it.
     fn plan_free<F: Frames>(&mut self, store: &F, bank: u64, capability: Capability) -> OrderPlan
         requires bank { MayServe (F.parts store.now) self.old bank }
         requires few { length self.old.listed ≤ 2 }
@@ -121,7 +122,7 @@ impl Banks {
         }
     }
 
-    // Plans to destroy a bank and all objects below it.
+    // Plans to destroy a bank and all objects under it.
     #[tactic(auto, using(crate::proofs::Plans::bank_room))]
     fn plan_destroy<F: Frames>(&mut self, store: &F, bank: u64) -> OrderPlan
         requires bank { MayServe (F.parts store.now) self.old bank }

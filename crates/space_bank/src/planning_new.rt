@@ -29,7 +29,7 @@ pub enum New {
 }
 
 impl New {
-    // Returns how many numbers the object takes.
+    // Returns how many numbers the new object takes.
     fn count(self) -> u64
         ensures { result ≡ count_of self }
     {
@@ -40,7 +40,7 @@ impl New {
     }
 }
 
-// Plans a new object at the least number in a set. Index 0 of the set stands for number `first`.
+// Plans a new object at the least number in a set. Member k of the set means number `first` + k.
 #[tactic(auto, using(crate::proofs::Missing::found_none))]
 fn next_one(numbers: &NumberSet, first: u64, fresh: Fresh, bank: u64) -> Option<BankChange>
     requires { first + length numbers.now < 2 ^ 64 }
@@ -103,7 +103,7 @@ fn given_for(number: u64, fresh: Fresh) -> Capability
     }
 }
 
-// Whether the new object is a bank, and the chain above it is as long as allowed already.
+// Whether the new object is a bank, and the chain of its owner already has 16 banks.
 fn is_deep<F: Frames>(store: &F, bank: u64, new: New) -> bool
     ensures { result ≡ is_deep (objects_in (F.parts store.now)) bank new }
 {
@@ -145,8 +145,8 @@ impl Banks {
         }
     }
 
-    // Plans a new object at the least free number of its kind. A process takes two numbers, for its root and its
-    // annex. A bank is refused if its chain would be too long.
+    // Plans a new object at the least free number of its kind. A process takes two numbers, for its root and
+    // its annex. A bank is refused if the chain of its owner already has 16 banks.
     pub(crate) fn plan_new<F: Frames>(&mut self, store: &F, bank: u64, new: New) -> OrderPlan
         requires bank { MayServe (F.parts store.now) self.old bank }
         requires few { length self.old.listed ≤ 2 }

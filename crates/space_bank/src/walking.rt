@@ -32,8 +32,8 @@ pub(crate) fn is_free<F: Frames>(store: &F, number: u64) -> bool
     matches!(store.table().header(number).role, Role::Free)
 }
 
-/// Whether a bank is in the chain that begins with `first`, of at most 16 banks (KeyKOS, EROS: banks form a tree).
-/// Reads only the table.
+/// Whether the chain of `first`, at most 16 banks, contains a bank (KeyKOS, EROS: banks form a tree). Reads
+/// only the table.
 #[tactic(auto, using(crate::proofs::Plans::chain_begun, crate::proofs::Plans::chain_here))]
 pub fn is_in_chain<F: Frames>(store: &F, first: u64, bank: u64) -> bool
     ensures { result
@@ -94,7 +94,7 @@ impl Banks {
         count <= self.least_left(store, bank)
     }
 
-    // Returns how many more objects the limits of all banks in the chain of a bank allow.
+    // Returns how many more objects all limits in the chain of a bank allow.
     #[tactic(auto, using(crate::proofs::Plans::left_there))]
     pub(crate) fn least_left<F: Frames>(&self, store: &F, bank: u64) -> u64
         requires { MayServe (F.parts store.now) self.now bank }

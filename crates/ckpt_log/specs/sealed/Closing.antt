@@ -7,7 +7,7 @@ use Rattle.layout.specs.sealed.Gate.{numbered_gate_bytes}
 use Rattle.ckpt_log.specs.declared.sealed.closing.Order.{Order}
 use Rattle.layout.specs.sealed.Opening.{AreSlots, Commits, gate_sector}
 
--- each gate is closed: it is zeros
+-- each gate is closed: its 64 numbers are 0
 abbrev pub AreClosed : Image → Type 0
 AreClosed image = (k : ℕ) → k < 3 → image (gate_sector k) ≡ numbered_gate_bytes 0
 
@@ -15,12 +15,12 @@ AreClosed image = (k : ℕ) → k < 3 → image (gate_sector k) ≡ numbered_gat
 abbrev pub CommitsNone : Image → Type 0
 CommitsNone image = (h : SealedHeader) → Commits image h → ⊥
 
--- only gates differ, and the committed header is the same, or there is none
+-- only gates may differ, and a header that is committed was committed before
 pub record KeepsOrHasNone (old new : Image) : Type 0 where
   pub elsewhere : (i : ℕ) → ((k : ℕ) → k < 3 → i ≡ gate_sector k → ⊥) → new i ≡ old i
   pub committed : (h : SealedHeader) → Commits new h → Commits old h
 
--- c differs in this way from an image that a crash may leave
+-- c differs only in gates from an image that a crash now may leave; it has the same committed header, or none
 abbrev pub WasKeptOrHasNone : Disk → Image → Type 0
 WasKeptOrHasNone disk c = (d : Image) × disk.may_leave d × KeepsOrHasNone d c
 
@@ -28,7 +28,7 @@ WasKeptOrHasNone disk c = (d : Image) × disk.may_leave d × KeepsOrHasNone d c
 abbrev pub GoesFirst : Slots → ℕ → ℕ → Type 0
 GoesFirst slots i j = (n : ℕ) → n % 3 ≡ j → Counts slots n → (m : ℕ) × (m % 3 ≡ i) × Counts slots m × (m < n)
 
--- all three slots: those of headers that count, the least number first, then the others
+-- an order of the three slots: first those whose headers count, in rising order of their numbers, then the others
 pub record IsOrder (slots : Slots) (o : Order) : Type 0 where
   pub first_low : o.first < 3
   pub second_low : o.second < 3

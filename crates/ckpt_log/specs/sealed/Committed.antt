@@ -12,7 +12,7 @@ use Rattle.layout.specs.declared.sealed.header.SealedHeader.{SealedHeader}
 use Rattle.layout.specs.sealed.Header.{IsWithinLimits}
 use Rattle.layout.specs.sealed.Opening.{AreSlots, Commits}
 
--- the committed header is h, and within the limits of a log half with `room` slots
+-- h is committed, and is within the limits of a log half with `room` slots
 pub record HasHeader (image : Image) (room : ℕ) (h : SealedHeader) : Type 0 where
   pub committed : Commits image h
   pub fits : IsWithinLimits room h.header
@@ -25,7 +25,7 @@ Refuses image why = (slots : Slots) × AreSlots image slots × IsRefused slots w
 abbrev pub IsBeyond : Image → ℕ → Type 0
 IsBeyond image room = (h : SealedHeader) × Commits image h × (IsWithinLimits room h.header → ⊥)
 
--- why no header is read; nothing is said if the device failed
+-- why no header is read; true of any image if the device failed
 abbrev pub HasNone : Image → ℕ → OpenFault → Type 0
 HasNone image room fault.Failed = ⊤
 HasNone image room (fault.Bad bad.NoHeader) = Refuses image NoPair

@@ -14,19 +14,19 @@ use Rattle.layout.specs.sealed.Sector.{seal_in}
 use Rattle.model.specs.declared.geometry.Geometry.{Geometry}
 use Rattle.seal.specs.declared.sums.Sums.{Sums}
 
--- nothing was touched but the n sectors from `at` on, in which a crash may leave any bytes
+-- only the n sectors from `at` on may have changed; a crash may leave any bytes in them
 pub record TouchesAt (at n : ℕ) (old new : Disk) : Type 0 where
   pub size : new.sectors ≡ old.sectors
   pub elsewhere : Elsewhere at n old.seen new.seen
   pub crash : Tears at n old new
   pub any_moment : LeavesOnly old new (λ c. IsTorn at n old c)
 
--- what was read of one sector of n entries: its entries and its seal, or nothing where it has none
+-- these bytes are a sector of n entries with this seal, or no such sector
 abbrev pub IsPieceIn : List ℕ → ℕ → List Entry → Option Sums → Type 0
 IsPieceIn bytes n es (Some seal) = (bytes ≡ entries_bytes es) × (seal ≡ seal_in bytes)
 IsPieceIn bytes n es None = (ds : List Entry) → length ds ≡ n → AllFitting ds → bytes ≡ entries_bytes ds → ⊥
 
--- what was read of all of them
+-- the sectors from `at` on contain n entries with these sums, or no n entries
 abbrev pub AreEntriesIn : Image → ℕ → ℕ → List Entry → Option Sums → Type 0
 AreEntriesIn image at n es (Some sums) = AreEntries image at es × (sums ≡ sums_of_entries es)
 AreEntriesIn image at n es None = (ds : List Entry) → length ds ≡ n → AllFitting ds → AreEntries image at ds → ⊥
@@ -38,13 +38,13 @@ IsBadDirectory image at g sums n NoMemory = ⊥
 IsBadDirectory image at g sums n (Bad reason) = (reason ≡ BadDirectory) ×
     ((es : List Entry) → length es ≡ n → HasEntries image at g sums es → ⊥)
 
--- why entries that were read are refused: the sectors have none, or other sums, or they are no directory
+-- why entries that were read are refused: a sector contained none, the sums differ, or they are no directory
 pub record IsNoDirectory (g : Geometry) (found : Option Sums) (sums : Sums) (es : List Entry) (e : BadImage)
     : Type 0 where
   pub reason : e ≡ BadDirectory
   pub none : found ≡ Some sums → AllFitting es × (IsDirectory g es → ⊥)
 
--- a directory that was written is read, and nothing else, and it isn't refused
+-- a directory that was written is read back, as no other directory, and isn't refused
 abbrev pub DirectoriesAreReadBack : Type 0
 DirectoriesAreReadBack = (image : Image) (at : ℕ) (g : Geometry) (es : List Entry) → IsDirectory g es →
     AreEntries image at es →

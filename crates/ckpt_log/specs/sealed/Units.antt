@@ -12,32 +12,32 @@ use Rattle.layout.specs.sealed.Sector.{AreWords}
 use Rattle.layout.specs.declared.sealed.page.PageHeader.{PageHeader}
 use Rattle.layout.specs.sealed.Sector.{seal_in}
 
--- the seal of a page: the one of its header sector
+-- the seal of a page is that of its header sector
 abbrev pub page_seal : List ℕ → Sums
 page_seal frame = seal_in (take 512 frame)
 
--- the header and the seal that were read are those of the page's frame
+-- this header and seal were read from a page's frame
 abbrev pub IsPageRead : ℕ → List ℕ → PageHeader × Sums → Type 0
 IsPageRead age frame read = IsPage age frame read.0 × (read.1 ≡ page_seal frame)
 
--- why no page is read: the bytes are no frame of one
+-- why a page isn't read: the device failed, or the bytes are no page's frame
 abbrev pub IsBadPage : ℕ → List ℕ → OpenFault → Type 0
 IsBadPage age bytes Failed = ⊤
 IsBadPage age bytes NoMemory = ⊥
 IsBadPage age bytes (Bad reason) = (reason ≡ BadFrame) ×
     ((h : PageHeader) → AreWords (page_header_numbers h) → IsPage age bytes h → ⊥)
 
--- why no cluster is read: the bytes are none
+-- why a cluster isn't read: the device failed, or the bytes are no cluster
 abbrev pub IsBadCluster : ℕ → List ℕ → OpenFault → Type 0
 IsBadCluster nodes bytes Failed = ⊤
 IsBadCluster nodes bytes NoMemory = ⊥
 IsBadCluster nodes bytes (Bad reason) = (reason ≡ BadFrame) × (IsCluster nodes bytes → ⊥)
 
--- a root with one unit more, after the others
+-- `new` is the root of the units of `root` and one more
 abbrev pub IsRootAfter : ℕ → Sums → Sums → Sums → Type 0
 IsRootAfter number seal root new = (us : List Unit) → root ≡ root_of us → new ≡ root_of (us ++ unit_of number seal ∷ [])
 
--- a root with another seal of one unit
+-- `new` is the root of the units of `root` after one of them got a new seal
 abbrev pub IsRootWith : ℕ → Sums → Sums → Sums → Sums → Type 0
 IsRootWith number old seal root new = (before after : List Unit) →
     root ≡ root_of (before ++ unit_of number old ∷ after) → new ≡ root_of (before ++ unit_of number seal ∷ after)

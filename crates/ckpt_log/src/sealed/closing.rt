@@ -1,4 +1,4 @@
-// Closing the gates of all headers, before a new image overwrites the old.
+// Closes the gates of all headers, before a new image overwrites the old one.
 ghost use Rattle.std.specs.Prelude.{◌≡◌, ◌≤◌, ◌<◌, length, IfOk, IsFalse, IsTrue, OnOk};
 ghost use Rattle.device.specs.Calls.{Counts, Elsewhere, IsTorn, Only};
 ghost use Rattle.device.specs.Moments.{LeavesOnly};
@@ -24,7 +24,7 @@ pub(crate) struct Order {
     pub third: u64,
 }
 
-// Whether the gate of slot `i` is closed before that of slot `j`. Otherwise it may be closed after it.
+// Whether the gate of slot `i` must be closed before that of slot `j`. If not, it may be closed after it.
 fn goes_first(slots: &[SlotNumbers], i: u64, j: u64) -> bool
     requires slots { length slots.now ≡ 3 }
     requires first { i < 3 }
@@ -43,7 +43,8 @@ fn goes_first(slots: &[SlotNumbers], i: u64, j: u64) -> bool
     }
 }
 
-// Returns the order of all three slots. Slots 0 and 1 are `i` and `j`, and `i` goes before `j`.
+// Returns an order of all three slots, with slot 2 in its right place. Slots 0 and 1 are `i` and `j`, and `i`
+// goes before `j`.
 fn with_last(slots: &[SlotNumbers], i: u64, j: u64) -> Order
     requires slots { length slots.now ≡ 3 }
     requires first { i < 2 }
@@ -97,7 +98,7 @@ fn read_order<D: Device>(device: &mut D) -> Result<Order, Failed>
     Ok(order_of(&numbers_of(&slots)))
 }
 
-// Closes the gate of a slot, and makes that and all earlier writes durable.
+// Closes the gate of a slot, and syncs, which makes all earlier writes durable too.
 fn close_gate<D: Device>(device: &mut D, slot: u64) -> Result<(), Failed>
     requires slot { slot < 3 }
     requires inside { 56 ≤ (D.disk device.old).sectors }
@@ -135,9 +136,9 @@ fn close_in_order<D: Device>(device: &mut D, order: Order) -> Result<(), Failed>
 
 /// Closes the gates of all headers, so that none is committed. Then this and all earlier writes are durable.
 ///
-/// A crash at any moment leaves the image that it could have left before, with the same committed header, or none. For
-/// that it closes the gates one after another, each with a sync: those of headers that count, the least number first,
-/// then the others.
+/// A crash at any moment leaves an image that differs only in the gates from one that it could have left
+/// before; the same header is committed, or none. To ensure this, the gates are closed one after another,
+/// each with a sync: first those of headers that count, in rising order of their numbers, then the others.
 ///
 /// It allocates nothing. Returns `Failed` exactly if the device failed.
 pub fn close_gates<D: Device>(device: &mut D) -> Result<(), Failed>

@@ -44,7 +44,7 @@ pub(crate) fn numbers_of(slots: &[HeaderSlot]) -> [SlotNumbers; 3]
     ]
 }
 
-// Returns the committed header, whose sequence number is given.
+// Returns the committed header, which has this sequence number.
 fn header_of(slots: &[HeaderSlot], sequence: u64) -> SealedHeader
     requires slots { length slots.now ≡ 3 }
     requires committed { IsCommitted (numbered slots.now) sequence }
@@ -101,7 +101,7 @@ fn choose(slots: &[HeaderSlot], room: u64) -> Result<SealedHeader, BadImage>
 ///
 /// Returns `Failed` exactly if the device failed, else:
 ///
-/// - `NoHeader` if no two headers with neighbouring numbers count
+/// - `NoHeader` if no two headers with consecutive numbers count
 /// - `BadHeader` if the gate of the next header has its number, or the committed header is beyond its limits
 #[tactic(auto, using(crate::proofs::SealedReading::has_none))]
 pub fn read_committed<D: Device>(device: &mut D, room: u64) -> Result<SealedHeader, OpenFault>

@@ -63,8 +63,8 @@ fn write_piece<D: Device>(device: &mut D, at: u64, entries: &[Entry]) -> Result<
     Ok(seal_in(&sector))
 }
 
-/// Writes a directory into the sectors from `at` on, 30 entries in each, and returns its sums. For all other sectors it
-/// keeps their bytes and adds nothing to what a crash may leave in them.
+/// Writes a directory into the sectors from `at` on, 30 entries in each, and returns its sums. All other
+/// sectors keep their bytes, and what a crash may leave in them doesn't change.
 ///
 /// It allocates nothing. Returns `Failed` exactly if the device failed; then the sectors of the directory may hold any
 /// bytes.
@@ -88,7 +88,8 @@ pub fn write_directory<D: Device>(
     Ok(sums)
 }
 
-// Reads a sector of `into.len()` entries, at most 30, and returns the sums in its seal, or `None` if it has none.
+// Reads a sector of `into.len()` entries, at most 30. Returns the sums in its seal, or `None` if it isn't
+// such a sector.
 fn read_piece<D: Device>(
     device: &mut D,
     at: u64,
@@ -108,7 +109,7 @@ fn read_piece<D: Device>(
     })
 }
 
-// Returns where the entries of sector `k` end, of `count` entries in all.
+// Returns the index after the last entry of sector `k`, if there are `count` entries.
 fn piece_end(count: usize, k: usize) -> usize
     requires { k < directory_length count }
     ensures after { 30 * k ≤ result }
@@ -124,8 +125,8 @@ fn piece_end(count: usize, k: usize) -> usize
     }
 }
 
-// Reads sector `k` into its entries, and returns the sums in its seal, or `None` if it has none. The entries before
-// stay.
+// Reads sector `k` into its part of `into`. Returns the sums in its seal, or `None` if it isn't a sector of
+// entries. Earlier entries don't change.
 fn read_next<D: Device>(
     device: &mut D,
     at: u64,
@@ -148,7 +149,7 @@ fn read_next<D: Device>(
     read_piece(device, at + k as u64, &mut into[start..end])
 }
 
-// Reads a directory of `into.len()` entries, and returns its sums, or `None` if a sector has no entries.
+// Reads a directory of `into.len()` entries. Returns its sums, or `None` if some sector isn't one of entries.
 fn read_entries<D: Device>(
     device: &mut D,
     at: u64,
@@ -171,12 +172,12 @@ fn read_entries<D: Device>(
     Ok(Some(sums))
 }
 
-// The numbers of an entry fit their bytes. It does nothing: its contract says so.
+// A lemma as a function, which does nothing: the numbers of an entry fit their bytes.
 fn entry_fits(entry: Entry)
     ensures { (entry.object < 2 ^ 64) × (entry.slot < 2 ^ 64) }
 {}
 
-// The numbers of all entries fit their bytes. It changes nothing: its contract says so.
+// A lemma as a function, which changes nothing: the numbers of all entries fit their bytes.
 fn entries_fit(entries: &[Entry])
     ensures { AllFitting entries.now }
 {
@@ -185,8 +186,9 @@ fn entries_fit(entries: &[Entry])
     }
 }
 
-// Checks that entries are a directory: each is of the device, the objects rise, and no slot comes twice. They stay.
-// Returns `BadDirectory` if they are none; then they may be any entries.
+// Checks that entries are a directory: each is possible on the device, the objects rise, and no slot comes
+// twice. `Ok` doesn't change them. Returns `BadDirectory` if they are no directory; then they may be any
+// entries.
 fn check_entries(geometry: Geometry, entries: &mut [Entry]) -> Result<(), BadImage>
     requires log { geometry.log ≤ 4096 }
     requires few { length entries.old ≤ geometry.log }
@@ -227,8 +229,9 @@ fn check_directory(
     }
 }
 
-/// Reads a directory of `into.len()` entries from the sectors from `at` on, and checks it: each entry must be of the
-/// device, the objects must rise, no slot may come twice, and the seals of the sectors must add up to `sums`.
+/// Reads a directory of `into.len()` entries from the sectors from `at` on, and checks it: each entry must be
+/// possible on the device, the objects must rise, no slot may come twice, and the seals must add up to
+/// `sums`.
 ///
 /// It allocates nothing. Returns `Failed` exactly if the device failed, and `BadDirectory` exactly if the sectors are
 /// no such directory. After either, `into` may hold any entries.

@@ -43,12 +43,12 @@ pub fn publish<D: Device>(device: &mut D, header: SealedHeader) -> Result<(), Fa
     ensures size { (D.disk device.new).sectors ≡ (D.disk device.old).sectors }
     ensures elsewhere { SparesRest header (D.disk device.old).seen (D.disk device.new).seen }
 
-    // A crash at any moment leaves the old header committed, or this one. If it leaves this one, it also leaves all
+    // A crash at any moment leaves the old header committed, or this one. If this one, it also leaves all
     // that was written before the call.
     ensures any_moment { LeavesOnly (D.disk device.old) (D.disk device.new)
         (λ c. IsOldOrNew header (D.disk device.old) c) }
 
-    // The gate is written once the header and all earlier writes are durable.
+    // The gate is written after the header and all earlier writes are durable.
     ensures in_order { LeavesOnly (D.disk device.old) (D.disk device.new)
         (λ c. IsInOrder header (D.disk device.old) c) }
     ensures cause { Counts (D.disk device.old) (D.disk device.new) result }

@@ -1,4 +1,4 @@
-// The root of an image over its units, read one after another.
+// The root of an image, computed unit by unit.
 ghost use Rattle.std.specs.Prelude.{◌≡◌, ◌<◌, ◌^◌, []};
 ghost use Rattle.seal.specs.declared.sums.Sums.{Sums};
 ghost use Rattle.layout.specs.sealed.Root.{root_of};
@@ -14,7 +14,7 @@ pub fn empty_root() -> Sums
     Sums { a: 0, b: 0, c: 0 }
 }
 
-/// Returns the root of the units of `root` with one more after them: the cluster of node `number`, its least, or page
+/// Returns the root with one more unit after the others: page `number`, or the cluster whose least node is
 /// `number`, with this seal.
 pub fn add_last(root: Sums, number: u64, seal: Sums) -> Sums
     requires { number < 2 ^ 63 }
@@ -23,7 +23,7 @@ pub fn add_last(root: Sums, number: u64, seal: Sums) -> Sums
     add_unit(root, number, seal)
 }
 
-/// Returns the root of the units of `root`, in which the one of this number has the seal `new` in place of `old`.
+/// Returns the root after the unit of this number got the seal `new` instead of `old`.
 pub fn replace_seal(root: Sums, number: u64, old: Sums, new: Sums) -> Sums
     requires { number < 2 ^ 63 }
     ensures { IsRootWith number old new root result }

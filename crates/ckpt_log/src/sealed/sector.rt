@@ -17,8 +17,8 @@ pub(crate) fn put_sector<D: Device>(device: &mut D, at: u64, bytes: &[u8]) -> Re
     ensures size { (D.disk device.new).sectors ≡ (D.disk device.old).sectors }
     ensures elsewhere { Elsewhere at 1 (D.disk device.old).seen (D.disk device.new).seen }
 
-    // A crash at any moment may leave anything in this sector; in the others, what it could have left before the
-    // call.
+    // A crash at any moment may leave anything in this sector. In the others it leaves what it could before
+    // the call.
     ensures any_moment { LeavesOnly (D.disk device.old) (D.disk device.new)
         (λ c. IsTorn at 1 (D.disk device.old) c) }
     ensures cause { Counts (D.disk device.old) (D.disk device.new) result }

@@ -41,8 +41,8 @@ fn page_seal(frame: &[u8]) -> Sums
 /// Writes a page's frame into the 9 sectors from `at` on, and returns its seal: that of its header sector. The words
 /// lie in `frame` from byte 512 on; the header sector is written into its first 512 bytes.
 ///
-/// For all other sectors it keeps their bytes and adds nothing to what a crash may leave in them. It allocates nothing.
-/// Returns `Failed` exactly if the device failed; then the 9 sectors may hold any bytes.
+/// All other sectors keep their bytes, and what a crash may leave in them doesn't change. It allocates
+/// nothing. Returns `Failed` exactly if the device failed; then the 9 sectors may hold any bytes.
 pub fn write_page<D: Device>(
     device: &mut D,
     at: u64,
@@ -91,11 +91,12 @@ pub fn read_page<D: Device>(
     }
 }
 
-/// Seals a cluster, writes it into the 8 sectors from `at` on, and returns its seal. The frames of its `nodes` nodes,
-/// at most 5, lie in `cluster`, 800 bytes each; the bytes after them are set.
+/// Seals a cluster, writes it into the 8 sectors from `at` on, and returns its seal. The frames of its
+/// `nodes` nodes, at most 5, lie in `cluster`, 800 bytes each; the bytes after them are written by this
+/// function.
 ///
-/// For all other sectors it keeps their bytes and adds nothing to what a crash may leave in them. It allocates nothing.
-/// Returns `Failed` exactly if the device failed; then the 8 sectors may hold any bytes.
+/// All other sectors keep their bytes, and what a crash may leave in them doesn't change. It allocates
+/// nothing. Returns `Failed` exactly if the device failed; then the 8 sectors may hold any bytes.
 pub fn write_cluster<D: Device>(
     device: &mut D,
     at: u64,

@@ -13,7 +13,7 @@ abbrev pub entry_numbers : List Entry → List ℕ
 entry_numbers [] = []
 entry_numbers (e ∷ es) = e.object ∷ e.slot ∷ entry_numbers es
 
--- the sector of entries
+-- the sector of these entries
 unfoldable pub entries_bytes : List Entry → List ℕ
 entries_bytes es = sector_bytes (entry_numbers es)
 

@@ -15,7 +15,7 @@ header_numbers h =
 unfoldable pub sealed_header_bytes : SealedHeader → List ℕ
 sealed_header_bytes h = sector_bytes (header_numbers h)
 
--- the header that these numbers stand for; the first one is ignored
+-- the header that these numbers decode to; the first number is ignored
 abbrev pub sealed_header_from : List ℕ → SealedHeader
 sealed_header_from ns = record {
   header = record {
@@ -28,7 +28,7 @@ sealed_header_from ns = record {
   directory = record { a = slice_index ns 8; b = slice_index ns 9; c = slice_index ns 10 };
 }
 
--- what a committed header requires on a device whose log half has `room` slots
+-- the limits of a committed header's fields, if a log half has `room` slots
 pub record IsWithinLimits (room : ℕ) (h : CheckpointHeader) : Type 0 where
   pub entries : h.entries ≤ room
   pub age : h.age ≤ 2 ^ 62

@@ -1,4 +1,4 @@
--- Bytes encode at most one value, and show damage.
+-- Bytes encode at most one value, and damage shows.
 use Rattle.std.specs.Prelude.{◌≡◌, ℕ, ◌≤◌, List, length}
 use Rattle.layout.specs.Bytes.{zeros}
 use Rattle.layout.specs.Directory.{AllFitting}
@@ -43,6 +43,6 @@ abbrev pub ClustersShowBursts : Type 0
 ClustersShowBursts = (i : ℕ) (x y : List ℕ) (m n : ℕ) → IsRow x → IsRow y → DifferInBurst i x y →
     IsCluster m x → IsCluster n y → x ≡ y
 
--- frames of zeros are those of numbers that were never used, so they may be holes of the file
+-- zeros are the frames of numbers that were never used, so unused frames may be holes of the file
 abbrev pub ZerosAreFree : Type 0
 ZerosAreFree = (age : ℕ) → IsPage age (zeros 4608) never_used × ((nodes : ℕ) → IsCluster nodes (zeros 4096))

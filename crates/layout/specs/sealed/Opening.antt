@@ -1,4 +1,4 @@
--- The header slots of an image, and the header that is committed.
+-- The header slots of an image, and its committed header.
 use Rattle.std.specs.Prelude.{◌≡◌, ◌↔◌, ℕ, ◌+◌, ◌*◌, List, Some}
 use Rattle.device.specs.Disk.{Image}
 use Rattle.header_slots.specs.Slots.{Opens, Slots}
@@ -7,7 +7,7 @@ use Rattle.layout.specs.sealed.Gate.{HasNumber}
 use Rattle.layout.specs.sealed.Header.{sealed_header_bytes, header_numbers}
 use Rattle.layout.specs.sealed.Sector.{AreWords}
 
--- the sectors of header slot k and of its gate
+-- the sectors of slot k's header and of its gate
 abbrev pub header_sector : ℕ → ℕ
 header_sector k = 8 + 16 * k
 
@@ -19,7 +19,7 @@ abbrev pub IsSound : List ℕ → ℕ → Type 0
 IsSound bytes s = (h : SealedHeader) × AreWords (header_numbers h) × (bytes ≡ sealed_header_bytes h)
     × (h.header.sequence ≡ s)
 
--- the slots of an image have the numbers of its sound headers and of its gates
+-- these slots have the numbers of the image's sound headers and of its gates, and the bytes of the headers
 pub record AreSlots (image : Image) (slots : Slots) : Type 0 where
   pub header : (k s : ℕ) → ((slots k).header ≡ Some s) ↔ IsSound (image (header_sector k)) s
   pub gate : (k n : ℕ) → ((slots k).gate ≡ Some n) ↔ HasNumber (image (gate_sector k)) n

@@ -38,7 +38,7 @@ pub record IsPageHeader (age : ℕ) (h : PageHeader) : Type 0 where
   pub allocations : IsCount age h.object.allocations
   pub calls : IsCount age h.object.calls
 
--- the words have the sums that the header says, and are zeros if its number is free
+-- the words have the sums in the header, and are zeros if the number is free
 pub record HasWords (words : List ℕ) (h : PageHeader) : Type 0 where
   pub sums : h.words ≡ sums_of words
   pub free : h.object.role ≡ role.Free → words ≡ zeros 4096

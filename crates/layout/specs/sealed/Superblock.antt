@@ -21,7 +21,7 @@ superblock_numbers row rs =
 unfoldable pub sealed_superblock_bytes : SuperblockRow → List HomeRange → List ℕ
 sealed_superblock_bytes row rs = sector_bytes (superblock_numbers row rs)
 
--- the row that these numbers stand for; the first one is ignored
+-- the row that these numbers decode to; the first number is ignored
 abbrev pub row_from : List ℕ → SuperblockRow
 row_from ns = record {
   used = slice_index ns 1 / 2 ^ 32;

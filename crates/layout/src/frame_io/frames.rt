@@ -69,8 +69,8 @@ pub fn read_header<D: Device>(device: &mut D, at: u64, shape: Shape) -> Result<O
     Ok(header_in(&run[shape.offset as usize..]))
 }
 
-/// Writes the frame of a page with these words into the 9 sectors from `at` on, and allocates nothing. All other
-/// sectors keep their bytes, and a crash may leave nothing new in them.
+/// Writes the frame of a page with these words into the 9 sectors from `at` on, and allocates nothing. All
+/// other sectors keep their bytes, and what a crash may leave in them doesn't change.
 ///
 /// Returns `Failed` exactly if the device failed; then the 9 sectors may hold any bytes.
 pub fn write_page<D: Device>(
@@ -91,8 +91,9 @@ pub fn write_page<D: Device>(
     write_sectors(device, at, 9, &bytes)
 }
 
-/// Writes the frame of an object of this shape into the sectors from `at` on, and allocates nothing. All bytes beside
-/// the frame in its block become 0. All other sectors keep their bytes, and a crash may leave nothing new in them.
+/// Writes the frame of an object of this shape into the sectors from `at` on, and allocates nothing. All
+/// other bytes of its block become 0. All other sectors keep their bytes, and what a crash may leave in them
+/// doesn't change.
 ///
 /// Returns `Failed` exactly if the device failed; then the sectors of the shape may hold any bytes.
 pub fn write_frame<D: Device>(

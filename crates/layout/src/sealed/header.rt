@@ -84,8 +84,8 @@ fn sealed_header_from(numbers: &[u64]) -> SealedHeader
     }
 }
 
-/// Reads the 512 bytes of a header's sector. Returns `None` if the header isn't sound: it has another magic, a byte
-/// that isn't 0 where zeros belong, or another seal.
+/// Reads the 512 bytes of a header's sector. Returns `None` if the sector is no sealed header: the magic or
+/// the seal is wrong, or a byte that must be 0 isn't.
 pub fn decode_sealed_header(bytes: &[u8]) -> Option<SealedHeader>
     requires { length bytes.now ≡ 512 }
     ensures some { IfSome result (λ h. bytes.now ≡ sealed_header_bytes h) }

@@ -1,4 +1,4 @@
-// Laws of the bytes, stated by functions that do nothing.
+// Laws of the bytes, as contracts of functions that do nothing.
 ghost use Rattle.layout.specs.sealed.GateLaws.{BurstsKeepNumbers, GatesHaveOneNumber, ClosedGatesHaveNone};
 ghost use Rattle.layout.specs.sealed.GateLaws.{WrittenGatesHaveTheirNumber};
 ghost use Rattle.layout.specs.sealed.Laws.{ClustersShowBursts, SectorsShowBursts, SpellOneSealedHeader};

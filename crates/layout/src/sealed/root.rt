@@ -1,4 +1,4 @@
-// The root, which is the sums of all units; and the sums of a directory.
+// The root: sums over all units. Also the sums over a directory.
 ghost use Rattle.std.specs.Prelude.{◌≡◌, ◌∷◌, ◌<◌, ◌^◌, List};
 ghost use Rattle.seal.specs.declared.sums.Sums.{Sums};
 ghost use Rattle.layout.specs.sealed.Root.{Unit, directory_sums, root_of, weighed};

@@ -113,8 +113,9 @@ pub fn encode_sealed_superblock(row: SuperblockRow, ranges: &[HomeRange], into: 
 
 /// Reads the 512 bytes of a superblock's sector, and puts its eight ranges into `ranges`.
 ///
-/// Returns `None` if the sector is no superblock of version 3: it has another magic or version, a byte after the
-/// ranges that isn't 0, or another seal. Then `ranges` may hold any ranges. Limits of the fields aren't checked.
+/// Returns `None` if the sector is no superblock of version 3: the magic, the version or the seal is wrong,
+/// or a byte after the ranges isn't 0. Then `ranges` may hold any ranges. Limits of the fields aren't
+/// checked.
 pub fn decode_sealed_superblock(bytes: &[u8], ranges: &mut [HomeRange]) -> Option<SuperblockRow>
     requires size { length bytes.now ≡ 512 }
     requires ranges { length ranges.old ≡ 8 }

@@ -67,8 +67,8 @@ impl Books {
         read_put(device, &self.plan, generation, slot, number, scratch)
     }
 
-    /// Reads the frozen frame of an object if it is in the log, else the saved one. Puts the slots of a node or an
-    /// annex and the words of a page into `scratch`, and takes no memory.
+    /// Reads the frozen frame of an object if it is in the log, else the saved one. Puts the slots of a node
+    /// or an annex and the words of a page into `scratch`. Doesn't allocate.
     pub(crate) fn fetch_below<D: Device>(
         &self,
         device: &mut D,

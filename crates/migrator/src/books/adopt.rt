@@ -1,4 +1,4 @@
-// The only way to change to another committed header.
+// Changing the committed header: every publish goes through `adopt`.
 ghost use Rattle.std.specs.Prelude.{◌≡◌, OnOk, OnErr};
 ghost use Rattle.migrator.specs.Durable.{Publishes, stored_on};
 ghost use Rattle.migrator.specs.Saving.{MayAdopt, adopted};
@@ -11,8 +11,9 @@ use layout::CheckpointHeader;
 use std::mem;
 
 impl Books {
-    /// Writes `entries` as the directory of `next`, publishes `next`, and makes it the header of these books. After
-    /// `Failed` the books are unchanged, and a crash leaves what was saved before, or what `next` saves.
+    /// Writes `entries` as the directory of `next`, publishes `next`, and makes it the header of these books.
+    /// After `Failed` the books are unchanged, and a crash leaves what was saved before, or what `next`
+    /// saves.
     pub(crate) fn adopt<D: Device>(
         &mut self,
         device: &mut D,

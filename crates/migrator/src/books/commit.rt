@@ -10,7 +10,7 @@ use device::{Device, Failed};
 use layout::CheckpointHeader;
 
 impl Books {
-    // Returns the header that saves the frozen frames, at an age.
+    // Returns the header that commits the frozen frames at an age.
     fn next_header(&self, age: u64) -> CheckpointHeader
         requires { IsHeader self.now.plan.geometry.log self.now.header }
         ensures { result ≡ next_header age self.now }

@@ -22,8 +22,8 @@ use layout::{CheckpointHeader, Entry, read_header};
 use model::ObjectHeader;
 
 impl Books {
-    /// Returns the header of the saved frame of an object. All saved objects must be home. Reads the block of the
-    /// frame, and takes no memory.
+    /// Returns the header of an object's saved frame. All saved objects must be home. Reads the block of the
+    /// frame. Doesn't allocate.
     pub(crate) fn saved_header<D: Device>(
         &self,
         device: &mut D,
@@ -68,7 +68,7 @@ impl Books {
         log.write_page(device, self.header.generation, 0, header, words)
     }
 
-    // Returns the header that saves one object anew, at an age.
+    // Returns the header that saves one object with a new frame at an age.
     fn replaced_header(&self, age: u64) -> CheckpointHeader
         requires { IsHeader self.now.plan.geometry.log self.now.header }
         ensures { result ≡ replaced_header age self.now }
@@ -81,7 +81,8 @@ impl Books {
         }
     }
 
-    // Saves the frame of an object that lies in the first slot of the log half that the saved generation used.
+    // Saves the frame of an object that was written into slot 0 of the log half that the saved generation
+    // used.
     fn save_first<D: Device>(
         &mut self,
         device: &mut D,

@@ -14,7 +14,7 @@ use device::{Device, Failed};
 use layout::{BLOCK_BYTES, CheckpointHeader};
 
 impl Books {
-    // Copies the next saved frame home, unless it went home with the previous one of its cluster.
+    // Copies the next entry's frame home, unless it was copied with the previous entry of its cluster.
     fn move_next<D: Device>(
         &mut self,
         device: &mut D,
@@ -49,7 +49,7 @@ impl Books {
         Ok(())
     }
 
-    // Publishes a header that says that all saved frames are home.
+    // Publishes a header with 0 entries: all saved frames are home.
     fn finish<D: Device>(&mut self, device: &mut D, spare: &mut Directory) -> Result<(), Failed>
         requires { MayFinish (D.disk device.old) self.old }
         ensures { Publishes (D.disk device.old) (D.disk device.new) self.old self.new
@@ -84,7 +84,7 @@ impl Books {
         Ok(())
     }
 
-    // Whether all saved frames are home, but the header doesn't say so yet.
+    // Whether all saved frames are home, but the header still has entries.
     fn is_to_finish(&self) -> bool
         requires { self.now.moved ≤ self.now.header.entries }
         ensures yes { result ≡ true → (0 < self.now.header.entries)
@@ -95,7 +95,7 @@ impl Books {
         self.header.entries != 0 && self.moved >= self.header.entries
     }
 
-    // Returns how many saved frames to copy home if `count` are asked for, and how many are left after these.
+    // Returns how many saved frames to copy home, if the caller wants `count`, and how many are then left.
     fn share(&self, count: u64) -> (u64, u64)
         requires { self.now.moved ≤ self.now.header.entries }
         ensures lesser { IsLesser result.0 count (self.now.header.entries - self.now.moved) }
@@ -109,8 +109,8 @@ impl Books {
         }
     }
 
-    /// Copies the next `count` saved frames home, in the order of their numbers, and returns how many are left. If
-    /// none is left, makes the home frames durable and publishes a header that says so.
+    /// Copies the next `count` saved frames home, in the order of their numbers, and returns how many are
+    /// left. If none is left, makes the home frames durable and publishes a header with 0 entries.
     pub(crate) fn migrate<D: Device>(
         &mut self,
         device: &mut D,

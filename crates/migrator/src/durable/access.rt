@@ -1,4 +1,4 @@
-// Reading a store: its sizes, its directory, its frames; and returning its device.
+// Reads a store's sizes, directory and frames, and returns its device.
 ghost use Rattle.std.specs.Prelude.{◌≡◌, ◌+◌, ◌≤◌, IfOk, option_map};
 ghost use Rattle.device.specs.Calls.{Counts};
 ghost use Rattle.layout.specs.Frame.{frame_of};
@@ -27,8 +27,7 @@ impl<D: Device> Durable<D> {
         &self.books.plan
     }
 
-    /// The directory of the committed checkpoint: which objects it names, and the slots of the log
-    /// that have their frames.
+    /// The directory of the committed checkpoint: its objects, and the log slots with their frames.
     pub fn directory(&self) -> &[Entry]
         ensures { result.now ≡ self.now.books.directory }
     {
@@ -55,14 +54,14 @@ impl<D: Device> Durable<D> {
         }
     }
 
-    /// Returns the device beneath, and makes no call of it.
+    /// Returns the device, and makes no call on it.
     pub fn device(&self) -> &D
         ensures { result.now ≡ self.now.beneath }
     {
         &self.device
     }
 
-    /// Returns the device, and makes no call of it. All else is dropped.
+    /// Returns the device, and makes no call on it. All else is dropped.
     pub fn into_device(self) -> D
         ensures { result ≡ self.beneath }
     {
@@ -76,9 +75,9 @@ impl<D: Device> Durable<D> {
         device
     }
 
-    /// Reads the newest frame of an object that isn't a working one: the frozen one if it is in the log, else the
-    /// saved one. Puts the slots of a node or an annex and the words of a page into `scratch`, and takes no memory.
-    /// Fails exactly if the device failed.
+    /// Reads the newest frame of an object that isn't a working one: the frozen one if it is in the log, else
+    /// the saved one. Puts the slots of a node or an annex and the words of a page into `scratch`. Doesn't
+    /// allocate. Fails exactly if the device failed.
     pub fn fetch_below(
         &mut self,
         number: u64,
@@ -93,9 +92,9 @@ impl<D: Device> Durable<D> {
         self.books.fetch_below(&mut self.device, number, scratch)
     }
 
-    /// Reads the newest frame of an object: the working one if there is one, else the frozen one, else the saved one.
-    /// Puts the slots of a node or an annex and the words of a page into `scratch`, and takes no memory. Fails
-    /// exactly if the device failed.
+    /// Reads the newest frame of an object: the working one if there is one, else the frozen one, else the
+    /// saved one. Puts the slots of a node or an annex and the words of a page into `scratch`. Doesn't
+    /// allocate. Fails exactly if the device failed.
     pub fn fetch(
         &mut self,
         number: u64,

@@ -12,8 +12,8 @@ use device::{Device, Failed};
 use model::{ObjectHeader, WORDS};
 
 impl<D: Device> Durable<D> {
-    /// Returns the header of the saved frame of an object. All saved objects must be home. Reads one sector, or the 8
-    /// of a cluster, and takes no memory. Fails exactly if the device failed.
+    /// Returns the header of an object's saved frame. All saved objects must be home. Reads one sector, or
+    /// the 8 of a cluster. Doesn't allocate. Fails exactly if the device failed.
     pub fn saved_header(&mut self, number: u64) -> Result<ObjectHeader, Failed>
         requires object { IsObject self.old.books.plan.geometry number }
         requires home { (stored_of D.disk self.old).saved.entries ≡ 0 }
@@ -25,10 +25,10 @@ impl<D: Device> Durable<D> {
         self.books.saved_header(&mut self.device, number)
     }
 
-    /// Saves a page with new words, at an age, under its saved header (`saved_header`). No checkpoint may be frozen,
-    /// and all saved objects must be home. Returns the new generation, which is the saved one plus 2; the page is its
-    /// only entry. It takes no memory. Fails exactly if the device does; then a crash leaves what was saved before,
-    /// or that with the page.
+    /// Saves a page with new words, at an age, under its saved header (`saved_header`). No checkpoint may be
+    /// frozen, and all saved objects must be home. Returns the new generation, which is the saved one plus 2;
+    /// the page is its only entry. Doesn't allocate. Fails exactly if the device does; then a crash leaves
+    /// what was saved before, or the same with the page's new words.
     pub fn save_page(
         &mut self,
         number: u64,

@@ -9,12 +9,12 @@ use crate::durable::Durable;
 use device::{Device, Failed};
 
 impl<D: Device> Durable<D> {
-    /// Copies the next `count` saved frames home, in the order of their numbers, and returns how many are left. If
-    /// none is left, makes the home frames durable, and publishes a header that says that all are home. If the header
-    /// says so already, it makes no call of the device.
+    /// Copies the next `count` saved frames home, in the order of their numbers, and returns how many are
+    /// left. If none is left, makes the home frames durable, and publishes a header with 0 entries. If the
+    /// header has 0 entries already, it makes no call on the device.
     ///
-    /// Returns `Failed` exactly if the device failed. Then a crash leaves what was saved or, if this call was to
-    /// bring the last frame home, the same with all frames home.
+    /// Returns `Failed` exactly if the device failed. Then a crash leaves what was saved. If this call was to
+    /// copy the last frame, the header may have 0 entries.
     pub fn migrate(&mut self, count: u64) -> Result<u64, Failed>
         requires sound { is_sound D.disk self.old }
         ensures left { IfOk result (λ n. n ≡ (stored_of D.disk self.old).to_move - count) }

@@ -31,9 +31,9 @@ pub struct Opened<D: Device, I: Intake> {
     pub taken: I,
 }
 
-// The five structs below are each built by one function and taken apart by the next. They are here for the prover: a
-// function that takes memory has an exit for each call that may fail, and is proved for all values that it owns there.
-// A call of `drop` is proved once for its type.
+// The five structs below are each built by one function and taken apart by the next. They shorten the proofs:
+// where a call may fail, the function drops all values that it owns, and a struct's `drop` is proved once for
+// its type.
 
 // Memory for the saved directory, and for the next one.
 #[derive(Drop)]
@@ -125,7 +125,7 @@ impl<I: Intake> Sink<I> {
     }
 }
 
-// Returns the books of an image from which no frame was copied home and to which none was written.
+// Returns the books of an image to which nothing was written since it was opened.
 fn first_books(
     plan: Superblock,
     header: CheckpointHeader,
@@ -149,7 +149,7 @@ fn first_books(
     }
 }
 
-// Reads the whole image with a superblock: puts the directory into `reserve`, and gives all frames to the intake.
+// Reads a whole image: puts the directory into `reserve`, and passes all frames to the intake.
 #[tactic(auto, using(crate::proofs::Opening::reads_none))]
 fn read_into<D: Device, I: Intake>(
     alloc: Global,
@@ -220,12 +220,12 @@ fn read_parts<D: Device, I: Intake>(
 }
 
 impl<D: Device> Durable<D> {
-    /// Opens a device, and writes nothing to it. Syncs it first, then reads the committed header, its directory, and
-    /// every saved frame once. `I` takes each frame when it is read, and may use `memory`. No later call takes
-    /// memory.
+    /// Opens a device, and writes nothing to it. Syncs it first, then reads the committed header, its
+    /// directory, and every saved frame once. `I` takes each frame when it is read, and may use `memory`. No
+    /// later call allocates.
     ///
-    /// A refusal returns the device, with the reason: `Failed` exactly if the device failed, `NoMemory` only if
-    /// memory ran out, else the least of the reasons 1 to 7 that holds.
+    /// A refusal returns the device, with the reason: `Failed` exactly if the device failed, `NoMemory` only
+    /// if memory ran out, else the least of reasons 1 to 7 that holds.
     pub fn open<I: Intake>(
         alloc: Global,
         device: D,

@@ -1,4 +1,4 @@
-// A store of objects over a device: opening it, and the stages of a checkpoint.
+// Opening a store over a device, and the stages of a checkpoint.
 ghost use Rattle.std.specs.Prelude.{◌≡◌, ◌<◌, ℕ, true, false, length, replicate, IfOk, IfErr, OnOk};
 ghost use Rattle.capability.specs.Parts.{AreSameUnlessFailed, MayFetch};
 ghost use Rattle.checkpoint.specs.Opened.{Refuses};
@@ -55,8 +55,8 @@ impl<D: Device, P: Policy> ObjectStore<D> for Store<D, P> {
 
     ghost is_set = { λ setting s. HasCapacity (P.most_for setting) s };
 
-    /// Opens a device, and takes all memory that the store will ever need. If the policy keeps every body, reads all
-    /// of them now; else no body is in memory at first. Errors: see `ObjectStore::open`.
+    /// Opens a device, and allocates all memory that the store will need. If the policy keeps all bodies in
+    /// memory, reads them now; otherwise none is in memory at first. Errors: see `ObjectStore::open`.
     fn open(
         alloc: Global,
         device: D,
@@ -110,8 +110,9 @@ impl<D: Device, P: Policy> ObjectStore<D> for Store<D, P> {
         }
     }
 
-    /// Removes the entry of an object, unless the policy keeps every body. First writes those of its frames that
-    /// aren't in the log. Does nothing if the object has no entry. Fails exactly if the device fails.
+    /// Removes the entry of an object, unless the policy keeps all bodies in memory. First writes those of
+    /// its frames that aren't in the log. Does nothing if the object has no entry. Fails exactly if the
+    /// device fails.
     fn evict(&mut self, number: u64) -> Result<(), Failed>
         requires known { number < length self.old.headers }
         requires may { MayFetch (IsUsableIn D.disk) (parts_of D.disk) self.old }
@@ -148,8 +149,9 @@ impl<D: Device, P: Policy> ObjectStore<D> for Store<D, P> {
         Ok(size)
     }
 
-    /// Writes `count` of the frozen objects to the log, and returns how many it hasn't reached yet. An object that an
-    /// eviction wrote early counts as not reached until its turn. Refusals: see `ObjectStore::stabilize`.
+    /// Writes `count` of the frozen objects to the log, and returns how many it has yet to reach. An object
+    /// that an eviction wrote early counts as not reached until its turn. Refusals: see
+    /// `ObjectStore::stabilize`.
     fn stabilize(&mut self, count: u64) -> Result<u64, Refusal> {
         let Some(left) = self.left() else {
             return Err(Refusal::NoCheckpoint);
@@ -160,8 +162,8 @@ impl<D: Device, P: Policy> ObjectStore<D> for Store<D, P> {
     }
 
     fn commit(&mut self, age: u64) -> Result<u64, Refusal> {
-        // `Durable::commit` decides by its own count, which is less if an eviction wrote frozen frames early. The
-        // count here is the model's; if it is 0, the other is 0 too.
+        // `Durable::commit` counts the frozen frames that aren't in the log. That count is lower if an
+        // eviction wrote some early. The count here is the model's; if it is 0, so is the other.
         let Some(left) = self.left() else {
             return Err(Refusal::NoCheckpoint);
         };

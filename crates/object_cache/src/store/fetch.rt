@@ -1,4 +1,4 @@
-// Fetching bodies into memory, and evicting those used longest ago.
+// Fetches bodies into memory, and evicts those used longest ago.
 ghost use Rattle.std.specs.Prelude.{◌≡◌, ℕ, ◌<◌, ◌≤◌, ◌∷◌, None, false, true, length, take, OnOk};
 ghost use Rattle.std.specs.List.{All, Contains};
 ghost use Rattle.cache_entries.specs.Entries.{entry_at};

@@ -1,4 +1,4 @@
-// Saving the present words of one page without a checkpoint.
+// Saves the present words of one page without a checkpoint.
 ghost use Rattle.std.specs.Prelude.{◌≡◌, ◌<◌, ◌≤◌, ◌^◌, None, length, nat_lt, option_map, true, IfOk, OnOk, Bool};
 ghost use Rattle.std.specs.Prelude.{Err, IfErr};
 ghost use Rattle.model.specs.Frame.{frame_at, header_at, content_behind};
@@ -28,10 +28,10 @@ fn is_of_page(role: Role) -> bool
     }
 }
 
-// Returns the saved header of a page that may be journaled. Reads the device.
+// Returns the header of a saved page that may be journaled. Reads the device.
 //
-// Returns `NotJournaled(Renewed)` exactly if no page with this allocation count is saved at the number, and `Fault`
-// exactly if the device failed.
+// Returns `NotJournaled(Renewed)` exactly if no page with this allocation count is saved at the number, and
+// `Fault` exactly if the device failed.
 fn page_saved<D: Device>(
     durable: &mut Durable<D>,
     number: u64,
@@ -54,9 +54,9 @@ fn page_saved<D: Device>(
     Err(Refusal::NotJournaled(Unjournaled::Renewed))
 }
 
-// Checks everything about journaling a page except what is saved at its number. `header` is its present header, and
-// `is_known` says whether an object has its number. It is refused as `ObjectStore::journal` is, without a device
-// call.
+// Checks all conditions for journaling a page, except for what is saved at its number. `header` is its
+// present header, and `is_known` says whether an object has the number. Refuses as `ObjectStore::journal`
+// does, without a device call.
 fn may_journal<D: Device>(
     durable: &Durable<D>,
     header: ObjectHeader,

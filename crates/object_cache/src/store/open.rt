@@ -1,4 +1,4 @@
-// Making a store over a device that was opened.
+// Makes a store over a device that was opened.
 ghost use Rattle.std.specs.Prelude.{◌≡◌, ◌≤◌, None, false, true, length, replicate, IfOk, IfErr};
 ghost use Rattle.migrator.specs.Durable.{stored_of};
 ghost use Rattle.object_cache.specs.StoreState.{AreAll, AreTaken, HoldBodies, IsJustOpened, IsOpenOver};
@@ -18,8 +18,8 @@ use model::ObjectHeader;
 use std::alloc::{AllocError, Global};
 use std::marker::PhantomData;
 
-// `Marks` and `Reserve` are each built by one function and taken apart by the next. They are here for the prover: a
-// function that takes memory has an exit for each call that may fail, and is proved for all values that it owns there.
+// `Marks` and `Reserve` are each built by one function and taken apart by the next. They shorten the proofs:
+// where an allocation may fail, the function drops all values that it owns, and a struct is one value.
 
 // The sets of touched, dirty and pending numbers, which are empty at first.
 #[derive(Drop)]
@@ -43,7 +43,7 @@ impl Marks {
     }
 }
 
-// All the memory of a store, except that for the headers of all objects and for the entries.
+// The memory of a store, except for the headers and the entries.
 #[derive(Drop)]
 struct Reserve {
     frozen_headers: FrozenHeaders,
@@ -73,8 +73,9 @@ impl Reserve {
 }
 
 impl<D: Device, P: Policy> Store<D, P> {
-    // Returns a store over a durable store that was just opened, with these entries: their bodies must be the saved
-    // ones, and all of them if the policy keeps every body. If memory runs out, returns the durable store.
+    // Returns a store over a durable store that was just opened. The bodies in `entries` must be the saved
+    // ones, and all of them if the policy keeps all bodies in memory. If memory runs out, returns the durable
+    // store.
     fn new(
         alloc: Global,
         durable: Durable<D>,

@@ -1,4 +1,4 @@
-// Fetching bodies and announcing numbers, before a step reads or changes them.
+// Announces numbers before a step writes their objects.
 ghost use Rattle.std.specs.Prelude.{◌≡◌, ◌≢◌, ◌↔◌, ℕ, ◌<◌, true, length, IfErr, OnOk, OnErr, IsErrOf};
 ghost use Rattle.std.specs.List.{All, Contains};
 ghost use Rattle.capability.specs.Parts.{IsUnprepared, Prepares};
@@ -27,8 +27,9 @@ impl<D: Device, P: Policy> Store<D, P> {
         contains_all(&self.dirty, written)
     }
 
-    // Marks numbers as touched and dirty. None of their present bodies may also be an unwritten frozen body. Returns
-    // `LogFull` exactly if more objects would be touched than a log half has slots; then nothing changes.
+    // Marks numbers as touched and dirty. None of them may share its present body with an unwritten frozen
+    // frame. Returns `LogFull` exactly if more objects would be touched than a log half has slots; then
+    // nothing changes.
     #[inline(never)]
     pub(crate) fn announce(&mut self, written: &[u64]) -> Result<(), Refusal>
         requires known { All (λ n. n < length self.old.headers) written.now }
@@ -60,7 +61,7 @@ impl<D: Device, P: Policy> Store<D, P> {
         Ok(())
     }
 
-    // Makes a frozen copy of an object's present body, if that is also its unwritten frozen body.
+    // Makes a frozen copy of an object's present body, if an unwritten frozen frame shares it.
     fn keep_one_apart(&mut self, number: u64)
         requires { number < length self.old.headers }
         ensures apart { frozen_state_at self.new.frozen_state number ≢ Shared }
@@ -84,7 +85,7 @@ impl<D: Device, P: Policy> Store<D, P> {
         }
     }
 
-    // Announces numbers, without a call of the device: see `PresentFrames::prepare`.
+    // Announces numbers, without a call on the device: see `PresentFrames::prepare`.
     #[inline(always)]
     pub(crate) fn make_writable(&mut self, written: &[u64]) -> Result<(), Refusal>
         requires { All (λ n. n < length self.old.headers) written.now }

@@ -43,8 +43,8 @@ impl<D: Device, P: Policy> Frames for Store<D, P> {
         &self.table
     }
 
-    /// Fetches the bodies of up to 8 objects into memory, in turn. Evicts the entries used longest ago when the cache
-    /// is full. Fails exactly if the device fails.
+    /// Fetches the bodies of up to 8 objects into memory, in turn. If the cache is full, evicts those used
+    /// longest ago. Fails exactly if the device fails.
     fn fetch(&mut self, numbers: &[u64]) -> Result<(), Failed>
         requires few { length numbers.now ≤ MAX_FETCHED }
         requires known { All (λ n. n < length (parts_of D.disk self.old).headers) numbers.now }
@@ -58,7 +58,7 @@ impl<D: Device, P: Policy> Frames for Store<D, P> {
             ↔ ((parts_of D.disk self.old).failures < (parts_of D.disk self.new).failures) }
         ensures snapshots { OnlyFetches (parts_of D.disk) (ContinuesIn P.KEEPS_ALL D.disk) self.old self.new }
     {
-        // Proof only: the borrow makes the store's invariant known.
+        // For the proof: borrowing a field brings in the store's invariant.
         let _ = &self.durable;
         if P::KEEPS_ALL {
             return Ok(());
@@ -67,7 +67,7 @@ impl<D: Device, P: Policy> Frames for Store<D, P> {
             return Ok(());
         }
         let read = self.read_all_in(numbers);
-        // Proof only: the call makes known that the order has exactly the numbers with an entry.
+        // For the proof: by the contract of `len`, the order has exactly the numbers with an entry.
         self.len();
         read
     }
@@ -106,7 +106,7 @@ impl<D: Device, P: Policy> PresentFrames for Store<D, P> {
         ensures all { P.KEEPS_ALL ≡ true → self.new.order ≡ self.old.order }
         ensures prepares { Prepares (parts_of D.disk) (ContinuesIn P.KEEPS_ALL D.disk) self.old self.new written.now result }
     {
-        // Proof only: the borrow makes the store's invariant known.
+        // For the proof: borrowing a field brings in the store's invariant.
         let _ = &self.durable;
         self.fetch(fetched)?;
         self.make_writable(written)

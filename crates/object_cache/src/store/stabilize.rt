@@ -1,4 +1,4 @@
-// Writing frozen frames to the log, in turn.
+// Writes frozen frames to the log, in turn.
 ghost use Rattle.std.specs.Prelude.{◌≡◌, ◌≢◌, ◌-◌, ◌<◌, ◌≤◌, None, Some, true, IfErr, OnOk};
 ghost use Rattle.device.specs.Calls.{Counts};
 ghost use Rattle.migrator.specs.Durable.{GoesOn};
@@ -13,8 +13,8 @@ use device::{Device, Failed};
 use model::Refusal;
 
 impl<D: Device, P: Policy> Store<D, P> {
-    // Writes the frozen frame of the body in `staging`, which no cache entry has, and empties `staging`.
-    // After `Failed` the body is still in `staging`.
+    // Writes the frozen frame whose body is in `staging`, and empties `staging`. No entry may have this
+    // frozen body. After `Failed` the body is still in `staging`.
     pub(crate) fn put_held(&mut self) -> Result<(), Failed>
         requires { (h : Held) × (self.old.staging ≡ Some h)
             × (frozen_state_at self.old.frozen_state h.number ≡ Nothing) }
@@ -33,7 +33,8 @@ impl<D: Device, P: Policy> Store<D, P> {
         Ok(())
     }
 
-    // Empties the staging buffer: writes the frozen frame of the body in it. After `Failed` the body stays.
+    // If the staging buffer has a body, writes its frozen frame and empties the buffer. After `Failed` the
+    // body stays.
     pub(crate) fn empty_staging(&mut self) -> Result<(), Failed>
         ensures empty { OnOk result (self.new.staging ≡ None) }
         ensures fewer { OnOk result (self.old.staging ≢ None → pending_count self.new < pending_count self.old) }
@@ -62,14 +63,15 @@ impl<D: Device, P: Policy> Store<D, P> {
         Ok(())
     }
 
-    // Writes the frozen frame of a pending object. The staging buffer must be empty. After `Failed` it may be in use.
+    // Writes the frozen frame of a pending object. The staging buffer must be empty. After `Failed` it may
+    // have the object's body.
     fn put_pending(&mut self, number: u64) -> Result<(), Failed>
         requires pending { mark_at self.old.pending number ≡ true }
         requires empty { self.old.staging ≡ None }
         ensures fewer { OnOk result (pending_count self.new < pending_count self.old) }
         ensures moves { Moves D.disk on_device self.old self.new result }
     {
-        // Proof only: the borrow makes the store's invariant known.
+        // For the proof: borrowing a field brings in the store's invariant.
         let _ = &self.durable;
         if let FrozenState::Nothing = self.frozen_state(number) {
             self.take_below(number)?;
@@ -78,7 +80,8 @@ impl<D: Device, P: Policy> Store<D, P> {
         self.put_own_frozen(number)
     }
 
-    // Writes the frozen frame of one pending object, if there is one. If `staging` has a body, it is that one's.
+    // Writes the frozen frame of one pending object, if there is one. If `staging` has a body, writes that
+    // one's frame.
     fn put_next(&mut self) -> Result<(), Failed>
         ensures fewer { OnOk result (pending_count self.new ≤ pending_count self.old - 1) }
         ensures few { (f : FrozenFrames) → self.old.frozen ≡ Some f → pending_count self.old ≤ f.left }
@@ -106,7 +109,7 @@ impl<D: Device, P: Policy> Store<D, P> {
         Ok(())
     }
 
-    // Calls `put_one` `count` times, up to its first fault.
+    // Calls `put_one` `count` times, up to the first failure.
     pub(crate) fn put_some(&mut self, count: u64) -> Result<(), Refusal>
         requires { (f : FrozenFrames) × (self.old.frozen ≡ Some f) × (count ≤ f.left) }
         ensures put { OnOk result (PutsBy D.disk self.old self.new count) }

@@ -1,4 +1,4 @@
-// Whether the banks are a tree that owns all objects, within their limits.
+// Whether the banks form a tree that owns all objects, within their limits.
 ghost use Rattle.std.specs.Prelude.{◌≡◌, ◌≢◌, ◌↔◌, ℕ, ◌<◌, ◌≤◌, length, slice_index, IfOk, IsTrue, MatchOption};
 ghost use Rattle.std.specs.List.{Contains};
 ghost use Rattle.model.specs.Bank.{chain};
@@ -31,7 +31,7 @@ fn is_owned<F: Frames>(store: &F, number: u64) -> bool
     has_role(store, number, Role::Free) || has_role(store, owner(store, number), Role::Bank)
 }
 
-// Whether an object is no bank, or a bank whose chain of at most 16 banks reaches number 0.
+// Whether an object isn't a bank, or is one whose chain of at most 16 banks reaches number 0.
 fn is_reaching<F: Frames>(store: &F, number: u64) -> bool
     ensures { let frames = frames_of (F.parts store.now) in IsTrue result
         ↔ (role_at frames number ≡ Role.Bank → Contains (chain (objects_of frames) number) 0) }
@@ -39,7 +39,7 @@ fn is_reaching<F: Frames>(store: &F, number: u64) -> bool
     !has_role(store, number, Role::Bank) || is_in_chain(store, number, 0)
 }
 
-// Why the banks aren't a tree with number 0 at the top that owns all objects, if they aren't.
+// Returns why the banks don't form a tree below number 0 that owns all objects, or `None` if they do.
 fn find_unowned<F: Frames>(store: &F) -> Option<Unbanked>
     ensures { MatchOption result (AreOwned (frames_of (F.parts store.now)))
         (λ why. IsUnbanked (frames_of (F.parts store.now)) why) }
@@ -61,7 +61,7 @@ fn find_unowned<F: Frames>(store: &F) -> Option<Unbanked>
     None
 }
 
-// Which bank's usage is above its limit, if there is such a bank.
+// Returns the first bank whose usage is above its limit, or `None`.
 fn find_above_limit<F: Frames>(store: &F, usages: &[u64], limits: &[u64]) -> Option<Unbanked>
     requires usages { length usages.now ≡ length (F.parts store.now).headers }
     requires limits { length limits.now ≡ length (F.parts store.now).headers }
@@ -81,11 +81,11 @@ fn find_above_limit<F: Frames>(store: &F, usages: &[u64], limits: &[u64]) -> Opt
     None
 }
 
-/// The first place where an object isn't owned by a bank, or a chain of at most 16 banks doesn't reach number 0;
-/// else the first bank whose usage is above its limit; else `None`. Banks are fetched one at a time for their
-/// limits.
+/// Returns the first object that no bank owns, or bank whose chain of at most 16 banks doesn't reach number
+/// 0; else the first bank whose usage is above its limit; else `None`. Banks are fetched one at a time, for
+/// their limits.
 ///
-/// `NoMemory` if memory ran out, and `Fault` exactly if the device failed. No object changes.
+/// Returns `NoMemory` if memory ran out, and `Fault` exactly if the device failed. No object changes.
 pub fn find_unbanked<F: Frames>(alloc: Global, store: &mut F) -> Result<Option<Unbanked>, Refusal>
     requires may { MayFetch F.IsUsable F.parts store.old }
     ensures found { let frames = frames_of (F.parts store.old) in IfOk result (λ found.

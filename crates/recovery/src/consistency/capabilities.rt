@@ -1,4 +1,4 @@
-// Whether each held capability names nothing, is stale, or names an object of its role.
+// Whether each capability names no object, is stale, or names an object with the role for it.
 ghost use Rattle.std.specs.Prelude.{◌≡◌, ◌↔◌, ◌<◌, Some, false, [], length, IfOk, IsTrue};
 ghost use Rattle.std.specs.List.{All};
 ghost use Rattle.model.specs.Capability.{named};
@@ -14,7 +14,8 @@ use crate::consistency::table::has_role;
 use capability::Frames;
 use model::{Cap, Capability, ContentRef, Refusal, Role};
 
-// The role of the object that a capability is for; free if it names none. It is compiled to a table.
+// The role that the object of a capability must have; free if the capability names no object. It compiles to
+// a table.
 fn role_for(capability: Capability) -> Role
     ensures { result ≡ role_for capability }
 {
@@ -32,7 +33,7 @@ fn role_for(capability: Capability) -> Role
     }
 }
 
-// Whether the object with this number, which a capability names, has the capability's role.
+// Whether object `number`, which a capability names, has the role for this capability.
 #[inline(always)]
 fn is_for<F: Frames>(
     store: &F,
@@ -50,7 +51,7 @@ fn is_for<F: Frames>(
     has_role(store, number, role_for(capability))
 }
 
-/// Whether the object that a capability names has the capability's role.
+/// Whether the object that a capability names has the role for it.
 #[inline(always)]
 pub fn names_its_role<F: Frames>(store: &F, notes: &[Option<Noted>], capability: Capability) -> bool
     requires { AreNoted (frames_of (F.parts store.now)) notes.now }
@@ -62,8 +63,8 @@ pub fn names_its_role<F: Frames>(store: &F, notes: &[Option<Noted>], capability:
     }
 }
 
-/// Whether the count of a held capability is at most its object's and, if they are equal, the
-/// object has the capability's role.
+/// Whether the count of a capability is at most its object's and, if they are equal, the object has the role
+/// for the capability.
 #[inline(always)]
 pub fn is_named<F: Frames>(store: &F, notes: &[Option<Noted>], held: Cap) -> bool
     requires { AreNoted (frames_of (F.parts store.now)) notes.now }
@@ -79,7 +80,7 @@ pub fn is_named<F: Frames>(store: &F, notes: &[Option<Noted>], held: Cap) -> boo
     held.count < current
 }
 
-// Whether this holds of all these capabilities.
+// Whether `is_named` holds of all these capabilities.
 #[tactic(auto, using(crate::proofs::Named::named_more))]
 fn are_all_named<F: Frames>(store: &F, notes: &[Option<Noted>], held: &[Cap]) -> bool
     requires { AreNoted (frames_of (F.parts store.now)) notes.now }
@@ -93,7 +94,7 @@ fn are_all_named<F: Frames>(store: &F, notes: &[Option<Noted>], held: &[Cap]) ->
     true
 }
 
-// Whether this holds of each capability of an object, which is fetched.
+// Whether `is_named` holds of each capability of a fetched object.
 #[tactic(auto, using(crate::proofs::Named::held_named, crate::proofs::Tables::content_read))]
 fn holds_named<F: Frames>(store: &F, notes: &[Option<Noted>], number: u64) -> bool
     requires fetched { F.IsFetched store.now number }
@@ -109,7 +110,7 @@ fn holds_named<F: Frames>(store: &F, notes: &[Option<Noted>], number: u64) -> bo
     }
 }
 
-// Whether an object may hold capabilities, by its role.
+// Whether an object of this role may hold capabilities.
 #[tactic(auto, using(crate::proofs::Tables::header_read, crate::proofs::Named::role_holds_none))]
 fn may_hold<F: Frames>(store: &F, number: u64) -> bool
     requires { HaveTheirRoles (frames_of (F.parts store.now)) }
@@ -121,7 +122,7 @@ fn may_hold<F: Frames>(store: &F, number: u64) -> bool
     )
 }
 
-// Whether this holds of each capability of an object, which is fetched if it may hold some.
+// Whether `is_named` holds of each capability of an object. Fetches the object if it may hold some.
 fn has_named<F: Frames>(
     store: &mut F,
     notes: &[Option<Noted>],
@@ -141,8 +142,7 @@ fn has_named<F: Frames>(
     Ok(holds_named(store, notes, number))
 }
 
-/// Whether each held capability has a count of at most its object's and, if they are equal, its
-/// object has the capability's role. Objects are fetched one at a time.
+/// Whether `is_named` holds of each capability of every object. Objects are fetched one at a time.
 pub(crate) fn are_named<F: Frames>(store: &mut F, notes: &[Option<Noted>]) -> Result<bool, Refusal>
     requires may { MayFetch F.IsUsable F.parts store.old }
     requires notes { AreNoted (frames_of (F.parts store.old)) notes.now }

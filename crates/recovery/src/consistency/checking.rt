@@ -1,4 +1,4 @@
-// The check of all frames.
+// Checks all frames.
 ghost use Rattle.std.specs.Prelude.{◌≡◌, ◌↔◌, ◌<◌, ◌≤◌, ◌^◌, IfOk, OnOk, IsErrOf};
 ghost use Rattle.model.specs.Keepable.{AreKeepable, IsSoundFrames};
 ghost use Rattle.capability.specs.Parts.{MayFetch, OnlyFetches, OnlyReads, frames_of};
@@ -13,7 +13,7 @@ use layout::BadImage;
 use model::Refusal;
 use std::alloc::Global;
 
-// The least reason why frames that can be kept are inconsistent, if there is one.
+// Returns the least of reasons 8 to 10 that holds for frames that may be kept, or `None`.
 fn reason<F: Frames>(alloc: Global, store: &mut F) -> Result<Option<BadImage>, Refusal>
     requires may { MayFetch F.IsUsable F.parts store.old }
     ensures tells { IfOk result (λ why. Tells (frames_of (F.parts store.old)) why) }
@@ -32,15 +32,14 @@ fn reason<F: Frames>(alloc: Global, store: &mut F) -> Result<Option<BadImage>, R
     }
 }
 
-/// Checks frames that can be kept at an age: whether they stand for a sound world (EROS: the
-/// consistency check of a checkpoint).
+/// Checks whether the world of frames that may be kept at an age is sound (EROS: the consistency check of a
+/// checkpoint).
 ///
-/// Every object is read, one at a time, and no object changes. Takes memory in proportion to the
-/// number of objects, and gives it back.
+/// Every object is read, one at a time, and no object changes. Allocates in proportion to the number of
+/// objects, and frees that memory.
 ///
-/// `Bad` with the least of the reasons 8 to 10 if they stand for none: the capabilities are checked
-/// first, then the processes, then the banks. `NoMemory` if memory ran out, and `Failed` exactly if
-/// the device failed.
+/// Returns `Bad` with the least of reasons 8 to 10 that holds: capabilities are checked first, then
+/// processes, then banks. Returns `NoMemory` if memory ran out, and `Failed` exactly if the device failed.
 pub fn check<F: Frames>(alloc: Global, store: &mut F, age: u64) -> Result<(), OpenFault>
     requires usable { F.IsUsable store.old }
     requires keepable { AreKeepable (F.parts store.old).geometry age

@@ -1,4 +1,4 @@
-// Whether each process is a root and its annex.
+// Whether each process has one root and one annex.
 ghost use Rattle.std.specs.Prelude.{◌≡◌, ◌↔◌, ℕ, ◌<◌, true, false, length, IfOk, IsTrue};
 ghost use Rattle.model.specs.Frame.{frame_at};
 ghost use Rattle.model.specs.Object.{is_waiting as state_waits};
@@ -11,7 +11,7 @@ use capability::Frames;
 use model::{ContentRef, Refusal, Role, State};
 use std::alloc::{AllocError, Global};
 
-/// What is noted of the root of a process, which may not stay in memory.
+/// The note of a process's root, which needn't stay in memory.
 #[derive(Clone, Copy)]
 pub struct Noted {
     /// Whether the process waits.
@@ -20,14 +20,14 @@ pub struct Noted {
     pub annex: u64,
 }
 
-// Whether a state is that of a process that waits.
+// Whether a state is that of a waiting process.
 fn waits(state: State) -> bool
     ensures { result ≡ state_waits state }
 {
     matches!(state, State::Waiting)
 }
 
-// What is noted of an object that is fetched.
+// Returns the note of a fetched object, or `None` if it isn't a root.
 #[tactic(auto, using(crate::proofs::Tables::content_read))]
 fn note_there<F: Frames>(store: &F, number: u64) -> Option<Noted>
     requires { F.IsFetched store.now number }
@@ -42,7 +42,7 @@ fn note_there<F: Frames>(store: &F, number: u64) -> Option<Noted>
     }
 }
 
-// What is noted of an object. A root is fetched for it.
+// Returns the note of an object, or `None` if it isn't a root. Fetches roots only.
 fn read_note<F: Frames>(store: &mut F, number: u64) -> Result<Option<Noted>, Refusal>
     requires known { number < length (F.parts store.old).headers }
     requires may { MayFetch F.IsUsable F.parts store.old }
@@ -57,7 +57,8 @@ fn read_note<F: Frames>(store: &mut F, number: u64) -> Result<Option<Noted>, Ref
     Ok(note_there(store, number))
 }
 
-/// The notes of all roots, by number, and `None` for other objects. Each root is fetched, one at a time.
+/// Returns the notes of all roots, by number, and `None` for other objects. Each root is fetched, one at a
+/// time.
 #[tactic(auto, using(capability::proofs::FrameLists::length_in, crate::proofs::Notes::noted_whole))]
 pub fn read_notes<F: Frames>(alloc: Global, store: &mut F) -> Result<Vec<Option<Noted>>, Refusal>
     requires may { MayFetch F.IsUsable F.parts store.old }
@@ -73,7 +74,7 @@ pub fn read_notes<F: Frames>(alloc: Global, store: &mut F) -> Result<Vec<Option<
     Ok(notes)
 }
 
-/// Whether a number is that of the root of a process that waits.
+/// Whether a number is the root of a waiting process.
 pub(crate) fn is_waiting(notes: &[Option<Noted>], number: u64) -> bool
     ensures { result ≡ waits_at notes.now number }
 {
@@ -83,14 +84,15 @@ pub(crate) fn is_waiting(notes: &[Option<Noted>], number: u64) -> bool
     }
 }
 
-/// Whether an object is an annex, and has the owner of a root.
+/// Whether an object is an annex with the owner of a root.
 pub fn is_annex_for<F: Frames>(store: &F, root: u64, annex: u64) -> bool
     ensures { IsTrue result ↔ IsAnnexFor (frames_of (F.parts store.now)) root annex }
 {
     has_role(store, annex, Role::Annex) && owner(store, annex) == owner(store, root)
 }
 
-// Takes the annex of a root, if it is one for this root and no other root took it.
+// Marks the annex of a root as taken. Returns whether it is an annex for this root, and no other root took
+// it.
 #[tactic(auto, using(crate::proofs::Tables::annex_known))]
 fn take_annex<F: Frames>(store: &F, taken: &mut [bool], root: u64, annex: u64) -> bool
     requires { length taken.old ≡ length (F.parts store.now).headers }
@@ -109,7 +111,8 @@ fn take_annex<F: Frames>(store: &F, taken: &mut [bool], root: u64, annex: u64) -
     true
 }
 
-// Takes the annexes of all roots, where none was taken. Returns whether each is one for its root and is taken once.
+// Marks the annexes of all roots as taken. Returns whether each is an annex for its root, and none is taken
+// twice.
 #[tactic(auto, using(capability::proofs::FrameLists::length_in))]
 fn take_annexes<F: Frames>(store: &F, notes: &[Option<Noted>], taken: &mut [bool]) -> bool
     requires size { length taken.old ≡ length (F.parts store.now).headers }
@@ -144,7 +147,7 @@ fn are_all_taken<F: Frames>(store: &F, taken: &[bool]) -> bool
     true
 }
 
-// Whether each process is a root and an annex. `taken` marks no annex at first.
+// Whether each process has one root and one annex. At first `taken` must mark nothing.
 #[tactic(auto, using(crate::proofs::Taking::whole_taken, crate::proofs::Taking::taken_whole))]
 fn are_matched<F: Frames>(store: &F, notes: &[Option<Noted>], taken: &mut [bool]) -> bool
     requires size { length taken.old ≡ length (F.parts store.now).headers }
@@ -158,8 +161,8 @@ fn are_matched<F: Frames>(store: &F, notes: &[Option<Noted>], taken: &mut [bool]
     are_all_taken(store, taken)
 }
 
-/// Whether each process is a root and an annex: a root's annex is one, with its owner, and each
-/// annex has one root. Fails only where memory runs out.
+/// Whether each root names an annex with its owner, and each annex has exactly one root. Fails only if memory
+/// runs out.
 pub(crate) fn are_whole<F: Frames>(
     alloc: Global,
     store: &F,

@@ -1,6 +1,6 @@
 // Why banks fail the check.
 
-/// Why banks aren't a tree that owns all objects within their limits.
+/// Why banks don't form a tree that owns all objects within their limits.
 #[derive(Clone, Copy)]
 pub enum Unbanked {
     /// Number 0 isn't a bank that owns itself.

@@ -1,4 +1,4 @@
-// What the table of headers says of an object, by number. Nothing is fetched.
+// Facts about an object from the table of headers. Nothing is fetched.
 ghost use Rattle.std.specs.Prelude.{◌≡◌, ◌↔◌, IsTrue};
 ghost use Rattle.capability.specs.Parts.{frames_of};
 ghost use Rattle.capability.specs.Consistency.{owner_of, role_at};

@@ -4,7 +4,7 @@ use Rattle.std.proofs.Common.{◌≡◌, ◌∙◌, ◌∷◌}
 use Rattle.capability.proofs.Edits.{edited, slots_edit}
 use Rattle.capability.proofs.objects.set_last_slots.Goals as goal
 
--- a list of four, element by element
+-- mapping a list of four items maps each of them
 four : (f : Capability → Cap) (cs : List Capability) → length cs ≡ 4 → map f cs
     ≡ f (get_or cs 0 Void) ∷ f (get_or cs 1 Void) ∷ f (get_or cs 2 Void) ∷ f (get_or cs 3 Void) ∷ []
 four f [] size = absurd (omega arith)

@@ -4,7 +4,7 @@ use Rattle.std.proofs.Common.{◌≡◌}
 use Rattle.gate.proofs.Standing.{fits_kept, in_geometry}
 use Rattle.gate.proofs.delivery.deliver.Goals as goal
 
--- a message is delivered to the root, and then to the registers
+-- delivering a message sets the root, and then the last four registers
 deliver_by_parts : (os : List Object) (p : ℕ) (m : Message) → deliver os p m
     ≡ with_slots_from (with_message os p m.words m.key) (annex_at os p) 28 m.capabilities
 unfolding deliver

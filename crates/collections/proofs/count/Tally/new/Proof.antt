@@ -1,4 +1,4 @@
--- `new` makes the empty struct, with the number that its clause names.
+-- `new` returns the empty struct. Its number, which only proofs see, is the one that the clause names.
 use mathlib.Core.Path.{refl}
 use mathlib.Core.List.{[], ◌∷◌}
 use seplogic.Ra.Ura.{Ura}

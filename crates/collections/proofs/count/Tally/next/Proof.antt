@@ -1,4 +1,4 @@
--- `next` makes the empty struct, with the number that its clause names.
+-- `next` returns the empty struct. Its number, which only proofs see, is the one that the clause names.
 use Rattle.std.proofs.Common.{◌+◌}
 use mathlib.Core.Path.{refl}
 use mathlib.Core.List.{[], ◌∷◌}

@@ -1,4 +1,4 @@
--- `new` makes the empty struct, with the bytes that its clauses name.
+-- `new` returns the empty struct. Its ghost bytes are those that the clauses name.
 use Rattle.devices.proofs.Names.{[], length, refl, fresh}
 use Rattle.std.proofs.Common.{◌∷◌, ◌<◌, ◌^◌}
 use seplogic.Ra.Ura.{Ura}

@@ -1,4 +1,4 @@
--- `then` makes the empty struct, with the history that its clauses name.
+-- `then` returns the empty struct. Its ghost history is the one that the clauses name.
 use Rattle.devices.proofs.Names.{List, [], refl, stepped}
 use Rattle.std.proofs.Common.{◌∷◌, ◌++◌}
 use seplogic.Ra.Ura.{Ura}

@@ -10,7 +10,7 @@ use Rattle.migrator.proofs.Publishing.{err_counts, ok_counts}
 use Rattle.migrator.proofs.Completing.{either_of, kept_one, one_complete, long_of, own_complete, later_complete, whole_length, zeros_written}
 use Rattle.migrator.proofs.cluster_buffer.ClusterBuffer.complete_one.Goals as goal
 
--- nothing is written
+-- a call that only reads keeps the entry's frame
 read_keeps : {p : Plan} {generation : ℕ} {es : List Entry} {i : ℕ} {old new : Disk} {now : Option Unwritten} → now ≡ None →
     ReadsOnly old new → KeepsOne p generation es i old new now
 read_keeps {p} {generation} {es} {i} {old} {new} none reads = subst (KeepsOne p generation es i old new) (sym none) (record {
