@@ -1,4 +1,4 @@
--- Invocations by a process of a set that encloses its members.
+-- An invocation by a member of a closed set stays within the set.
 use Rattle.confinement.proofs.Names.{arith, nat_tests, inl, inr, ℕ, zero, suc, Some, List, [], map, refl, IsTrue, slice_index, slice_index_or, slice_set}
 use Rattle.confinement.proofs.Names.{and_parts, Capability, Void, Resume, Invocation, Message, Operation, Call, Geometry, Object, Root, State, Running, Effect}
 use Rattle.confinement.proofs.Names.{after_gate, after_order, deliver, invoke, on_kernel_object, ordered, replied, reply_of, sent_by, sent_to_gate}
@@ -13,7 +13,7 @@ use Rattle.confinement.proofs.TrustedOrders.{order_stays, strong}
 
 -- delivery
 
--- the annex of a process that receives may change where its root may
+-- if a process may receive messages, its root and annex may change
 annex_changes : (z : Zone) (os : List Object) (p : ℕ) → Encloses z os → IsTrue (is_process os p) → IsReceiver z p (annex_at os p)
     → MayChange z p × MayChange z (annex_at os p)
 annex_changes z os p h root (inl member) = (inl member, inl (h.closed.annexes p member root))
@@ -31,7 +31,7 @@ deliver_stays z os p m h receives root sent =
     stays_trans z os us (with_slots_from us old.annex 28 m.capabilities) first
     (stays_slots z us old.annex 28 m.capabilities first.encloses change.1 sent)
 
--- the capabilities that an invocation sends
+-- the capabilities that a message carries
 
 map_stays : (z : Zone) (f : ℕ → Capability) (rs : List ℕ) (j : ℕ) → ((r : ℕ) → Stays z (f r))
     → Stays z (slice_index_or (map f rs) j Void)
@@ -39,7 +39,7 @@ map_stays z f [] j h = inl (inl tt)
 map_stays z f (r ∷ rs) zero h = h r
 map_stays z f (r ∷ rs) (suc j) h = map_stays z f rs j h
 
--- a process of a set that may invoke
+-- a running member of a closed set
 pub record IsInvoker (z : Zone) (os : List Object) (p : ℕ) : Type 0 where
   pub encloses : Encloses z os
   pub member : IsTrue (z.members p)
@@ -66,7 +66,7 @@ gate_sent_stays z os i j by = go i.operation
 
 -- the invoker's state
 
--- objects in which the invoker went into another state
+-- objects after the invoker changed its state, within the set
 record IsReady (g : Geometry) (z : Zone) (os us : List Object) : Type 0 where
   pub stays : StaysWithin z os us
   pub after : IsAfter g os us
@@ -88,9 +88,9 @@ order_ready : (g : Geometry) (z : Zone) (os : List Object) (i : Invocation) → 
 order_ready g z os i h by =
     after_order_by (IsReady g z os) os i (none_ready g z os i.process h by) (λ s. state_ready g z os i.process s h by)
 
--- gates
+-- start and resume capabilities
 
--- the receiver of a message through a start capability: a member, or a trusted process
+-- a process that is a member or trusted may receive messages
 receiver : (z : Zone) (os : List Object) (q : ℕ) → Encloses z os → IsTrue (is_process os q) → IsTrue (z.members q) ⊎ IsTrue (z.trusted q)
     → IsReceiver z q (annex_at os q)
 receiver z os q h root (inl member) = inl member
@@ -127,7 +127,7 @@ replied_stays z i o h is given =
     deliver_stays z o.objects i.process (reply_of o) h (inl is)
     (and_parts (is_process o.objects i.process) (is_running (state_at o.objects i.process)) runs).0 (λ j. reply_stays z o j given))
 
--- a capability that may be held before the invoker's state changes may be held afterwards
+-- a capability that a process may hold before the invoker's state changes may be held afterwards
 held_ready : (g : Geometry) (z : Zone) (os us : List Object) (c : Capability) → IsReady g z os us → IsHeld os (Waits os) c →
     IsHeld us (Waits us) c
 held_ready g z os us c ready held = held_on os us (Waits os) (Waits us) c ready.after.frame ready.after.waits held
@@ -158,7 +158,7 @@ kernel_stays g z os i h by =
 
 -- invocations
 
--- a start capability that stays inside is one to a member or to a trusted process
+-- a start capability that stays inside names a member or a trusted process
 started : (z : Zone) (q : ℕ) → (⊥ ⊎ IsTrue (z.members q)) ⊎ IsTrue (z.trusted q) → IsTrue (z.members q) ⊎ IsTrue (z.trusted q)
 started z q is = grind (arith, nat_tests)
 
