@@ -1,4 +1,4 @@
--- Orders on objects of a set closed for reading do the same in linked lists of objects.
+-- An order on an object of a set that is closed for reading has the same outcome in two linked lists.
 use Rattle.noninterference.proofs.Names.{nat_tests, inl, ℕ, Bool, false, not, List, Option, None, Some, arith, refl, sym, ap, subst, IsTrue, nat_lt}
 use Rattle.noninterference.proofs.Names.{Access, Capability, Void, Number, Page, Node, Space, Process, Bank, Discrim, Start, Geometry, Object, State, Available}
 use Rattle.noninterference.proofs.Names.{Running, Arguments, NodeOrder, PageOrder, ProcessOrder, BankOrder, bank_order, fetched, is_space, node_order}
@@ -15,7 +15,7 @@ use Rattle.model.specs.declared.order.ResultCode.TheVariants as code
 use Rattle.noninterference.proofs.ReadEdits.{Link, link_consume, link_of_root, link_slot, link_state, link_word}
 use Rattle.noninterference.proofs.ReadBanks.{OutcomesLink, bank_link, both_chosen, given_link, refused_link, replying_link, wrote_link}
 
--- a property of two lists of choices on the same option
+-- if an option is empty, a property holds of both default values; else it holds of both values for its content
 found_both : {A X : Type 0} (P : X → X → Type 0) (found : Option A) (x y : X) (f k : A → X) → P x y →
     ((a : A) → found ≡ Some a → P (f a) (k a)) → P (elim found [ None ↦ x | Some a ↦ f a ]) (elim found [ None ↦ y | Some a ↦ k a ])
 found_both {A} {X} P None x y f k p q = p
@@ -135,7 +135,7 @@ module _ (trusted inside : ℕ → Bool) (os us : List Object) (h : Link trusted
         (link_of_root trusted inside os us p h in_p (λ r. with_space r args.capability) annex_inside sent) p p refl)
         (λ e. refuse code.BadCapability)
 
-  -- a capability that isn't a start capability and stays inside names a member
+  -- a capability that names a member or starts a process names a member if it is no start capability
   pub member : (n : ℕ) → IsTrue (inside n) ⊎ ⊥ → IsTrue (inside n)
   member n is = grind (arith, nat_tests)
 
@@ -143,7 +143,7 @@ module _ (trusted inside : ℕ → Bool) (os us : List Object) (h : Link trusted
       → depends_on_supply requested ≡ false
   bank_looks b w requested found looks = grind (arith, nat_tests)
 
-  -- an order that doesn't look outside
+  -- an order that doesn't look outside has linked outcomes
   pub order_link : (g : Geometry) (c : Capability) (w : ℕ) (args : Arguments) → IsNow g os → IsNow g us → IsHeld os (Waits os) c
       → NamesBut trusted inside c → NamesBut trusted inside args.capability → looks_outside inside c w ≡ false
       → Outcomes (order g os c w args) (order g us c w args)
