@@ -1,4 +1,4 @@
--- Numbers and capabilities in an image of other sizes.
+-- Renumbering capabilities and frames for an image of other sizes.
 use Rattle.image_describer.proofs.Names.{ℕ, Bool, true, false, List, [], map, Option, Some, None, refl, sym, ap, subst, arith, All, nat_tests, length-map}
 use Rattle.image_describer.proofs.Names.{All-map, All-weaker, slice_get-map, Cap, Capability, Void, Page, Space, Frame, Geometry, Content, Object, IsWellFormed}
 use Rattle.image_describer.proofs.Names.{named, map_content, IsSpace, object_count, fresh_cap, SlotEntry, AreDistinct, AreSlots, HoldsNamed, IsSomeCapability}
@@ -18,7 +18,7 @@ page_moves old new n above below = grind (arith, nat_tests)
 pub stays_itself : (g : Geometry) (n : ℕ) → moved g g n ≡ n
 stays_itself g n = grind (arith, nat_tests)
 
--- the numbers of an image of few objects stay of 64 bits
+-- if a number has 64 bits, so has its new number
 pub moved_wide : (old new : Geometry) (n : ℕ) → object_count old ≤ 8192 → new.nodes ≤ 4096 → IsWide n → IsWide (moved old new n)
 moved_wide old new n few also wide = grind (arith, nat_tests)
 
@@ -42,7 +42,7 @@ module _ (at : ℕ → ℕ) where
       IfSome (named (moved_capability at c)) IsWide
   named_moved on c h = grind (arith, nat_tests)
 
-  -- capabilities that may be absent
+  -- renumbering a capability that may be absent
   pub held_moved : (o : Option Capability) → unwrap_or (moved_held at o) Void ≡ moved_capability at (unwrap_or o Void)
   held_moved None = refl
   held_moved (Some c) = refl
@@ -65,7 +65,7 @@ module _ (at : ℕ → ℕ) where
       let same : moved_capability at c ≡ Void = ap (λ (p : Option Capability). unwrap_or p Void) is in
       h (ap (λ (d : Capability). Some d) (void_moved c same))
 
-  -- the capabilities of slots
+  -- renumbering the capabilities of slots
   pub indexes_moved : (es : List SlotEntry) → map (λ s. s.index) (map (moved_slot at) es) ≡ map (λ s. s.index) es
   indexes_moved [] = refl
   indexes_moved (e ∷ es) = ap (λ (ns : List ℕ). e.index ∷ ns) (indexes_moved es)

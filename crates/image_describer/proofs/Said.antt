@@ -1,4 +1,4 @@
--- The lines of objects, and of a whole description, are read back as what they were written for.
+-- The lines of objects, and those of a whole description, are read back as what they were written for.
 use Rattle.image_describer.proofs.Names.{nat_tests, ℕ, nat_lt, true, List, [], codes, length, slice_index_or, Option, None, Some, IsSomeAnd, MatchOption, refl}
 use Rattle.image_describer.proofs.Names.{sym, subst, arith, IsTrue, list_all, is_bare, key_text, Data, Members, get_member, no_members, BankEntry, Description}
 use Rattle.image_describer.proofs.Names.{NodeEntry, PageEntry, ProcessEntry, AreFour, IsBank, IsCapability, IsDescription, IsList, IsNode, IsNumber, IsPage}
@@ -12,7 +12,7 @@ use Rattle.image_describer.proofs.Written.{data_unless, list_data, number_data, 
 use Rattle.image_describer.proofs.Written.{says_state, says_wide, says_words, slot_data, space_data, spells_four, spells_number_unless, spells_ranges}
 use Rattle.image_describer.proofs.Written.{spells_slots, spells_space, spells_state, spells_wide, spells_words, state_data, wide_data, word_data, words_data}
 
--- the value at a key encodes what was put there
+-- if the value at a key encodes x, the key says x
 said_at : {A : Type 0} (P : Data → A → Type 0) (o : Option Data) (d : Data) (x : A) → o ≡ Some d → P d x → IsSomeAnd o (λ e. P e x)
 said_at P o d x is says = subst (λ (r : Option Data). IsSomeAnd r (λ e. P e x)) (sym is) says
 
@@ -20,12 +20,12 @@ said_or : {A : Type 0} (default : A) (P : Data → A → Type 0) (o r : Option D
     MatchOption r (x ≡ default) (λ e. P e x) → MatchOption o (x ≡ default) (λ e. P e x)
 said_or default P o r x is says = subst (λ (r : Option Data). MatchOption r (x ≡ default) (λ e. P e x)) (sym is) says
 
--- a key of letters is written without quotes
+-- a key of letters needs no quotes
 pub bare : (key : List ℕ) → (nat_lt 0 (length key) && list_all is_bare key) ≡ true → key_text key ≡ key
 unfolding key_text
 bare key letters = rw letters
 
--- the values at the keys that were put into an empty table
+-- the parameters: pairs with different keys that were put into an empty table
 module _ (ps : List Pair) (ms : Members) (chain : Chain ps no_members ms) (apart : IsTrue (are_apart ps)) where
   value_at : (i : ℕ) → i < length ps → get_member (slice_index_or ps i (codes "", None)).0 ms ≡ (slice_index_or ps i (codes "", None)).1
   value_at i inside = chain_at ps i (codes "", None) no_members ms chain apart inside refl
