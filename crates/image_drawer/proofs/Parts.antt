@@ -14,7 +14,7 @@ kept_one : {X Y : Type 0} (t : X → Bool) (g : X → List Y) (x : X) (xs : List
 kept_one {X} t g x xs true is = ap (λ (b : Bool). flat_map g (if b then x ∷ filter t xs else filter t xs)) is
 kept_one {X} t g x xs false is = ap (λ (b : Bool). flat_map g (if b then x ∷ filter t xs else filter t xs)) is
 
--- mapping the items that are kept gives the kept part of mapping all items
+-- if each kept item gives what is kept of its image, the kept items give what is kept of the whole
 kept_flat : {X Y : Type 0} (t : X → Bool) (q : Y → Bool) (f g : X → List Y) → ((x : X) → filter q (f x) ≡ (if t x then g x else [])) →
     (xs : List X) → flat_map g (filter t xs) ≡ filter q (flat_map f xs)
 kept_flat t q f g on [] = refl
@@ -75,7 +75,7 @@ module _ (inside : ℕ → Bool) where
       ∙ ap (λ (es : List SlotEntry). arrows_at m.number place.Slot es) part.slots
       ∙ slots_kept m.number place.Slot m.slots.items
 
-  -- the arrows of one holder
+  -- the arrows of one holder that are kept: if the holder is kept, those whose targets are
   one_both : (h : ℕ) (b : Bool) → inside h ≡ b → (p : Place) (c : Capability) (o : Option ℕ) →
       filter both (arrow_to h p c o) ≡ (if b then filter ends (arrow_to h p c o) else [])
   one_both h true is p c (Some n) = ap (λ (b : Bool). if b && inside n then arrow_to h p c (Some n) else []) is
