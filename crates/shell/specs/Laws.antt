@@ -1,4 +1,4 @@
--- What a session is to the machine.
+-- That a session is a run of the machine.
 use Rattle.std.specs.Prelude.{ℕ, Bool, List, Option, Result}
 use Rattle.capability.specs.Parts.{Parts}
 use Rattle.checkpoint.specs.Store.{View}
@@ -12,9 +12,9 @@ use Rattle.script.specs.declared.fault.RunFault.{RunFault}
 use Rattle.shell.specs.Sessions.{ServesFrom, Session}
 use Rattle.shell.specs.declared.help.Topic.{Topic}
 
--- The parameters are ghost members of a device and of an object store.
+-- The parameters: the ghost members of a device and of an object store.
 module _ {D S : Type 0} (disk : D → Disk) (view : S → View D) (parts : S → Parts) where
-  -- what was done from the first line to the last is a run, whichever machine the kernel stood for
+  -- for each machine that the kernel stands for, all turns of a session are a run of it
   abbrev pub SessionsAreRuns : Type 0
   SessionsAreRuns = (topics : List Topic) (prompts : Bool) (ahead ahead_left : Option (List (List ℕ))) (s t : Session D S)
       (r : Result (Unit {0}) RunFault) → ServesFrom disk view parts topics prompts ahead ahead_left s t r →

@@ -1,13 +1,12 @@
-//! The law of sessions: the contract of a function that does nothing.
+//! The law of sessions: the contract of an empty function.
 
 ghost use Rattle.shell.specs.Laws.{SessionsAreRuns};
 
 use checkpoint::ObjectStore;
 use device::Device;
 
-/// A session of a shell is a run of the machine, from any machine that the kernel stands for: the turns of its lines
-/// and saves, one after another. So what is proved about runs holds for a session too: a crash leaves a saved state,
-/// and processes are confined.
+/// A session of a shell is a run of each machine that the kernel stands for: the turns of its lines and saves, one
+/// after another. So the laws of runs hold for sessions: a crash leaves a saved state, and processes are confined.
 pub fn sessions_are_runs<D: Device, S: ObjectStore<D>>()
     ensures { SessionsAreRuns D.disk S.view S.parts }
 {}
