@@ -1,4 +1,4 @@
--- The command that serves a shell.
+-- The command that runs a shell.
 use Rattle.jobs.specs.Names.{Written, Bool, true, false, List, codes, Result, ℕ, line_of, Unsaved, RunFault, Writes}
 use Rattle.jobs.specs.Names.{Disk, Err, IsDeviceOf, Ok, OpenFault, Opens, Option, Parts, Power, RefusesToOpen, View}
 use Rattle.jobs.specs.Names.{ServesFrom, session_at, Shell}
@@ -7,18 +7,19 @@ use Rattle.std.specs.Prelude.{◌≡◌, ◌||◌}
 abbrev pub unsaved_text : List ℕ
 unsaved_text = codes "eros: some invocations or stores are not committed"
 
--- if the flag is set, a line is written, as far as it can be written
+-- if the flag is set, a line was written, whole or in part
 abbrev pub TellsIf : Bool → List ℕ → Written → Written → Type 0
 TellsIf true text old new = (wrote : Result (Unit {0}) RunFault) × Writes old new wrote (line_of text)
 TellsIf false text old new = new ≡ old
 
--- a line is written if something isn't committed
+-- if something isn't committed, a line that says so was written
 abbrev pub TellsUnsaved : Unsaved → Written → Written → Type 0
 TellsUnsaved unsaved old new = TellsIf (unsaved.present || unsaved.frozen) unsaved_text old new
 
--- The parameters are ghost members of a device and of an object store.
+-- The parameters: the ghost members of a device and of an object store.
 module _ {D S : Type 0} (disk : D → Disk) (view : S → View D) (parts : S → Parts) where
-  -- a kernel was opened, and a shell served lines over it; or the device wasn't opened, and nothing was read or written
+  -- a kernel was opened, and a shell served lines over it; or the device wasn't opened, and nothing was read or
+  -- written
   abbrev pub ServesImage : {N : Type 0} → (N → Written) → D → D → Shell N → Shell N → Option (List (List ℕ)) →
       Option (List (List ℕ)) → Written → Written → Result (Result (Unit {0}) RunFault) OpenFault → Type 0
   ServesImage written device back before after ahead ahead_left output output_left (Ok outcome) =

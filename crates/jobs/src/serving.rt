@@ -17,7 +17,7 @@ use script::{Output, RunFault};
 use shell::{Shell, TypedLines};
 use std::alloc::Global;
 
-// Opens a device, carries out the lines of a shell over it, and returns it.
+// Opens a device, serves a shell's lines over it, and returns it.
 fn open_and_serve<D: Device, S: ObjectStore<D>, R: RawReader, N: Output, W: Output>(
     alloc: Global,
     device: D,
@@ -38,7 +38,8 @@ fn open_and_serve<D: Device, S: ObjectStore<D>, R: RawReader, N: Output, W: Outp
     (Ok(outcome), kernel.into_device())
 }
 
-// Writes a line if there are uncommitted invocations or stores. A failure to write it is ignored.
+// If there are uncommitted invocations or stores, writes a line that says so. Ignores failures to
+// write.
 fn tell_unsaved<V: Output>(unsaved: Unsaved, errors: &mut V)
     ensures { TellsUnsaved unsaved (V.written errors.old) (V.written errors.new) }
 {
@@ -47,13 +48,15 @@ fn tell_unsaved<V: Output>(unsaved: Unsaved, errors: &mut V)
     }
 }
 
-/// Opens a device that holds an image, and carries out a shell's lines over it; then the status is 0, whatever the
-/// answers are. After a fault one line is written to `errors`, and the status is 1: `bad image` with a number from 1
-/// to 10, `device failed` or `no memory` if the device isn't opened, and then nothing was read or written; `cannot
-/// read script` or `cannot write output` if the reader or the writer fails. If there are uncommitted invocations or
+/// Opens a device that holds an image, and serves a shell's lines over it. The status is 0, whatever the answers
+/// are.
+///
+/// After a fault the status is 1, and one line is written to `errors`: `bad image` with a number from 1 to 10,
+/// `device failed` or `no memory` if the device isn't opened (then nothing was read or written); `cannot read
+/// script` or `cannot write output` if the reader or the writer fails. If there are uncommitted invocations or
 /// stores at the end, one line says so.
 ///
-/// The device is returned as the last line left it. A device that can't be opened is returned unchanged.
+/// Returns the device as the last line left it; if it can't be opened, unchanged.
 pub fn run_shell<D: Device, S: ObjectStore<D>, R: RawReader, N: Output, W: Output, V: Output>(
     alloc: Global,
     device: D,
