@@ -27,7 +27,7 @@ pub(crate) enum Query<'w> {
     Explain,
     /// Prints the sizes of the image and counts of its objects.
     Info(Format),
-    /// Answers a question about what these processes can ever change, or all processes if none is given.
+    /// Answers a question about these processes, or about all if none is given.
     Reach {
         processes: &'w [u64],
         trusted: &'w [u64],
@@ -42,7 +42,7 @@ pub(crate) enum Query<'w> {
     },
 }
 
-/// Returns the sizes of a command line as those of an image.
+/// Returns the sizes of a command line as sizes of an image.
 pub(crate) fn sizes_of(sizes: &command_line::Sizes) -> Sizes {
     Sizes {
         nodes: sizes.nodes,
@@ -56,7 +56,7 @@ pub(crate) fn writing<'a>(old: &'a str, new: &'a str, layout: NewLayout) -> Quer
     Query::Upgrade { old, new, layout }
 }
 
-/// Returns the purpose of a search: to read, or else to change.
+/// Returns the purpose of a search: to read if `reads`, else to change.
 pub(crate) fn purpose_of(reads: bool) -> Purpose {
     if reads {
         Purpose::Read
@@ -70,8 +70,8 @@ pub(crate) fn drawing(from: Option<u64>, purpose: Purpose, to: Option<u64>) -> Q
     Query::Draw(Focus { from, purpose, to })
 }
 
-/// Returns the query of `reach`: with `--to`, which processes can change or read an object; else with `--shows`, a
-/// chain to an object; else the closed set.
+/// Returns the query of `reach`. With `--to`: which processes can change or read an object. Else with `--shows`: a
+/// chain to an object. Else: the least closed set.
 pub(crate) fn reaching<'a>(reach: &'a Reach<'_>) -> Query<'a> {
     let purpose = purpose_of(reach.reads);
     let question = match (reach.to, reach.shows) {
@@ -87,8 +87,8 @@ pub(crate) fn reaching<'a>(reach: &'a Reach<'_>) -> Query<'a> {
     }
 }
 
-// Writes the saved state of the image on a device to a new image, and returns the end of the command. The new file is
-// made only once the old image was opened and read whole.
+// Writes the saved state of the image on a device to a new image, and returns the end of the command. Makes the new
+// file only after the whole old image was read.
 fn upgrade<D: Device, S: WholeStore<D>, W: Output, V: Output>(
     rt: &HostRuntime,
     device: D,
