@@ -1,4 +1,4 @@
--- `null` makes the struct of a null pointer, which owns nothing.
+-- `null` makes a null pointer, which owns nothing.
 use mathlib.Core.Path.{refl, sym, subst}
 use lib.Dec.{lit<}
 use mir.Syntax.{w64}
