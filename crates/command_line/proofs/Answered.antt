@@ -79,7 +79,7 @@ takes_named words taken none =
     let kept = level_keeps whole.top (names_of whole) given (is_some (entered whole stop)) refl refl passes.1 in
     entered_named stop kept.2 kept.1 passes.0 none
 
--- the same, by the matches that clap returned
+-- if accepted words have matches that name no job, the words ask for an upgrade or copy of a file to itself
 pub unnamed : (words : List Text) (command : Command) (m : ArgMatches) → app_of command ≡ eros_app → HasMatchesOf (app_of command) words m
     → NamesNone (subcommand_rows_of m) → takes eros_app words ≡ true → AsksForSame (subcommand_of eros_app words)
 unnamed words command m is has none taken =

@@ -51,7 +51,7 @@ module _ (g : Geometry) (z : Zone) (os : List Object) (h : IsNow g os) (k : Encl
   owner_inside : (n : ℕ) → is_free (content_at os n) ≡ false → IsTrue (z.members (owner_at os n)) → IsTrue (z.members n)
   owner_inside n used is = k.closed.owned (owner_at os n) n is (tree.owners n (λ gone. false≢true (sym used ∙ gone))) used refl
 
-  -- allocation
+  -- ---- allocation
 
   -- a change stays within the set if each changed object is a member and its new authority stays in the set
   changed_stays : (us : List Object) → ((n : ℕ) → (object_at us n ≡ object_at os n) ⊎ (IsTrue (z.members n) × IsFresh z (content_at us n)))
@@ -94,7 +94,7 @@ module _ (g : Geometry) (z : Zone) (os : List Object) (h : IsNow g os) (k : Encl
     ];
   }
 
-  -- the number has a free object
+  -- the number is free
   abbrev IsUnused : ℕ → Type 0
   IsUnused n = (n < length os) × IsTrue (is_free (content_at os n))
 
@@ -130,7 +130,7 @@ module _ (g : Geometry) (z : Zone) (os : List Object) (h : IsNow g os) (k : Encl
         | inr no_annex ↦ grind (arith, nat_tests, fresh_root, at_other)
       ])
 
-  -- freeing the objects of a bank
+  -- ---- freeing the objects of a bank
 
   -- rescinding members stays within the set
   gone_stays : (set : List ℕ) → ((n : ℕ) → is_member set n ≡ true → IsTrue (z.members n)) → StaysWithin z os (rescind set os)
@@ -182,7 +182,7 @@ module _ (g : Geometry) (z : Zone) (os : List Object) (h : IsNow g os) (k : Encl
       )
     ])
 
-  -- the order of a bank
+  -- ---- the order of a bank
 
   module _ (b : ℕ) (args : Arguments) (kind : IsTrue (is_bank (content_at os b))) (is : IsTrue (z.members b)) where
     page_made_stays : OutcomeStays z os (on_bank g os b bank.NewPage args)

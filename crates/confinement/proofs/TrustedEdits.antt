@@ -18,7 +18,7 @@ pub record MayStand (z : Zone) (os : List Object) (n : ℕ) (c : Content Capabil
   pub slots : IsTrue (z.members n) → (i : ℕ) → Stays z (slice_index_or (slots_in c) i Void)
   pub space : IsTrue (z.members n) → Stays z (root_in c).space
 
--- voiding capabilities, in lists and contents
+-- ---- voiding capabilities, in lists and contents
 
 map_same : (cs : List Capability) → cs ≡ map (void_where (λ c. false)) cs
 map_same [] = refl
@@ -27,7 +27,7 @@ map_same (c ∷ cs) = ap (λ ds. c ∷ ds) (map_same cs)
 content_same : (c : Content Capability) → c ≡ map_content (void_where (λ c. false)) c
 content_same c = grind (arith, nat_tests, map_same)
 
--- a capability that passes one of two tests
+-- whether a capability passes either test
 abbrev either : (Capability → Bool) → (Capability → Bool) → Capability → Bool
 either first second c = first c || second c
 
@@ -196,7 +196,7 @@ pub stays_state : (z : Zone) (os : List Object) (p : ℕ) (s : State) → Enclos
 unfolding with_state
 stays_state z os p s h in_p is = stays_root z os p (record (root_at os p) { state = s }) h (inl in_p) is refl (h.closed.spaces p)
 
--- voiding capabilities
+-- ---- voiding capabilities
 
 stays_void : (z : Zone) (goes : Capability → Bool) (c : Capability) → Stays z c → Stays z (void_where goes c)
 stays_void z goes c stays = one_of (Stays z) (goes c) Void c (inl (inl tt)) stays
@@ -259,7 +259,7 @@ stays_consume z os p h in_p = stays_without z os (consume p os) (resumes p) [] h
     names : (c : Capability) → resumes p c ≡ true → NamesInside z.members c
     names c e = grind (arith, nat_tests)
 
--- whether an optional number is a member
+-- the number is there, and is a member
 abbrev IsSomeInside : Zone → Option ℕ → Type 0
 IsSomeInside z o = elim o [ None ↦ ⊥ | Some n ↦ IsTrue (z.members n) ]
 

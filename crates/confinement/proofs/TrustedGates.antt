@@ -11,7 +11,7 @@ use Rattle.confinement.proofs.TrustedEdits.{stays_consume, stays_refl, stays_roo
 use Rattle.confinement.proofs.TrustedBanks.{OutcomeStays}
 use Rattle.confinement.proofs.TrustedOrders.{order_stays, strong}
 
--- delivery
+-- ---- delivery
 
 -- if a process may receive messages, its root and annex may change
 annex_changes : (z : Zone) (os : List Object) (p : ℕ) → Encloses z os → IsTrue (is_process os p) → IsReceiver z p (annex_at os p)
@@ -31,7 +31,7 @@ deliver_stays z os p m h receives root sent =
     stays_trans z os us (with_slots_from us old.annex 28 m.capabilities) first
     (stays_slots z us old.annex 28 m.capabilities first.encloses change.1 sent)
 
--- the capabilities that a message carries
+-- ---- the capabilities that a message carries
 
 map_stays : (z : Zone) (f : ℕ → Capability) (rs : List ℕ) (j : ℕ) → ((r : ℕ) → Stays z (f r))
     → Stays z (slice_index_or (map f rs) j Void)
@@ -64,7 +64,7 @@ gate_sent_stays z os i j by = go i.operation
     go Call = at_set (λ m c. Stays z c) (sent_by os i) 3 j (Resume i.process) Void (inl (inr by.member)) (sent_stays z os i j by)
     go o = sent_stays z os i j by
 
--- the invoker's state
+-- ---- the invoker's state
 
 -- objects after the invoker changed its state, within the set
 record IsReady (g : Geometry) (z : Zone) (os us : List Object) : Type 0 where
@@ -88,7 +88,7 @@ order_ready : (g : Geometry) (z : Zone) (os : List Object) (i : Invocation) → 
 order_ready g z os i h by =
     after_order_by (IsReady g z os) os i (none_ready g z os i.process h by) (λ s. state_ready g z os i.process s h by)
 
--- start and resume capabilities
+-- ---- start and resume capabilities
 
 -- a process that is a member or trusted may receive messages
 receiver : (z : Zone) (os : List Object) (q : ℕ) → Encloses z os → IsTrue (is_process os q) → IsTrue (z.members q) ⊎ IsTrue (z.trusted q)
@@ -114,7 +114,7 @@ resume_stays g z os i q h by is root =
     let first = through_stays g z os i q 0 h by (inl is) root in
     stays_trans z os us (consume q us) first (stays_consume z us q first.encloses is)
 
--- kernel objects
+-- ---- kernel objects
 
 reply_stays : (z : Zone) (o : OrderOutcome) (j : ℕ) → Stays z o.capability →
     Stays z (slice_index_or (reply_of o).capabilities j Void)
@@ -156,7 +156,7 @@ kernel_stays g z os i h by =
     (stays_trans z us o.objects (replied o.objects i o) requested.0
     (replied_stays z i o requested.0.encloses by.member requested.1))
 
--- invocations
+-- ---- invocations
 
 -- a start capability that stays inside names a member or a trusted process
 started : (z : Zone) (q : ℕ) → (⊥ ⊎ IsTrue (z.members q)) ⊎ IsTrue (z.trusted q) → IsTrue (z.members q) ⊎ IsTrue (z.trusted q)

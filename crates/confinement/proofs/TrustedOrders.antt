@@ -23,7 +23,7 @@ void_stays z = inl (inl tt)
 refused_stays : (z : Zone) (os : List Object) → Encloses z os → StaysWithin z os os × Stays z Void
 refused_stays z os h = still z os Void h (void_stays z)
 
--- accesses
+-- ---- accesses
 
 -- if a capability that stays inside gives write access to an object, the object is a member
 writes : (z : Zone) (o : ℕ) (a : Access) → ((a.0 ≡ 3) ⊎ IsTrue (z.members o)) ⊎ ⊥ → not (a.0 == 0) ≡ false → IsTrue (z.members o)
@@ -33,7 +33,7 @@ fetched_stays : (z : Zone) (o : ℕ) (a : Access) (c : Capability) → ((a.0 ≡
     (IsTrue (z.members o) → Stays z c) → Stays z (fetched a c)
 fetched_stays z o a c named held = grind (arith, nat_tests)
 
--- orders
+-- ---- orders
 
 page_stays : (z : Zone) (os : List Object) (o : ℕ) (a : Access) (requested : PageOrder) (args : Arguments) → Encloses z os
     → Stays z (Page o a) → OutcomeStays z os (on_page os o a requested args)

@@ -57,7 +57,7 @@ kept_inside g os age inside n new sound k = (
     alike : (c : Capability) → NamesItsKind os c → void_where k.0 c ≡ void_where goes c
     alike c kind = grind (arith, nat_tests)
 
--- the page that a store reaches
+-- ---- the page that a store reaches
 
 -- `found` is the page `next` that was reached from a slot, with the restrictions `a` added
 record IsBelow (a : Access) (rest : Result (ℕ × Access) MemoryFault) (found : ℕ × Access) : Type 0 where
@@ -113,7 +113,7 @@ writable_inside z os p address page h in_p e = cases (reached os p address) refl
     cases : (r : Result (ℕ × Access) MemoryFault) → reached os p address ≡ r → writable r ≡ Ok page → IsTrue (z.members page)
     cases r at e = grind (arith, nat_tests, full)
 
--- steps of the machine
+-- ---- steps of the machine
 
 -- a machine that is up with a sound world, and whose objects stayed within the set since they were `os`
 record IsWithin (g : Geometry) (z : Zone) (os : List Object) (s : Running) : Type 0 where
@@ -243,9 +243,9 @@ turns_keep g z os m (t ∷ ts) last by h run =
     turns_keep g z os t.after ts last (All-tail (IsTurnBy z.members) t ts by)
     (turn_keeps g z os t (All-head (IsTurnBy z.members) t ts by) (subst (λ m. MachineWithin g z os m) (sym run.0) h) run.1) run.2
 
--- closed sets, and the numbers that may receive messages
+-- ---- closed sets, and the numbers that may receive messages
 
--- all numbers may receive messages; all but one may
+-- the set with its trusted processes; messages may be received anywhere
 abbrev anywhere : (ℕ → Bool) → (ℕ → Bool) → Zone
 anywhere trusted inside = record { members = inside; trusted = trusted; ports = λ m. true }
 
@@ -330,7 +330,7 @@ run_sound g trusted inside s t turns sound closed run by =
     (run_within g (anywhere trusted all) s t turns sound
     (encloses_anywhere os trusted all (with_free_closed os trusted inside closed) (has_free os inside)) run by).sound
 
--- removing the free numbers from the set again
+-- ---- removing the free numbers from the set again
 
 live_stays : (os : List Object) (trusted inside : ℕ → Bool) (c : Capability) → NamesItsKind os c → StaysBut trusted inside c
     → StaysBut trusted (λ n. inside n && not (is_free (content_at os n))) c
@@ -359,7 +359,7 @@ live_closed g w trusted inside sound h =
       spaces = λ p is. live_stays os trusted inside (root_at os p).space (sound.spaces p).0.1 (h.spaces p (live_member os inside p is));
     }
 
--- stretches of a run
+-- ---- stretches of a run
 
 -- the turns of a stretch are by members; or others leave the world sound and the set closed
 abbrev IsAllowed : Geometry → (ℕ → Bool) → (ℕ → Bool) → Running → Stretch → Bool → Type 0

@@ -15,7 +15,7 @@ IsOf d (OfAnnex p) = Contains d.processes.items p
 IsOf d (OfNode n) = Contains d.nodes.items n
 IsOf d (OfPage p) = Contains d.pages.items p
 
--- the parts of a description, as entries
+-- the banks of a description, as entries
 abbrev banks_of : Description → List Entry
 banks_of d = map OfBank d.banks.items
 
@@ -80,7 +80,7 @@ HasRange g (OfAnnex p) = p.annex < g.nodes
 HasRange g (OfNode n) = n.number < g.nodes
 HasRange g (OfPage p) = (g.nodes ≤ p.number) × (p.number < object_count g)
 
--- the numbers of each kind
+-- the numbers of the banks
 abbrev bank_numbers : Description → List ℕ
 bank_numbers d = map (λ b. b.number) d.banks.items
 

@@ -18,7 +18,7 @@ pub not_known : (keys : List (List ℕ)) (ms : Members) (key : List ℕ) → fir
 not_known keys no_members key is known = none-some key is
 not_known keys (member k d ms) key is known = grind (arith, nat_tests, not_known keys ms key)
 
--- Items.
+-- ---- items
 
 module _ (Good So : Data → Type 0) where
   pub first_as : (Better Other : Data → Type 0) → ((d : Data) → Good d → Better d) → ((d : Data) → So d → Other d) → (i : ℕ) (ds : Items) →
@@ -37,7 +37,7 @@ module _ (Good So : Data → Type 0) where
   first_item P good (w ∷ ws) (suc i) (x ∷ xs) v within at are so =
       (good (view w) x are.0, first_item P good ws i xs v (omega arith) at are.1 so)
 
--- Errors that are passed on.
+-- ---- errors that are passed on
 
 turned : (At Other : ShapePlace → Type 0) (e : Misread) → ((p : ShapePlace) → At p → Other p) → Misses At e → Misses Other e
 turned At Other (misread.Misshapen p) turn misses = turn p misses

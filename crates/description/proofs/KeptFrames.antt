@@ -12,7 +12,7 @@ use Rattle.description.proofs.Entries.{IsFrameOf, IsOf, entries_distinct, entrie
 use Rattle.description.proofs.LaidFrames.{laid_both}
 use Rattle.description.proofs.Lists.{all_from, contains_either, each_at, each_holds, each_of, each_other, first_map, length_each, map_contains, same_at}
 
--- Slots and words.
+-- ---- slots and words
 
 abbrev void_slots : List Cap
 void_slots = replicate 32 void_held
@@ -53,7 +53,7 @@ first_void es are = each_other (λ s. s.index) slot_held es _ 0 _ (λ h. let fou
     omega (arith, place.0, found.2))
     ∙ same_at 32 0 _
 
--- Capabilities.
+-- ---- capabilities
 
 node_fits : (g : Geometry) (n : ℕ) → IsGeometry g → n < g.nodes → n < 2 ^ 64
 node_fits g n is lt = omega (arith, lt, is.most_nodes)
@@ -84,7 +84,7 @@ slots_kept g first es is are targets = record {
       (λ k d lt. slot_kept g (slice_index_or es k d).capability is (are.held k d lt) (targets k d lt));
 }
 
--- The frame of an object.
+-- ---- the frame of an object
 
 kept_entry : (d : Description) (e : Entry) → IsGeometry d.geometry → HasNumbers d → HasFields d → AllHave (IsTarget d.geometry) d →
     IsOf d e → Fits e → IsKept d.geometry 0 (frame_of e)
@@ -167,7 +167,7 @@ is_frame d (OfPage p) fields of = (
   refl,
 )
 
--- All frames.
+-- ---- all frames
 
 abbrev pub blanks : Description → List Frame
 blanks d = replicate (object_count d.geometry) blank_frame
@@ -226,7 +226,7 @@ laid_keepable d is numbers fields targets fits = record {
   ];
 }
 
--- the worlds after each part
+-- ---- the worlds after each part
 
 pub all_within : {E : Type 0} → (d : Description) (entry : E → Entry) (es xs : List E) (n : ℕ) → HasNumbers d →
     ((e : E) → Contains es e → IsOf d (entry e)) → xs ≡ es → n ≡ object_count d.geometry → All (λ e. number_of (entry e) < n) xs

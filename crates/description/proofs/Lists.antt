@@ -143,7 +143,7 @@ pub each_wrote : {E V : Type 0} → (index : E → ℕ) (value : E → V) (es : 
 each_wrote index value es now next all i d v lt made is was =
     ap (set_each index value (drop (i + 1) es)) (made ∙ ap (slice_set now (index (slice_index_or es i d))) is) ∙ (search (arith, drop_more))
 
--- in the end the value of each entry is at its index
+-- after all writes, the value at each entry's index is the entry's
 pub each_of : {E V : Type 0} → (index : E → ℕ) (value : E → V) (es : List E) (xs : List V) (e : E) (d : V) → AreDistinct (map index es)
     → All (λ f. index f < length xs) es → Contains es e → slice_index_or (set_each index value es xs) (index e) d ≡ value e
 each_of index value es xs e d distinct within there = each_at index value es xs _ d distinct within

@@ -109,7 +109,7 @@ lacks_refuted P d (held.Slot k i) all lacks =
     (λ n have there. all_refuted (λ (s : SlotEntry). IfNamed P s.capability) (λ s. s.capability ≡ Some lacks.0) n.slots.items i there
     (λ s held is. lacks.2 (of_some P _ _ is held)) have) all.nodes
 
--- the first capability that lacks a property
+-- ---- the first capability that lacks a property
 
 some_turned : {A : Type 0} (P Q : A → Type 0) → ((x : A) → P x → Q x) → (o : Option A) → IsSomeAnd o P → IsSomeAnd o Q
 some_turned P Q turn None is = is

@@ -43,7 +43,7 @@ no_calls d fs n numbers is = sym (ap (λ (h : ObjectHeader). h.calls) (header_in
 pub never_raised : (d : Description) (fs : List Frame) (c : Capability) → HasNumbers d → IsDescribed d fs → 0 ≡ current_count (headers fs) c
 never_raised d fs c numbers is = grind (arith, nat_tests, no_allocations, no_calls)
 
--- the ranges of numbers for each kind
+-- ---- the ranges of numbers for each kind
 
 of_node : (g : Geometry) (n : ℕ) (c : Content Cap) → IsOfKind g n c → role_of c ≢ role.Free → role_of c ≢ role.Page → n < g.nodes
 of_node g n c kind some other = search arith

@@ -48,7 +48,7 @@ annex_is d fs a is annex = elim (described_cases d fs a is) [
   | inr blank ↦ let other : role.Free ≡ role.Annex = sym (ap role_in blank) ∙ annex in absurd cc
 ]
 
--- the root and the annex of a process have frames that name each other
+-- the annex of a described process is an annex for its root
 has_annex : (d : Description) (fs : List Frame) (q : ProcessEntry) (p a : ℕ) → IsDescribed d fs → IsProcess d q p a → IsAnnexFor fs p a
 has_annex d fs q p a is q_is =
     let root = described_of d fs (OfRoot q) is q_is.of in

@@ -20,7 +20,7 @@ use Rattle.description.specs.declared.flaw.Named.TheVariants as named
 use Rattle.description.specs.declared.flaw.WorldFault.{WorldFault}
 use Rattle.description.specs.declared.flaw.WorldFault.TheVariants as fault
 
--- Sizes.
+-- ---- sizes
 
 -- how many numbers these ranges have
 abbrev pub count_in : List NumberRange → ℕ
@@ -81,7 +81,7 @@ BreaksLimit d l = IsGeometry d.geometry × (d.age ≤ 2 ^ 62)
     × ((v : Version) × (d.layout ≡ version_number v) × IsOpened v)
     × BreaksRanges d.geometry d.ranges.items l
 
--- Numbers.
+-- ---- numbers
 
 -- the number of an object, if the description has this object
 abbrev pub number_at : Description → Named → Option ℕ
@@ -122,7 +122,7 @@ BreaksNumber d (misnumbered.Twice who other) = IsListed d who × IsListed d othe
     × All (λ n. (d.geometry.nodes ≤ n) × (n < object_count d.geometry)) (page_numbers d)
     × IsFirstTwice (node_numbers d ++ page_numbers d) (place_of d who) (place_of d other)
 
--- Capabilities.
+-- ---- capabilities
 
 -- the process or node at this place holds capability c
 abbrev pub HoldsAt : Description → Held → Capability → Type 0
@@ -198,7 +198,7 @@ OneOfProcess P k p _ = ⊥
 abbrev pub OneLacks : (Capability → Type 0) → Description → Held → Type 0
 OneLacks P d at = (c : Capability) × HoldsAt d at c × (P c → ⊥)
 
--- Worlds.
+-- ---- worlds
 
 -- the first broken rule, with its first place, among the rules that a description must keep to name frames
 abbrev pub BreaksWorld : Description → WorldFault → Type 0

@@ -13,7 +13,7 @@ use Rattle.description.specs.declared.entry.WordEntry.{WordEntry}
 use Rattle.model.specs.declared.object.Content.TheVariants as content
 use Rattle.description.specs.declared.fault.BuildFault.TheVariants as fault
 
--- The numbers that are named.
+-- ---- the numbers that are named
 
 -- no number occurs twice
 abbrev pub AreDistinct : List ℕ → Type 0
@@ -36,7 +36,7 @@ pub record HasNumbers (d : Description) : Type 0 where
   pub pages : All (λ n. (d.geometry.nodes ≤ n) × (n < object_count d.geometry)) (page_numbers d)
   pub distinct : AreDistinct (node_numbers d ++ page_numbers d)
 
--- The fields.
+-- ---- the fields
 
 -- the text is that of a capability within its bounds
 abbrev pub IsSomeCapability : Option Capability → Type 0
@@ -72,7 +72,7 @@ pub record HasFields (d : Description) : Type 0 where
   pub nodes : All (λ n. AreSlots 0 n.slots.items) d.nodes.items
   pub pages : All (λ p. AreWords p.words.items) d.pages.items
 
--- The frames.
+-- ---- the frames
 
 -- the value of the first entry with index i, or `nothing` if there is none
 abbrev pub first_named : {E V : Type 0} → (E → ℕ) → (E → V) → V → List E → ℕ → V
@@ -133,7 +133,7 @@ pub record IsDescribed (d : Description) (frames : List Frame) : Type 0 where
   pub pages : All (λ p. IsDescribedPage p (frame_at frames p.number)) d.pages.items
   pub others : (n : ℕ) → (Contains (node_numbers d ++ page_numbers d) n → ⊥) → frame_at frames n ≡ blank_frame
 
--- The faults.
+-- ---- the faults
 
 -- why a description names no frames: a number, else a field, else a capability that can't name an object of its
 -- kind; or memory ran out

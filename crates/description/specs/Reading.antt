@@ -14,7 +14,7 @@ use Rattle.description.specs.declared.entry.SlotEntry.{SlotEntry}
 use Rattle.description.specs.declared.entry.WordEntry.{WordEntry}
 use Rattle.description.specs.declared.object.ProcessFields.{ProcessFields}
 
--- Values
+-- ---- values
 
 -- the value is the text of this capability, whose numbers have 64 bits; or, for `None`, a text that names no
 -- capability
@@ -59,7 +59,7 @@ AreFour d xs = (length xs ≡ 4) × IsList IsWideNumber d xs
 abbrev pub IsTable : {A : Type 0} → (Members → A → Type 0) → Data → A → Type 0
 IsTable P d x = (ms : Members) × (d ≡ table ms) × P ms x
 
--- Keys
+-- ---- keys
 
 -- whether a table has no keys but these
 abbrev pub has_only : List (List ℕ) → Members → Bool
@@ -83,7 +83,7 @@ AtOr default key P ms x = MatchOption (get_member key ms) (x ≡ default) (λ d.
 abbrev pub HasList : {A : Type 0} → (Data → A → Type 0) → List ℕ → Members → Type 0
 HasList {A = A} P key ms = (xs : List A) × AtOr [] key (IsList P) ms xs
 
--- Entries
+-- ---- entries
 
 abbrev pub IsSlot : Data → SlotEntry → Type 0
 IsSlot d e = IsPair IsNumber IsCapability d e.index e.capability

@@ -114,7 +114,7 @@ is_list NodeSlots = true
 is_list PageWords = true
 is_list _ = false
 
--- The first flaw.
+-- ---- the first flaw
 
 -- the first key of a table that isn't one of these
 abbrev pub first_unknown : List (List ℕ) → Members → Option (List ℕ)

@@ -31,7 +31,7 @@ pub both : (xs ys : List ℕ) → breaks xs ≡ false → breaks ys ≡ false �
 both [] ys one other = other
 both (x ∷ xs) ys one other = grind (arith, nat_tests, both xs ys)
 
--- Numbers.
+-- ---- numbers
 
 glyph_line : (d : ℕ) (acc : List ℕ) → breaks acc ≡ false → breaks (digit_glyph false d ∷ acc) ≡ false
 glyph_line d acc none = grind (arith, nat_tests)
@@ -47,7 +47,7 @@ digits_line base n = glyphs_line 64 base n [] refl
 pub decimal_line : (n : ℕ) → breaks (decimal n) ≡ false
 decimal_line n = digits_line 10 n
 
--- Texts in quotes.
+-- ---- texts in quotes
 
 letter_line : (c : ℕ) → breaks (debug_escape_letter c 34 ∷ []) ≡ false
 letter_line c = grind (arith, nat_tests)
@@ -81,7 +81,7 @@ quoted_line key shown broken is other = go (debug_str key) refl is
 pub quotes_line : IsOneLine (codes "\"\"")
 quotes_line = one_line (codes "\"\"") refl
 
--- Places.
+-- ---- places
 
 item_line : (list : List ℕ) (i : ℕ) (after : List ℕ) → breaks list ≡ false → breaks after ≡ false → breaks (item_text list i after) ≡ false
 item_line list i after one other =

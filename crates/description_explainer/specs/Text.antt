@@ -24,7 +24,7 @@ use Rattle.description_explainer.specs.declared.place.Rule.{Rule}
 use Rattle.description_explainer.specs.declared.place.Rule.TheVariants as rule
 use Rattle.description_explainer.specs.Places.{fault_of}
 
--- Shapes.
+-- ---- shapes
 
 -- an item of a list, then this text: `bank[0], limit`
 abbrev pub item_text : List ℕ → ℕ → List ℕ → List ℕ
@@ -50,7 +50,7 @@ IsFlawText (flaw.Item key i) text = text ≡ item_text (key_name key) i []
 abbrev pub IsShapeText : ShapePlace → List ℕ → Type 0
 IsShapeText s text = (at : List ℕ) × IsFlawText s.flaw at × (text ≡ table_text s.table ++ at)
 
--- Sizes and numbers.
+-- ---- sizes and numbers
 
 abbrev pub limit_text : Limit → List ℕ
 limit_text limit.Nodes = codes "nodes"
@@ -75,7 +75,7 @@ abbrev pub misnumbered_text : Misnumbered → List ℕ
 misnumbered_text (misnumbered.OutOfRange who) = named_text who
 misnumbered_text (misnumbered.Twice who other) = named_text other
 
--- Objects.
+-- ---- objects
 
 -- the number of an object, or 0 if it isn't listed
 abbrev pub listed_number : Description → Named → ℕ
@@ -105,7 +105,7 @@ object_text d n =
     if list_any (λ b. b.number == n) d.banks.items then codes "bank " ++ decimal n
     else part_text d n (position (λ p. p.root == n || p.annex == n) d.processes.items)
 
--- Fields, capabilities and owners.
+-- ---- fields, capabilities and owners
 
 -- the index of the wrong entry; of two entries with the same index, that of the second
 abbrev pub indexed_entry : Indexed → ℕ
@@ -143,7 +143,7 @@ owner_text d (unbanked.Owner n owner) = object_text d n ++ codes ", owner"
 owner_text d (unbanked.Chain bank) = codes "bank " ++ decimal bank ++ codes ", owner"
 owner_text d (unbanked.Limit bank used most) = codes "bank " ++ decimal bank ++ codes ", limit"
 
--- Explanations.
+-- ---- explanations
 
 abbrev pub rule_text : Description → Rule → List ℕ
 rule_text d (rule.Limit l) = limit_text l

@@ -124,7 +124,7 @@ module _ (g : Geometry) (w : World) (sound : IsSound g w) where
     page_reported : (p : PageEntry) → Contains d.pages.items p → TellsPage w.objects p
     page_reported p there = All-contains (TellsPage w.objects) d.pages.items p pages.each there
 
-    -- The lists of numbers.
+    -- the numbers of the described banks
     bank_numbers : List ℕ
     bank_numbers = map (λ b. b.number) d.banks.items
 
@@ -244,7 +244,7 @@ module _ (g : Geometry) (w : World) (sound : IsSound g w) where
       distinct = numbers_distinct;
     }
 
-    -- The fields.
+    -- each address space is valid, and so are the other fields
     space_reported : (p : ProcessEntry) → Contains d.processes.items p → IsSpaceEntry p.space
     space_reported p there =
         let root = (process_reported p there).0 in
@@ -277,7 +277,7 @@ module _ (g : Geometry) (w : World) (sound : IsSound g w) where
           words_are _ _ page.1 (shape_reported _ _ _ page.2));
     }
 
-    -- The frames.
+    -- a number in one of the four lists is a node number of the description
     in_nodes : (n : ℕ) → (Contains bank_numbers n) ⊎ (Contains root_numbers n) ⊎ (Contains annex_numbers n) ⊎ (Contains plain_numbers n) →
         Contains (node_numbers d) n
     unfolding bank_numbers root_numbers annex_numbers plain_numbers

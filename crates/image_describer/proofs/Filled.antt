@@ -86,7 +86,7 @@ pub no_sections : (path : List (List ℕ)) (ps : List Pair) → ArePairs ps → 
 no_sections path [] pairs = refl
 no_sections path (p ∷ ps) pairs = no_section_at path p.0 p.1 (keyed ps) pairs.0 (no_sections path ps pairs.1)
 
--- Tables of one list.
+-- a list of tables, made from items
 abbrev pub tables : {A : Type 0} → (A → List Pair) → List A → Items
 tables f [] = no_items
 tables f (x ∷ xs) = item (table (keyed (f x))) (tables f xs)
@@ -168,7 +168,7 @@ module _ {A : Type 0} (f : A → List Pair) (P : Members → A → Type 0) where
         (push_item all (table (close end)), refl, items),
       )
 
--- Reading the lines of all lists, one after the other.
+-- if the reader's result has these nodes, the reader ended in some state with them
 from_roots : (o : Option Document) (n : Nodes) → roots o ≡ Some n → (s : List (List ℕ)) × (o ≡ Some (n, s))
 from_roots None n is = absurd (none-some n is)
 from_roots (Some doc) n is = (doc.1, ap (λ (m : Nodes). let x : Option Document = Some (m, doc.1) in x) (same_Some doc.0 n is))

@@ -15,7 +15,7 @@ use Rattle.image_describer.proofs.GrownWorld.{page_arrives}
 use Rattle.image_describer.proofs.Moved.{brief_moved, holds_moved, moved_cap, moved_frame, node_stays, page_moves, slots_moved, space_entry_moved}
 use Rattle.image_describer.proofs.Rising.{distinct_both, distinct_other}
 
--- Entries
+-- ---- entries
 
 module _ (at : ℕ → ℕ) where
   root_is : (p q : ProcessEntry) → IsMovedProcess at p q → (state : State) (c : Capability)
@@ -62,7 +62,7 @@ module _ (at : ℕ → ℕ) where
   pub page_fields : (p q : PageEntry) → IsMovedPage at p q → AreWords p.words.items → AreWords q.words.items
   page_fields p q same is = subst (λ (v : Vec WordEntry Global). AreWords v.items) (sym same.words) is
 
--- Descriptions
+-- ---- descriptions
 
 plain_length : (os : List Object) → length (plain_frames os) ≡ length os
 unfolding plain_frames
@@ -78,7 +78,7 @@ module _ (d e : Description) (same : IsRenumbered d e) where
   abbrev at : ℕ → ℕ
   at = moved old new
 
-  -- the numbers
+  -- the renumbered description has the old node numbers
   pub nodes_named : node_numbers e ≡ node_numbers d
   nodes_named =
       rw (
@@ -141,7 +141,7 @@ module _ (d e : Description) (same : IsRenumbered d e) where
       All-contains,
     )
 
-    -- the frames
+    -- the parameters: the objects of the described world
     module _ (os : List Object) (count : length os ≡ object_count old) (is : IsDescribed d (plain_frames os)) where
       abbrev vs : List Object
       vs = grown_objects old new os count

@@ -9,7 +9,7 @@ use Rattle.model.specs.declared.object.Content.TheVariants as content
 use Rattle.model.specs.declared.object.Role.TheVariants as role
 use Rattle.description.specs.declared.sizes.GrowthFault.TheVariants as fault
 
--- the content of an object in use isn't free
+-- a content whose role isn't `Free` isn't free
 role_not_free : {C : Type 0} (c : Content C) → role_of c ≢ role.Free → is_free c ≡ false
 role_not_free content.Free other = absurd (other refl)
 role_not_free one other = refl

@@ -23,7 +23,7 @@ grown_is_described w d e sound describes same nodes pages =
       },
     )
 
--- In an image of the same sizes
+-- ---- in an image of the same sizes
 
 module _ (at : ℕ → ℕ) (stays : (n : ℕ) → at n ≡ n) where
   capability_stays : (c : Capability) → moved_capability at c ≡ c

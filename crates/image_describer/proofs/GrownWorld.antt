@@ -46,7 +46,7 @@ module _ (old new : Geometry) where
     pub arrived : (n : ℕ) → Arrives n → object_at grown_objects (moved old new n) ≡ moved_object (moved old new) (object_at os n)
     arrived n is = grown_inside (moved old new n) is.0 ∙ ap (λ (k : ℕ). moved_object (moved old new) (object_at os k)) is.1
 
-    -- the same, for its frame
+    -- the frame of the object with old number n, at its new number
     pub frame_arrived : (n : ℕ) → Arrives n → frame_at (plain_frames grown_objects) (moved old new n) ≡ moved_frame (moved old new)
         (frame_at (plain_frames os) n)
     frame_arrived n is = plain_at _ _ ∙ ap (λ (o : Object). plain_frame o) (arrived n is) ∙ plain_moved (moved old new) _

@@ -35,7 +35,7 @@ one_line no_items = refl
 one_line (item d no_items) = refl
 one_line (item d (item e ds)) = refl
 
--- lists of such values
+-- a list of values, made from items
 abbrev pub items : {A : Type 0} → (A → Data) → List A → Items
 items g [] = no_items
 items g (x ∷ xs) = item (g x) (items g xs)

@@ -63,7 +63,7 @@ module _ {E V : Type 0} (index : E → ℕ) (value : E → V) (default : V) wher
         es names.below)));
   }
 
-  -- the next item has an entry, or needs none
+  -- if the next item has its entry, or needs none, the entries extend to it
   pub names_next : (xs : List V) (i : ℕ) (es next : List E) (o : Option E) (x : V) → NamesBefore xs i es → i < length xs →
       x ≡ slice_index_or xs i default → MayName index value default i x o
       → next ≡ es ++ option_to_list o → NamesBefore xs (i + 1) next

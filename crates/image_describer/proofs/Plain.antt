@@ -22,7 +22,7 @@ no_calls os n = ap (λ (h : ObjectHeader). h.calls) (header_plain os n)
 no_count : (os : List Object) (c : Capability) → current_count (headers (plain_frames os)) c ≡ 0
 no_count os c = grind (arith, nat_tests, no_allocations, no_calls)
 
--- so no capability is stale
+-- each capability of plain frames conveys itself: none is stale
 conveyed_plain : (os : List Object) (c : Capability) → conveyed (headers (plain_frames os)) (fresh_cap c) ≡ c
 conveyed_plain os c = ap (λ (n : ℕ). if nat_lt 0 n then Void else c) (no_count os c)
 
@@ -112,7 +112,7 @@ sound_plain g age fs sound = record {
   sound = rw (objects_plain _) sound.sound;
 }
 
--- The laws.
+-- The laws of descriptions of worlds.
 pub described_is_same : DescribedIsSame
 described_is_same g age fs gs d sound describes is =
     let same : plain_frames (objects_of fs) ≡ gs = described_once d (plain_frames (objects_of fs)) gs describes.frames is in (

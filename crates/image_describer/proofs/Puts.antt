@@ -43,7 +43,7 @@ none_mapped (Some x) is = absurd cc
 pub no_node : (k : List ℕ) (ns : Nodes) → get_member k (close ns) ≡ None → get_node k ns ≡ None
 no_node k ns none = none_mapped (get_node k ns) (sym (member_of k ns) ∙ none)
 
--- the search for another key goes on
+-- if the keys differ, the search goes on to the next one
 skipped : (o : Ordering) (x y : Option Data) → is_eq o ≡ false → match_ordering o y x y ≡ y
 skipped Equal x y other = absurd cc
 skipped o x y other = refl

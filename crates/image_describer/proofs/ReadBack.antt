@@ -69,7 +69,7 @@ page_is : (p : PageEntry) → page_text p ≡ codes "\n[[" ++ codes "page" ++ co
 page_is p = refl
 
 module _ (d : Description) (fields : HasFields d) (may : CanBeSpelled d) where
-  -- the lines of each part of a description
+  -- the lines of the whole image's keys
   abbrev top_lines : List Expression
   top_lines = pairs (keyed (image_pairs d))
 
@@ -108,7 +108,7 @@ module _ (d : Description) (fields : HasFields d) (may : CanBeSpelled d) where
   pages_may : ByRecursion SpellsPage d.pages.items
   pages_may = recursion_from_All SpellsPage d.pages.items may.pages
 
-  -- the keys need no quotes
+  -- the key `bank` needs no quotes
   bare_bank : key_text (codes "bank") ≡ codes "bank"
   bare_bank = bare (codes "bank") refl
 

@@ -108,7 +108,7 @@ module _ (p : Plan) (plan : IsPlan p) (age : ℕ) (fs : List Frame) (d : Descrip
         (sound.sound.kinds (owner_at os n)) in
         subst IsShort owner_is (omega (arith, few, plan.geometry.most_nodes))
 
-  -- the numbers of objects
+  -- each node number is below the number of nodes
   node_named : (n : ℕ) → Contains (node_numbers d) n → n < g.nodes
   node_named n there = rw (← describes.geometry) (All-contains (λ (k : ℕ). k < d.geometry.nodes) (node_numbers d) n describes.numbers.nodes
       there)
@@ -146,7 +146,7 @@ module _ (p : Plan) (plan : IsPlan p) (age : ℕ) (fs : List Frame) (d : Descrip
       (All-contains (λ (k : ℕ). (d.geometry.nodes ≤ k) × (k < object_count d.geometry)) _ _ describes.numbers.pages
       (contains_map (λ p. p.number) q _ there)).1
 
-  -- the objects
+  -- every number of a bank is small enough
   banks_short : All SpellsBank d.banks.items
   banks_short = all_from SpellsBank d.banks.items (λ b there.
       let is = All-contains (λ (c : BankEntry). frame_at (plain_frames os) c.number ≡ first_frame c.owner (content.Bank c.limit))

@@ -39,7 +39,7 @@ module _ {E : Type 0} (number : E → ℕ) (Tells : E → Type 0) (kind : Role) 
         (All-weaker (λ f. number f < count) (λ f. number f < number e) (λ f under. omega (arith, under, at)) es tell.below)));
   }
 
-  -- the next number has an entry, or needs none
+  -- if the next number has its entry, or needs none, the entries extend to it
   pub tell_next : (count : ℕ) (es next : List E) (o : Option E) → TellBelow count es → MayTell number Tells kind os count o →
       next ≡ es ++ option_to_list o → TellBelow (count + 1) next
   tell_next count es next None tell may made = subst (TellBelow (count + 1)) (sym (made ∙ append-nil es)) (tell_less count es tell may)

@@ -39,7 +39,7 @@ abbrev pub TellsAnnex : List Object → ProcessEntry → Type 0
 TellsAnnex os p = (registers : List Capability) × NamesSlots registers p.registers.items
     × (object_at os p.annex ≡ record { owner = p.owner; content = content.Annex registers })
 
--- the entry of a process describes both
+-- the entry describes a process: its root and its annex
 abbrev pub TellsProcess : List Object → ProcessEntry → Type 0
 TellsProcess os p = TellsRoot os p × TellsAnnex os p
 

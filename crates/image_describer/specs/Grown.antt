@@ -54,7 +54,7 @@ IsUnsuited old new w fault.Nodes = IsGeometry new × (NodesFit old new w → ⊥
 IsUnsuited old new w fault.Pages = IsGeometry new × NodesFit old new w × (PagesFit old new w → ⊥)
 IsUnsuited old new w fault.NoMemory = Unit {0}
 
--- The same for a description.
+-- ---- the same for a description
 
 -- if the numbers of nodes and pages stay, the home ranges stay; else there is one of all nodes and one of all pages
 abbrev pub grown_ranges : Geometry → Geometry → List NumberRange → List NumberRange

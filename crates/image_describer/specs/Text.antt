@@ -5,7 +5,7 @@ use Rattle.image_describer.specs.Names.{State, capability_text, line_of, state_t
 use Rattle.image_describer.specs.Names.{PageEntry, ProcessEntry, SlotEntry, WordEntry}
 use Rattle.std.specs.Prelude.{◌^◌, ◌==◌, ◌&&◌, if◌then◌else◌, ◌∷◌, ◌++◌}
 
--- Values
+-- ---- values
 
 -- a text in quotes
 abbrev pub quoted : List ℕ → List ℕ
@@ -42,7 +42,7 @@ word_text w = pair_text (decimal w.index) (wide_text w.word)
 abbrev pub range_text : NumberRange → List ℕ
 range_text r = pair_text (decimal r.first) (decimal r.count)
 
--- Keys
+-- ---- keys
 
 -- a key and the text of its value, if it isn't omitted
 abbrev pub Field : Type 0
@@ -88,7 +88,7 @@ abbrev pub are_whole : Geometry → List NumberRange → Bool
 are_whole g (n ∷ p ∷ []) = is_range n 0 g.nodes && is_range p g.nodes g.pages
 are_whole g _ = false
 
--- Objects
+-- ---- objects
 
 abbrev pub bank_fields : BankEntry → List Field
 bank_fields b = (codes "number", Some (decimal b.number)) ∷ (codes "owner", Some (decimal b.owner)) ∷
@@ -123,7 +123,7 @@ node_text n = begin_line (codes "node") ++ field_lines (node_fields n)
 abbrev pub page_text : PageEntry → List ℕ
 page_text p = begin_line (codes "page") ++ field_lines (page_fields p)
 
--- The whole
+-- ---- the whole
 
 abbrev pub image_fields : Description → List Field
 image_fields d =

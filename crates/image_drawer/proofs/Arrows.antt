@@ -15,7 +15,7 @@ not_both : (b : Bool) → IsTrue b → b ≡ false → ⊥
 not_both true is wrong = let never : true ≡ false = wrong in cc
 not_both false is wrong = let never : false ≡ true = is in cc
 
--- if a capability has an arrow, it names the arrow's target
+-- an arrow of a capability ends at the object that the capability names
 in_arrow_to : (holder : ℕ) (at : Place) (c : Capability) (o : Option ℕ) (a : Arrow) → Contains (arrow_to holder at c o) a
     → (target : ℕ) × (o ≡ Some target) × (record { holder = holder; place = at; capability = c; target = target } ≡ a)
 in_arrow_to holder at c o a h = grind (arith, nat_tests, contains_none, contains_cases)

@@ -11,7 +11,7 @@ use Rattle.image_drawer.proofs.Once.{contains_flat, flat_contains, once_append, 
 use Rattle.image_drawer.proofs.Texts.{flat_map-four}
 use Rattle.image_drawer.proofs.Reported.{annex_reported, bank_reported, free_reported, node_reported, page_reported, root_reported}
 
--- the objects with a box, each after its owner
+-- the banks, each in a pair with its owner
 abbrev bank_parts : Description → List (ℕ × ℕ)
 bank_parts d = map (λ b. (b.owner, b.number)) d.banks.items
 

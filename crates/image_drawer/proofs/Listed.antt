@@ -59,7 +59,7 @@ module _ (d : Description) (numbers : HasNumbers d) where
   pub object_below : (o : ℕ) → is_listed o (boxes d) ≡ true → Below o
   object_below o drawn = All-contains Below (boxes d) o boxes_below (listed_contains o (boxes d) drawn)
 
--- joining an empty list changes nothing
+-- or with `false` changes nothing
 or_none : (a : Bool) → a ≡ (a || false)
 or_none true = refl
 or_none false = refl

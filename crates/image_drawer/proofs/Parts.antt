@@ -7,7 +7,7 @@ use Rattle.std.proofs.Common.{◌≡◌, if◌then◌else◌, ◌∷◌, ◌++�
 use Rattle.std.specs.Prelude.{◌==◌, ◌&&◌}
 use Rattle.image_drawer.specs.declared.arrow.Place.TheVariants as place
 
--- Lists
+-- ---- lists
 
 kept_one : {X Y : Type 0} (t : X → Bool) (g : X → List Y) (x : X) (xs : List X) (b : Bool) → t x ≡ b →
     flat_map g (filter t (x ∷ xs)) ≡ (if b then g x else []) ++ flat_map g (filter t xs)
@@ -37,7 +37,7 @@ zip_flat R f g on (x ∷ xs) [] zip = absurd zip
 zip_flat {Y = Y} R f g on (x ∷ xs) (y ∷ ys) zip = grind (arith, nat_tests, zip_flat R f g on xs ys zip.1)
 
 module _ (inside : ℕ → Bool) where
-  -- Arrows
+  -- ---- arrows
 
   abbrev ends : Arrow → Bool
   ends a = inside a.target
@@ -112,7 +112,7 @@ module _ (inside : ℕ → Bool) where
       (named (unwrap_or p.space Void)))
       ∙ slots_both p.root false is place.Register p.registers.items
 
-  -- Owners
+  -- ---- owners
 
   owner_either : (o n : ℕ) (b c : Bool) → inside n ≡ c → filter (λ (p : ℕ × ℕ). inside p.1) (if b then [] else (o, n) ∷ []) ≡
       (if c then if b then [] else (o, n) ∷ [] else [])

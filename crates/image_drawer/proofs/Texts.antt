@@ -66,7 +66,7 @@ module _ (A B C D whole : List ℕ) (is : whole ≡ ((A ++ B) ++ C) ++ D) (a b :
   fourth_written c d f r one two three w = writes_same a f r _ whole (sym is)
       (writes_after a d f r _ D (wrote_trans a c d _ C (wrote_trans a b c A B one two) three) w)
 
--- writing two texts, or three, one after the other writes both, or all
+-- two texts that are written one after the other are written as one; so are three
 pub two_written : (a b c : Written) (r : Result (Unit {0}) RunFault) (A B whole : List ℕ) → whole ≡ A ++ B → Wrote a b A → Writes b c r B →
     Writes a c r whole
 two_written a b c r A B whole is one w = writes_same a c r (A ++ B) whole (sym is) (writes_after a b c r A B one w)
@@ -82,7 +82,7 @@ flat_map-four {A} {B} f ps qs rs ss =
     ∙ ap (λ (l : List B). l ++ flat_map f ss) (flat_map-append f (ps ++ qs) rs)
     ∙ ap (λ (l : List B). (l ++ flat_map f rs) ++ flat_map f ss) (flat_map-append f ps qs)
 
--- Lines, written as the code appends their parts.
+-- the line of an arrow, assembled as the code does it
 pub arrow_put : (holder target : ℕ) (place kind style : List ℕ)
     → (((((((decimal holder ++ 32 ∷ codes "->") ++ 32 ∷ decimal target) ++ 32 ∷ codes "[label=\"") ++ place) ++ kind) ++ codes "\"") ++
     style) ++ codes "]"

@@ -8,7 +8,7 @@ use Rattle.image_drawer.specs.declared.arrow.Arrow.{Arrow}
 use Rattle.image_drawer.specs.declared.arrow.Place.{Place}
 use Rattle.image_drawer.specs.declared.arrow.Place.TheVariants as place
 
--- The parts of the graph.
+-- ---- the parts of the graph
 
 -- the numbers of all boxes: banks, roots of processes, nodes and pages
 abbrev pub boxes : Description → List ℕ
@@ -55,7 +55,7 @@ node_arrows n = arrows_at n.number place.Slot n.slots.items
 abbrev pub arrows : Description → List Arrow
 arrows d = flat_map process_arrows d.processes.items ++ flat_map node_arrows d.nodes.items
 
--- The text of the graph.
+-- ---- the text of the graph
 
 -- a further line in a box: in DOT it begins with `\n`
 abbrev pub next_line : List ℕ → List ℕ

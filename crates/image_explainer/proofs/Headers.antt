@@ -44,6 +44,6 @@ pub header_fits : (log : ℕ) (a b c d : List ℕ) (r : ControlFlow SectorFault 
     → MatchControlFlow r (HasHeaderIn log a b c d) (HasNoneIn log a b c d) → MatchControlFlow r (IsHeader log) (λ _. ⊤)
 header_fits log a b c d r is = grind (arith, nat_tests)
 
--- if nothing was found, what holds in that case holds
+-- if A holds when nothing is found, and nothing was found, A holds
 pub if_none : {T : Type 0} (A : Type 0) (found : Option T) → found ≡ None → IfNone found A → A
 if_none A found is so = subst (λ (o : Option _). IfNone o A) is so

@@ -51,7 +51,7 @@ keepable size c saved holds = grind (arith, nat_tests)
 pub within_age : (size : ℕ) (c : Image) (saved : SavedFrames) → Holds size c saved → saved.age ≤ 2 ^ 62
 within_age size c saved holds = subst (λ (x : SavedFrames). x.age ≤ 2 ^ 62) holds.2 holds.1.header.fits.age
 
--- if saved frames have a fault, it explains why the image that holds them is bad
+-- what was found in saved frames explains the image that holds them
 explained_found : (size : ℕ) (c : Image) (saved : SavedFrames) (found : Option ImageFault) → Holds size c saved →
     IsConsistentOr saved.frames found → IsExplainedBy size c found
 explained_found size c saved None holds is = (

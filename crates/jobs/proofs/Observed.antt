@@ -26,7 +26,7 @@ has_ended written g first last (t ∷ ts) on seen ended =
     found true None place never = absurd never
     found true (Some stop) place ends = (stop, refl)
 
--- if the observer didn't end the run, the outcome needs no place
+-- if the observer didn't end the run, the outcome needs no place where the run stopped
 pub unstopped : (outcome : Result (Unit {0}) RunFault) → IfErr outcome (λ e. e ≢ run.Stopped) → HasStop (Ok outcome) None
 unstopped (Ok u) is = tt
 unstopped (Err run.Read) is = tt
@@ -36,7 +36,7 @@ unstopped (Err run.Stopped) is = absurd (is refl)
 module _ {D S : Type 0} (disk : D → Disk) (view : S → View D) (parts : S → Parts) (device back : D) where
   module _ {O : Type 0} (sees : Geometry → Turn → O → O → Bool → Type 0) (before after : O) (input input_left : Option (List ℕ))
       (output output_left : Written) where
-    -- if an observer never ends a run, the outcome needs no place
+    -- if an observer never ends a run, the outcome needs no place where the run stopped
     pub needs_no_stop : ((g : Geometry) (t : Turn) (old new : O) (on : Bool) → sees g t old new on → on ≡ true) →
         (outcome : Result (Result (Unit {0}) RunFault) OpenFault) →
         SeesImage disk view parts sees device back before after input input_left output output_left outcome → HasStop outcome None
@@ -60,7 +60,7 @@ module _ {D S : Type 0} (disk : D → Disk) (view : S → View D) (parts : S →
     runs_unseen (Ok (Err run.Stopped)) end is seen = absurd is
     runs_unseen (Err why) end is seen = rw is (seen.0, seen.1, seen.2)
 
-  -- the same for a tracer of a run that is saved at its end
+  -- if a tracer ended a run that is to be saved at its end, it knows where
   pub saver_has_stop : {V : Type 0} (written : V → Written) (before after : Tracer V) (input input_left : Option (List ℕ))
       (output output_left : Written) (outcome : Result (Result (Unit {0}) RunFault) OpenFault) (saved : Result (Unit {0}) Fault) →
       SavesImage disk view parts (Sees written) device back before after input input_left output output_left outcome saved →

@@ -30,7 +30,7 @@ pub never_old : (result : Result (Unit {0}) Fault) → IfErr result (λ f. f ≡
 never_old (Ok a) is reported = cc
 never_old (Err f) is reported = let same : f ≡ old_failed = cc in let other : fault.CannotWriteOutput ≡ old_failed = sym is ∙ same in cc
 
--- the claim about a device that was only read depends only on whether a failure is reported
+-- if two reports of a failure agree, `ReadsAndCloses` with one gives it with the other
 pub read_reported : {D : Type 0} (disk : D → Disk) (was_closed : D → Type 0) (old : D) (reported other : Type 0) → (other → reported) →
     (reported → other) → ReadsAndCloses disk was_closed old reported → ReadsAndCloses disk was_closed old other
 read_reported disk was_closed old reported other back on read = (

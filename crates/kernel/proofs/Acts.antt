@@ -19,7 +19,7 @@ use Rattle.kernel.proofs.Stages.{same_running, saved_moved, some_left, some_ther
 use Rattle.kernel.proofs.Stages.{evict_step, migrate_step, none_to_commit, none_to_stabilize, not_home, not_stable, running_already, second_of_commit}
 use Rattle.kernel.proofs.Stages.{stabilize_step}
 
--- a kernel's state with another store
+-- the state of a kernel after its store was replaced
 abbrev pub with_store : {S : Type 0} → Live S → S → Live S
 with_store l s = record { store = s; banks = l.banks; age = l.age; frozen_age = l.frozen_age }
 
@@ -45,13 +45,13 @@ module _ {D S : Type 0} (disk : D → Disk) (view : S → View D) (parts : S →
         (only_now (view l.store).beneath) up.leaves;
   }
 
-  -- the same, for a store that is equal to the old one
+  -- a refusal is served if the store after it equals the one before
   pub refused_again : (l : Live S) (s : S) (c : Command) (why : Refusal) → s ≡ l.store →
       ((g : Geometry) → IsUp disk view parts g l → refusal_of g (running disk view parts l) c ≡ Some why) →
       ServesUp disk view parts l c (answer.Refused why) (with_store l s)
   refused_again l s c why same applies = search (arith, nat_tests, refused)
 
-  -- if the device fails, only what a crash leaves must be shown
+  -- a command that fails is served if a crash during it leaves only states that it may leave
   pub failed : (old new : Live S) (c : Command) →
       ((g : Geometry) → IsUp disk view parts g old → LeavesOne g (disk_at disk view parts old) (disk_at disk view parts new)
       (saved_of (view old.store).snapshots.saved ∷ second (Up (running disk view parts old)) c)) →
@@ -294,7 +294,7 @@ module _ {D S : Type 0} (disk : D → Disk) (view : S → View D) (parts : S →
   -- ---- refusals of a store
 
   module _ (l : Live S) (s : S) where
-    -- a refused `checkpoint` is served: the store is unchanged
+    -- a `checkpoint` that the store refuses is served
     pub freeze_refused : (why : Refusal) → s ≡ l.store → l.age < 2 ^ 62 →
         IsFreezeAnswer {T = ℕ} (left_in whole (view l.store).snapshots) (view l.store).snapshots.saved.entries (Err why) →
         ServesUp disk view parts l command.Checkpoint (answer.Refused why) (with_store l s)
@@ -308,7 +308,7 @@ module _ {D S : Type 0} (disk : D → Disk) (view : S → View D) (parts : S →
     freeze_refused why same young reported = absurd reported
 
     module _ (size : (disk (view s).beneath).sectors ≡ (disk (view l.store).beneath).sectors) where
-      -- a failed or refused `stabilize` is served: after a crash the image denotes the saved state
+      -- a `stabilize` that the store refuses, or that fails, is served
       pub stabilize_refused : (why : Refusal) (n : ℕ) → IsStabilizeAnswer (disk (view l.store).beneath) (disk (view s).beneath)
           (left_in whole (view l.store).snapshots) n (Err why) → (IsRefused {T = ℕ} (Err why) → s ≡ l.store) →
           LeavesSaved (disk (view l.store).beneath) (disk (view s).beneath) (view l.store).snapshots.saved →
@@ -319,7 +319,7 @@ module _ {D S : Type 0} (disk : D → Disk) (view : S → View D) (parts : S →
       stabilize_refused refusal.Fault n reported again moments = search (arith, nat_tests, some_there, stabilize_failed)
       stabilize_refused why n reported again moments = absurd reported
 
-      -- a failed or refused `commit` is served: after a crash the image denotes the saved state or the frozen one
+      -- a `commit` that the store refuses, or that fails, is served
       pub commit_refused : (why : Refusal) → IsCommitAnswer (disk (view l.store).beneath) (disk (view s).beneath)
           (left_in whole (view l.store).snapshots) (view l.store).snapshots.saved.generation (Err why) →
           (IsRefused {T = ℕ} (Err why) → s ≡ l.store) → ((f : FrozenFrames) → (view l.store).snapshots.frozen ≡ Some f → f.left ≡ 0 →
@@ -392,7 +392,7 @@ may_commit disk view parts l up f frozen =
       keepable = λ stable. subst (λ (g : Geometry). AreKeepable g l.frozen_age f.frames) (sym sound.saved.geometry) held.sound.keepable;
     }
 
--- if the store and its device count the same failures before and after, and the device's count stayed, so did the store's
+-- if two counts of failures agree before and after, and one of them stayed, so did the other
 pub unfailed : {old new p q : ℕ} → p ≡ old → q ≡ new → new ≡ old → q ≡ p
 unfailed before after stayed = after ∙ stayed ∙ sym before
 

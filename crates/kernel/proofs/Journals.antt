@@ -70,7 +70,7 @@ module _ (g : Geometry) (s : Running) (n : ℕ) where
             unfolding refusal_of carried_out
             journal_step saved = search (arith, nat_tests, done_step)
 
-        -- the states that `journal` may save besides: the journaled one, or none if a refusal applies
+        -- the state that `journal` may save: the journaled one, or none if a refusal applies
         abbrev seconds : Bool → Option Frozen → Bool → Bool → Bool → List Saved
         seconds young frozen home page saved = elim (unless young refusal.Worn (elim frozen [
           | Some f ↦ Some refusal.CheckpointRunning
@@ -272,11 +272,11 @@ pub next_is : {F : Type 0} (age n : ℕ) (words : List ℕ) (o : Option F) (s : 
     next_journaled age n words o s page saved ≡ (if b then Some (journaled_saved age n words s) else None)
 next_is age n words o s page saved b none home is_page is_saved = search (arith, nat_tests)
 
--- a kernel's state with another store and another age
+-- the state of a kernel after its store and its age changed
 abbrev pub with_age : {S : Type 0} → Live S → S → ℕ → Live S
 with_age l s age = record { store = s; banks = l.banks; age = age; frozen_age = l.frozen_age }
 
--- if `journal` succeeded, what holds unless it fails with `Fault` holds
+-- a `journal` that succeeded isn't `Fault`, so the other case holds
 pub done_usable : {P : Type 0} (n : ℕ) → IsErrOf {T = ℕ} (Ok n) refusal.Fault ⊎ P → P
 done_usable n either = search (arith, nat_tests)
 

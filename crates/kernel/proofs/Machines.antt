@@ -63,7 +63,7 @@ frames_if b fs = search (arith, nat_tests)
 pub base_moved : (a : Snapshots FrozenFrames) (n : ℕ) → base_of (moved n a) ≡ base_of a
 base_moved a n = ap (λ (fs : List Frame). base_by fs a.frozen) (frames_if (a.to_move - n == 0) a.saved)
 
--- an image that denotes one of the first states denotes one of all of them
+-- an image that denotes one of some states denotes one of a longer list
 pub among : (g : Geometry) (size : ℕ) (c : Image) (ss ts : List Saved) → DenotesOne g size ss c → DenotesOne g size (ss ++ ts) c
 among g size c [] ts one = absurd one
 among g size c (s ∷ ss) ts one = ⊎_elim (λ here. inl here) (λ there. inr (among g size c ss ts there)) one
@@ -89,7 +89,7 @@ leaves_either {g} {old} {new} {fs} {next} sound sound_next size moments = record
       (λ is. inr (inl (denoted_by g old.sectors c next sound_next is))) held) moments;
 }
 
--- what holds of a crash during a run holds of one at its end
+-- what a crash at the end of a run leaves, a crash during it may leave
 pub leaves_end : (g : Geometry) (old new : Disk) (ss : List Saved) → CountsNow new → LeavesOne g old new ss → Leaves g new ss
 leaves_end g old new ss counts_now run c left = search (arith, nat_tests)
 
@@ -130,7 +130,7 @@ up_again : (g : Geometry) (r : Running) (a : Answer) (after : Machine) → Reope
     (a ≡ answer.At r.saved.generation r.saved.world.age) × (after ≡ Up (opened g r.saved))
 up_again g r a after again = search (arith, nat_tests, only_one)
 
--- `restart` of a machine that is up steps as `restart` of one that is down with the same candidates
+-- what `restart` may do with a machine that is down at m's candidates, it may do with m
 restarts : (g : Geometry) (m : Machine) (a : Answer) (after : Machine) → Step g (Down (candidates m)) command.Restart a after →
     Step g m command.Restart a after
 unfolding refusal_of carried_out
@@ -149,7 +149,7 @@ reopens_step g m c a after which again = search (arith, nat_tests, restarts, is_
 
 -- ---- crashes
 
--- what a crash leaves is still allowed if there are more candidates
+-- a crash that leaves one of some candidates leaves one of more candidates
 more_left : (g : Geometry) (old new : Disk) (ss ts : List Saved) → LeavesOne g old new ss → LeavesOne g old new (ss ++ ts)
 more_left g old new ss ts run = search (arith, nat_tests, leaves_weaker, among)
 
@@ -321,7 +321,7 @@ module _ {D S : Type 0} (disk : D → Disk) (view : S → View D) (parts : S →
 
   module _ (p q : Power D S) (d : D) (c : Command) (a : Answer) (is : IsDeviceOf disk view parts p d)
       (which : (c ≡ command.Restart) ⊎ (c ≡ command.Cut)) where
-    -- the outcome of opening the device again after a crash
+    -- if opening the device again leaves only what a crash left before, it serves the command
     pub opened_again : (e : D) → ((g : Geometry) (ss : List Saved) → Leaves g (disk d) ss →
         LeavesOne g (disk d) (disk e) ss × Leaves g (disk e) ss) → ((g : Geometry) (ss : List Saved) → Leaves g (disk e) ss →
         Reopened disk view parts g ss e a q) → Serves disk view parts p c a q
@@ -342,7 +342,7 @@ module _ {D S : Type 0} (disk : D → Disk) (view : S → View D) (parts : S →
         IsCaused (disk_of disk view parts p) (disk_of disk view parts q) a
     again_caused e same caused = search (arith, nat_tests, disk_is)
 
-  -- the calls leave what a crash may leave: none was made, or the power was cut
+  -- if the device wasn't called, a crash leaves what it left before
   pub left_alone : (d : D) → OnlyNow (disk d) → (g : Geometry) (ss : List Saved) → Leaves g (disk d) ss →
       LeavesOne g (disk d) (disk d) ss × Leaves g (disk d) ss
   left_alone d only_now g ss leaves = search (arith, nat_tests, append-nil, leaves_here)

@@ -26,7 +26,7 @@ pub done_step : (g : Geometry) (s : Running) (c : Command) (a : Answer) (after :
     a ≡ (carried_out g s c).answer → after ≡ Up (carried_out g s c).after → Step g (Up s) c a after
 done_step g s c a after none reported then = inl (subst (AnswersBy g s c a after) (sym none) (reported, then))
 
--- a step of an invocation, from its process, the age and its effect
+-- how an invocation steps, from its process, the age and its effect
 module _ (g : Geometry) (s : Running) (i : Invocation) where
   -- if a process can't act, its invocation is refused for that reason
   pub early_step : (why : Refusal) → IsEarly s.now.objects i.process (Some why) →
@@ -196,7 +196,7 @@ module _ {S : Type 0} (parts : S → Parts) (Continues : S → S → Type 0) (ag
       refused refusal.Fault said refusal.Fault (λ e. cc, λ e. cc) (λ renewed frozen saved to_move other. absurd (other refl))
   fault_serves c tells said = absurd tells
 
-  -- what an invocation answers once it was carried out
+  -- an invocation that was carried out is performed
   pub invoked_serves : (code : Option ResultCode) → TellsState (objects_in (parts old)) i (Ok code) →
       Invoked parts Continues old new i (Ok code) → Performs age (parts old) (command.Invoke i) answer.Done (age + 1) (parts new)
   invoked_serves code runs said =

@@ -34,7 +34,7 @@ pub added : (key : List ℕ) (d : Data) (old new : List Name) (n : Name) → new
     is_name key ≡ true → n.number < 2 ^ 63 → d ≡ integer (pos n.number) → has n.number old ≡ false → Adds key d old new
 added key d old new n is text one small number none = (n, is, record { text = text; is_one = one; small = small; number = number }, none)
 
--- Reading a table of names, member by member.
+-- ---- reading a table of names, member by member
 
 first_same : (a b : ℕ) (ks ls : List ℕ) → a ∷ ks ≡ b ∷ ls → a ≡ b
 first_same a b ks ls same = cc
@@ -132,7 +132,7 @@ more_read key d rest whole old new so_far (n, is, named, none) = subst (IsReadTo
 pub all_read : (whole : Members) (ns : List Name) → IsReadTo no_members whole ns → AreNamesOf whole ns
 all_read whole ns so_far = (subst (AreNamed whole) (append-nil ns) (so_far.forward [] tt), so_far.once)
 
--- if a member can't be added, the table has no list of names
+-- if a member can't be added, the table isn't a list of names
 pub not_read : (key : List ℕ) (d : Data) (rest whole : Members) (old : List Name) (why : NamesFault) →
     IsReadTo (member key d rest) whole old → CannotAdd key d old why → IsRefused whole why
 not_read key d rest whole old fault.NoMemory so_far cannot = tt
@@ -146,7 +146,7 @@ not_read key d rest whole old (fault.Twice word) so_far (n, is_n, twice) = λ ns
     let none : has it.first.number old ≡ false = once_apart ns old (numbers it.more) it.first.number are.1 it.numbers_are in
     true≢false (sym twice ∙ (sym (ap (λ (j : ℕ). has j old) same) ∙ none)))
 
--- The same for the entries that an iterator has yet to return.
+-- ---- the same for the iterator over a table
 
 pub read_more : (before rest : List (String Global × Value)) (key : String Global) (value : Value) (whole : Members) (old new : List Name) →
     before ≡ (key, value) ∷ rest → IsReadTo (members_view before) whole old → Adds (string_bytes key) (view value) old new →

@@ -73,7 +73,7 @@ module _ (trusted inside : ℕ → Bool) (os us : List Object) (h : Link trusted
   gone_link ns ms same =
       record { code = refl; words = refl; capability = refl; written = same; stays = void_names trusted inside; objects = h }
 
--- the objects that a member bank owns, and those below it
+-- ---- the objects that a member bank owns, and those below it
 
 module _ (trusted inside : ℕ → Bool) (os : List Object) (t : IsTree os) (k : IsReadClosedBut trusted os inside) where
   owner_inside : (n : ℕ) → is_free (content_at os n) ≡ false → IsTrue (inside (owner_at os n)) → IsTrue (inside n)

@@ -27,7 +27,7 @@ module _ (trusted inside : ℕ → Bool) where
   pub void_names : NamesBut trusted inside Void
   void_names = inl tt
 
-  -- replacing the content of a member
+  -- ---- replacing the content of a member
 
   owned_content : (os : List Object) (n : ℕ) (c : Content Capability) → IsReadClosedBut trusted os inside → IsTrue (inside n)
       → MayStand trusted inside (content_at os n) c → (b m : ℕ) → IsTrue (inside b) → IsTrue (is_bank (content_at (with_content os n c) b))
@@ -153,7 +153,7 @@ module _ (trusted inside : ℕ → Bool) where
   link_slots os us n i (c ∷ cs) h in_n stays =
       link_slots (with_slot os n i c) (with_slot us n i c) n (i + 1) cs (link_slot os us n h in_n i c (stays 0)) in_n (λ j. stays (suc j))
 
-  -- voiding capabilities, and freeing objects
+  -- ---- voiding capabilities, and freeing objects
 
   void_stays : (goes : Capability → Bool) (c : Capability) → NamesBut trusted inside c → NamesBut trusted inside (void_where goes c)
   void_stays goes c stays = one_of (NamesBut trusted inside) (goes c) Void c void_names stays

@@ -27,7 +27,7 @@ module _ (trusted inside : ℕ → Bool) where
   abbrev AllStay : List Capability → Type 0
   AllStay cs = (j : ℕ) → NamesBut trusted inside (slice_index_or cs j Void)
 
-  -- delivering a message
+  -- if a message is delivered in both lists, they stay linked
   deliver_link : (os us : List Object) → Link trusted inside os us → (p : ℕ) (m : Message) → IsTrue (inside p) → IsTrue (is_process os p)
       → AllStay m.capabilities → Link trusted inside (deliver os p m) (deliver us p m)
   unfolding deliver
@@ -102,7 +102,7 @@ module _ (g : Geometry) (trusted inside : ℕ → Bool) (os us : List Object) (h
   stays : (r : ℕ) → NamesBut trusted inside (register_at os i.process r)
   stays r = register_stays trusted inside os us h i.process in_p root r
 
-  -- the words and capabilities that a message carries
+  -- ---- the words and capabilities that a message carries
 
   sent_same : sent_by us i ≡ sent_by os i
   sent_same = λ k. map (λ r. registers r k) i.sent
@@ -124,7 +124,7 @@ module _ (g : Geometry) (trusted inside : ℕ → Bool) (os us : List Object) (h
       go Return = map_stays i.sent j
       go Send = map_stays i.sent j
 
-  -- the invoker's state
+  -- ---- the invoker's state
 
   state_linked : (s : State) → Link trusted inside (with_state os i.process s) (with_state us i.process s)
   state_linked s = link_state trusted inside os us i.process h in_p s root
@@ -148,7 +148,7 @@ module _ (g : Geometry) (trusted inside : ℕ → Bool) (os us : List Object) (h
       go Return = state_linked Available
       go Send = h
 
-  -- start and resume capabilities
+  -- ---- start and resume capabilities
 
   still_process : (q : ℕ) → IsTrue (is_process os q) → IsTrue (is_process (after_gate os i) q)
   still_process q is = after_gate_by (λ ws. IsTrue (is_process ws q)) os i is
@@ -168,7 +168,7 @@ module _ (g : Geometry) (trusted inside : ℕ → Bool) (os us : List Object) (h
       message : List Capability → Message
       message cs = record { words = i.words; key = key; capabilities = cs }
 
-  -- kernel objects
+  -- ---- kernel objects
 
   after_now : (ws : List Object) → IsNow g ws → IsTrue (is_running_process ws i.process) → IsAfter g ws (after_order ws i)
   after_now ws there acts = after_order_by (IsAfter g ws) ws i (record { frame = frame_refl ws; now = there; waits = λ x w. w })
@@ -210,7 +210,7 @@ module _ (g : Geometry) (trusted inside : ℕ → Bool) (os us : List Object) (h
         | Send ↦ []
       ]) (h.same i.process in_p)
 
-  -- the law about an invocation
+  -- ---- the law about an invocation
 
   -- the effect of invoking this capability
   abbrev invoked_by : List Object → Capability → Option Effect

@@ -34,7 +34,7 @@ module _ (trusted inside : ℕ → Bool) (os us : List Object) (h : Link trusted
   same : (c : Capability) → NamesBut trusted inside c → Outcomes (given os c) (given us c)
   same c stays = give c c refl stays
 
-  -- pages
+  -- ---- pages
 
   page_link : (o : ℕ) (a : Access) (requested : PageOrder) (args : Arguments) → IsTrue (inside o)
       → Outcomes (on_page os o a requested args) (on_page us o a requested args)
@@ -50,7 +50,7 @@ module _ (trusted inside : ℕ → Bool) (os us : List Object) (h : Link trusted
   page_link o a page.Reduce args in_o = both_chosen Outcomes (reduces args.first) _ _ _ _ _ refl
       (λ e. same (Page o (union a args.first)) (inl in_o)) (λ e. refuse code.BadIndex)
 
-  -- nodes
+  -- ---- nodes
 
   diminished_stays : (c : Capability) → NamesBut trusted inside c → NamesBut trusted inside (diminished c)
   diminished_stays c stays = grind (arith, nat_tests)
@@ -78,7 +78,7 @@ module _ (trusted inside : ℕ → Bool) (os us : List Object) (h : Link trusted
       (λ e. refuse code.BadIndex) (λ e. same (Space o args.first a) (inl in_o))
   node_link o a node.PutNumber args in_o sent = stored_link o a args.first (Number args.second) in_o (inl tt)
 
-  -- processes
+  -- ---- processes
 
   module _ (p : ℕ) (in_p : IsTrue (inside p)) (is : IsTrue (is_process os p)) where
     pub annex_same : annex_at us p ≡ annex_at os p

@@ -19,7 +19,7 @@ use Rattle.noninterference.proofs.ReadEdits.{Link, link_word}
 use Rattle.noninterference.proofs.ReadGates.{EffectsLink, invoked_link}
 use Rattle.noninterference.proofs.ReadOrders.{member}
 
--- the page that an address reaches
+-- ---- the page that an address reaches
 
 module _ (trusted inside : ℕ → Bool) (os us : List Object) (h : Link trusted inside os us) where
   slot_same : (o i : ℕ) → IsTrue (inside o) → slot_at us o i ≡ slot_at os o i
@@ -225,11 +225,11 @@ module _ (g : Geometry) (trusted inside : ℕ → Bool) (s q : Running) (h : IsL
 abbrev is_running_object : Object → Bool
 is_running_object o = is_root o.content && is_running (root_in o.content).state
 
--- the answer to a member's command
+-- ---- the answer to a member's command
 
 module _ (g : Geometry) (trusted inside : ℕ → Bool) (s q : Running) (h : IsLinked g trusted inside s q) (a b : Answer) (m n : Machine)
     (room : HasRoomIn a) (rooms : HasRoomIn b) where
-  -- the tests of a member process give the same results in both machines
+  -- a member process passes the same tests in both machines
   tests_alike : (p : ℕ) → IsTrue (inside p) → (next : Option Refusal) (o : Outcome)
       → AnswerBy q b n (unless (is_process q.now.objects p) refusal.NoProcess
       (unless (is_running_process q.now.objects p) refusal.NotRunning next)) o
@@ -312,7 +312,7 @@ answers_alike g trusted inside s q h (command.Store p address value) a b m n roo
     stores_same g trusted inside s q h a b m n room rooms p address value by fits.2 first second
 answers_alike g trusted inside s q h c a b m n room rooms by fits looks first second = absurd by
 
--- a machine that is down stays down
+-- ---- a machine that is down stays down
 
 abbrev IsDown : Machine → Type 0
 IsDown (Up s) = ⊥
@@ -365,7 +365,7 @@ down_run g inside m (t ∷ ts) last down by run =
     down_run g inside t.after ts last
     (down_reply g inside turn.0 t.before t.reply t.after (subst IsDown (sym run.0) down) (by.0 turn.0 turn.1) turn.2) by.1 run.2
 
--- equal lines have equal answers
+-- ---- equal lines have equal answers
 
 abbrev lines : List Turn → List (List ℕ)
 lines ts = map (λ t. t.line) ts
@@ -388,7 +388,7 @@ by_too inside (x ∷ xs) (y ∷ ys) e by = (
   by_too inside xs ys (same_rest x y xs ys e) by.1,
 )
 
--- what a line with a command means
+-- ---- what a line with a command means
 
 abbrev FitsLine : Line → Type 0
 FitsLine (line.Command c) = Fits c
@@ -472,7 +472,7 @@ module _ (g : Geometry) (trusted inside : ℕ → Bool) where
       (All-tail HasRoom x xs room) (All-tail HasRoom y ys rooms) in
       (ap (λ k. k ∷ replies ys) one.0 ∙ ap (λ ks. x.reply ∷ ks) rest.0, rest.1)
 
--- the law about runs
+-- ---- the law about runs
 
 linked : (g : Geometry) (trusted inside : ℕ → Bool) (w v : World) → AreSameInside g trusted inside w v →
     Link trusted inside w.objects v.objects

@@ -6,7 +6,7 @@ use Rattle.std.specs.Prelude.{◌==◌}
 use Rattle.std.proofs.Common.{◌≡◌, ◌↔◌, ◌∷◌}
 use Rattle.jobs.specs.declared.fault.Fault.TheVariants as fault
 
--- if the answer about the starts was written, that about the named processes was
+-- if the answer about these processes was written, the question about the named ones was answered
 pub tells_of_starts : (f : Format) (os : List Object) (named starts trusted : List ℕ) (q : ReachQuestion) (output output_left : Written) →
     AreStarts os named starts → (outcome : Result (Unit {0}) Fault) → TellsOf f os starts trusted q output output_left outcome →
     TellsReach f os named trusted q output output_left outcome

@@ -133,7 +133,7 @@ same_truth true b there back = sym (there refl)
 same_truth false true there back = back refl
 same_truth false false there back = refl
 
--- these closed sets are those of `confinement` and `noninterference`
+-- ---- these closed sets are those of `confinement` and `noninterference`
 
 change_stays : (follows : Links) (inside : ℕ → Bool) (c : Capability) → StaysFor follows inside c → StaysBut follows.trusted inside c
 change_stays follows inside c stays = go follows.purpose stays
@@ -170,7 +170,7 @@ pub record IsBack (os : List Object) (follows : Links) (l : Levels) (o at : ℕ)
   pub path : IsPath os follows at (reverse steps) o
   pub count : (g : Found) → found_at l o ≡ Some g → found.level + length steps ≡ g.level
 
--- after all levels were searched
+-- the parameters: all levels were searched
 module _ (os : List Object) (follows : Links) (starts : List ℕ) (level : ℕ) (l : Levels) (over : l.greatest < level)
     (searched : IsSearched os follows starts level l) where
   continues_on : (n k : ℕ) → IsFoundIn l n k → (s : Step) → IsFrom os follows n s → IsFoundIn l s.to (k + 1)
@@ -216,7 +216,7 @@ module _ (os : List Object) (follows : Links) (starts : List ℕ) (level : ℕ) 
         found_inside other closed begins (found.0.level + 1) n found.0 found.1 (omega arith);
   }
 
-  -- each closed set that is least has the same members
+  -- there is only one least closed set
   pub only_reach : (inside : ℕ → Bool) → IsReach os follows starts inside → (o : ℕ) → inside o ≡ is_some (found_at l o)
   only_reach inside reach o =
       let found = is_reach (λ n. is_some (found_at l n)) (λ n. refl) in

@@ -89,7 +89,7 @@ found_more P Q level n f more found = record {
   by = more found.step found.by;
 }
 
--- two descriptions of the same steps find the same numbers
+-- if P and Q hold of the same steps, they find the same numbers
 pub finds_same : (P Q : Step → Type 0) (level : ℕ) (a b : Levels) → ((s : Step) → P s → Q s) → ((s : Step) → Q s → P s) →
     FindsBy P level a b → FindsBy Q level a b
 finds_same P Q level a b there back finds = record {

@@ -113,7 +113,7 @@ module _ (os : List Object) (follows : Links) (starts : List ℕ) (level : ℕ) 
   pub searched_next : IsSearched os follows starts (level + 1) new
   searched_next = grind (arith, nat_tests, kept_in, after_before, after_now, continues_now, deepest_now)
 
--- the set of a list of numbers
+-- ---- the set of a list of numbers
 
 marked_more : (marks : List Bool) (x n : ℕ) → x < length marks → is_marked (slice_set marks x true) n ≡ (is_marked marks n || (n == x))
 marked_more marks x n lt = elim (cases_eq n x) [

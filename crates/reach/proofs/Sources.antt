@@ -63,7 +63,7 @@ stays_at follows other [] i all = void_stays follows other
 stays_at follows other (c ∷ cs) zero all = all 0 Void (omega arith)
 stays_at follows other (c ∷ cs) (suc i) all = stays_at follows other cs i (λ k d lt. all (suc k) d (omega (arith, lt)))
 
--- if no slot conveys into the set, and the object has no other authority, it leads nowhere into the set
+-- if the capabilities in an object's slots stay inside a set, and it has no other authority, the set is closed at this object
 pub slots_settle : (os : List Object) (n : ℕ) (slots : List Capability) (follows : Links) (other : ℕ → Bool) → is_process os n ≡ false →
     slots_in (content_at os n) ≡ slots → All (StaysFor follows other) slots → IsClosedAt os follows other n
 slots_settle os n slots follows other no_root is all = record {
@@ -135,7 +135,7 @@ module _ (os : List Object) (number at : ℕ) (old mid : List Bool) (adds : Adds
         let both : false ≡ true = sym none ∙ marked in absurd (cc)) (λ later. later.1) adds.begun;
   }
 
--- if nothing is added, the set grows by nothing
+-- at first nothing is added
 pub grows_none : (os : List Object) (follows : Links) (l : List Bool) → Grows os follows l l
 grows_none os follows l = record { count = refl; kept = λ n is. is; each = λ o all. all; owners = λ has. has }
 

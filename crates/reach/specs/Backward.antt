@@ -1,4 +1,4 @@
--- Sets of numbers that grow by all that leads into them. No public clause uses this.
+-- Growing a set by every number that has authority over a member. No public clause uses this.
 use Rattle.reach.specs.Names.{ℕ, Bool, false, not, List, [], length, IsTrue, is_marked, Capability, Object, is_free}
 use Rattle.reach.specs.Names.{content_at, owner_at, annex_at, is_process, root_at, slot_at, true, suc}
 use Rattle.std.specs.Prelude.{◌≡◌, ◌⊎◌, ◌<◌, ◌∷◌}

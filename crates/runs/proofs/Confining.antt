@@ -59,7 +59,7 @@ module _ {D S : Type 0} (disk : D → Disk) (view : S → View D) (parts : S →
       Stands disk view parts g p (Up t) → m ≡ Up t
   one_machine g p m t first second = search (arith, nat_tests)
 
-  -- the world of this machine is sound
+  -- a kernel that is up stands for a machine with a sound world
   pub sound_world : (g : Geometry) (p : Power D S) (s : Running) → Stands disk view parts g p (Up s) → IsSound g s.now
   sound_world g p s up = search (arith, nat_tests)
 

@@ -55,7 +55,7 @@ pub begins_with : (text : List ℕ) (lines : List (List ℕ)) (more : List ℕ) 
 begins_with text lines more are =
     (more, ap (λ (l : List ℕ). l ++ more) (are.whole ∙ append-nil (flat_map line_of lines)), are.each)
 
--- the lines of such a text and more are its lines and those of what follows
+-- the lines of a text of whole lines and more are its lines and those of what follows
 lines_first : (text : List ℕ) (lines : List (List ℕ)) (more : List ℕ) → AreLines text lines [] →
     lines_of (text ++ more) ≡ lines ++ lines_of more
 lines_first text lines more are = search (arith, nat_tests, append-nil, lines_before)

@@ -66,7 +66,7 @@ module _ {D S : Type 0} (disk : D → Disk) (view : S → View D) (parts : S →
       refuses d held back fault.NoMemory is = tt
       refuses d held back (fault.Bad reason) is = denoted_not_bad g (disk d).sectors (disk d).seen s reason held is.is_why.1
 
-  -- so does a device that holds an image which a crash left
+  -- an image that a crash leaves opens at a state that may be left
   survived : (g : Geometry) (old new : Power D S) (MayBeLeft : Saved → Type 0) →
       LeavesOnly (of old) (of new) (λ c. (s : Saved) × MayBeLeft s × Denotes g (of old).sectors c s) →
       IsSurvived disk view parts g old new MayBeLeft

@@ -13,7 +13,7 @@ use Rattle.runs.specs.declared.cause.Stop.{Stop}
 use Rattle.runs.specs.declared.tracer.TraceOptions.{TraceOptions}
 use Rattle.runs.specs.declared.tracer.Tracer.{Tracer}
 
--- Texts
+-- ---- texts
 
 abbrev pub code_word : ResultCode → List ℕ
 code_word code.Done = codes "success"
@@ -58,7 +58,7 @@ IsTrace g place t (Reported a) text =
     outcome
     × (text ≡ line_of (spaced (place_text place ∷ (command_name c ++ codes ":") ∷ outcome ∷ [])))
 
--- Where a strict run ends
+-- ---- where a strict run ends
 
 -- an answer with this result code is this cause to end a strict run
 abbrev pub IsCauseIn : Answer → Option ResultCode → Cause → Type 0

@@ -45,7 +45,7 @@ one_after a b c first (n, inr is) = (
   ),
 )
 
--- if no call failed so far, a result has its cause exactly if it has it from here on
+-- if no call failed so far, an error that the later calls cause is caused by all calls
 pub cause_after : {T E : Type 0} (a b c : Option CallErrors) (r : Result T E) → NoneFailed a b → HasCause b c r → HasCause a c r
 cause_after {T} {E} a b c (Ok x) first second = none_trans a b c first second
 cause_after {T} {E} a b c (Err x) first second = one_after a b c first second

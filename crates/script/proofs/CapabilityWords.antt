@@ -136,7 +136,7 @@ kind_at_name k = grind (arith, nat_tests)
 
 -- ---- the capabilities that a text may name
 
--- if a capability was read and no words are left, it is the only one with these words
+-- if the words are a capability's, reading them gives this capability and leaves no word
 pub arguments_are : (words rest : Words) (word : List ℕ) (k : Kind) (c : Capability) → words ≡ word ∷ rest → word ≡ kind_name k →
     HasText c → words ≡ capability_words c
     → capability_at k rest ≡ Some (c, [])

@@ -246,7 +246,7 @@ keyword_at_name k = grind (arith, nat_tests)
 
 -- ---- the command that a line may contain
 
--- if arguments were read and no words are left, they belong to the only command with these words
+-- if the words are a command's, reading them gives this command and leaves no word
 arguments_are : (words rest : Words) (word : List ℕ) (k : Keyword) (c : Command) → words ≡ word ∷ rest → word ≡ keyword_name k → Fits c →
     words ≡ command_words c
     → arguments_at k rest ≡ Some (c, [])

@@ -94,7 +94,7 @@ operands_length registers words are = absurd are
 
 -- ---- faults of a line
 
--- if the word comes after a keyword and these words, its place is known
+-- a word after the keyword and the words `before` is at place length before + 2
 has_word : (line : List ℕ) (k : Keyword) (before after : Words) (word : List ℕ) (place : ℕ) → Names line k (before ++ word ∷ after) →
     place ≡ length before + 2 → HasWord line place word
 has_word line k before after word place names is = (keyword_name k ∷ before, after, names, omega (arith, is))

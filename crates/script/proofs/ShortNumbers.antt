@@ -65,7 +65,7 @@ values_three : (text : List ℕ) (at one two three : ℕ) → at + 2 < length te
 values_three text at one two three within first second third =
     digit_more text at 2 (one * 10 + two) three within (values_two text at one two (omega (arith, within)) first second) third
 
--- up to three digits in a row have the value that is computed from them
+-- three digits in a row are this number
 pub values_up_to_three : (text : List ℕ) (at one two three : ℕ) → at + 2 < length text → IsDigit text at one → IsDigit text (at + 1) two →
     IsDigit text (at + 2) three → Values text at (at + 3 - at) ((one * 10 + two) * 10 + three)
 values_up_to_three text at one two three within first second third =

@@ -62,7 +62,7 @@ module _ {D S : Type 0} (disk : D → Disk) (view : S → View D) (parts : S →
       (t, subst (λ (x : Session D S). StepsBy disk view parts topics prompts l x t (Ok true)) same step, refl)
   served_more (k ∷ ks) l s mid t served step = (served.0, served.1, served_more ks l served.0 mid t served.2 step)
 
-  -- if the next line was read and served, so are the lines with it
+  -- if the lines so far were served, and then the next one was, all were
   pub more : (their_topics : List Topic) (theirs : Bool) → their_topics ≡ topics → theirs ≡ prompts →
       (ahead now later : Option (List (List ℕ))) (s mid t : Session D S) (l : List ℕ) → SoFar ahead now s mid → Takes now later (l ∷ []) →
       StepsBy disk view parts their_topics theirs l mid t (Ok true) → SoFar ahead later s t

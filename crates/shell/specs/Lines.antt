@@ -65,7 +65,7 @@ lines_from (b ∷ begun) rest = onto_first b (lines_from begun rest)
 abbrev pub lines_ahead : List ℕ → Option (List ℕ) → Option (List (List ℕ))
 lines_ahead begun rest = option_map (λ text. map read_as (lines_from begun text)) rest
 
--- if the lines ahead are known, they were `taken` and then the new ones
+-- if the lines ahead are known: the old ones are `taken`, then the new ones
 abbrev pub Takes : Option (List (List ℕ)) → Option (List (List ℕ)) → List (List ℕ) → Type 0
 Takes None new taken = ⊤
 Takes (Some ls) None taken = ⊥

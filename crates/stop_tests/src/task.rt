@@ -29,8 +29,7 @@ pub(crate) struct Task<'a> {
     pub(crate) last: &'a [u8],
 }
 
-/// Returns the outcome of a power cut for a word: `keep`, `drop`, or a byte. `None` for any other
-/// word.
+/// Returns the outcome of a power cut that a word names: `keep`, `drop`, or a byte; or `None`.
 pub(crate) fn outcome_of(word: &str) -> Option<Outcome> {
     match word {
         "keep" => Some(Outcome::Keep),

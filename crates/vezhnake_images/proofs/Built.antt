@@ -6,7 +6,7 @@ use Rattle.vezhnake_images.proofs.Names.{RefusesTable, RefusesText, ImageDevice,
 use Rattle.std.proofs.Common.{◌≡◌, ◌≤◌, ◌<◌, ◌*◌, ◌++◌}
 use Rattle.description.specs.declared.fault.BuildFault.TheVariants as build
 
--- if a table can't be read as a description, or is outside the limits, this is the status
+-- if a table can't be read, or is outside the limits, its status says so
 sizeless : (table : Members) (fault : BuildFault) → TellsNoSize table fault → RefusesTable table (built_by fault)
 sizeless table build.Shape told = (omega arith, 0, told)
 sizeless table build.Limits told = (omega arith, 0, (told.0, told.1, limits_broken told.0 0 told.2))
@@ -24,7 +24,7 @@ same_plan table d e first second =
     let same : IsSame d e = description_once table d e first second in
     rw (same.layout, same.geometry, same.ranges) refl
 
--- if building on a device of the right size that doesn't fail is refused, this is the status
+-- if a device of the right size didn't fail, the status says why its image was refused
 pub unbuilt : (table : Members) (b : Description) (old new : ImageDevice) (fault : BuildFault) → IsDescription table b
     → (image_disk old).sectors ≡ (plan_for b).total → Refuses table (image_disk old).sectors fault
     → (fault ≡ build.Failed → (image_disk old).failures < (image_disk new).failures) → RefusesTable table (built_by fault)
@@ -44,7 +44,7 @@ unbuilt table b old new build.Failed is size refuses works =
     absurd (omega (arith, rises, none))
 unbuilt table b old new build.NoMemory is size refuses works = tt
 
--- if the table of a text can't be read as a description, this is the status
+-- if the table of a text can't be read as a description, the text's status says so
 pub unread : (text : List ℕ) (table : Members) (fault : BuildFault) → parse_document text ≡ Some table → TellsNoSize table fault
     → RefusesText text (built_by fault)
 unread text table build.Shape is told = (table, is, sizeless table build.Shape told)

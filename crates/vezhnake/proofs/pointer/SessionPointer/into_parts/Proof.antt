@@ -44,7 +44,7 @@ module _ {M : Type 1} {𝓤 : Ura M} (𝓛 : Logic 𝓤) (at_mem : Memory → SP
   abbrev Ghost : Type 0
   Ghost = (walk_of 𝓛 F.ended stayed (F.clauses 𝓛 at_mem run)).Ghost
 
-  -- the same resources for another session
+  -- what the pointer owns, with another session in its place
   abbrev with_session : Ghost → Option (Session.the_row).Denot → Ghost
   with_session z session = ((z.0.0, z.0.1, z.0.2, (record { ptr = z.0.3.0.ptr; alloc = z.0.3.0.alloc; session = session }, tt), z.0.4), z.1)
 
