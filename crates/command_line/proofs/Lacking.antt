@@ -30,7 +30,7 @@ module _ (name id : Text) (rows : List Row) where
       option_map_or (λ s. is_whole s.rules rows) o false ≡ true → fills a (row_named id rows) ≡ true
   filled_in o a is has = grind (arith, nat_tests, found, bytes_eq-Decides)
 
-  -- if a required argument has no value, not all arguments are there
+  -- if a required argument has no value, the rows don't have all arguments
   lacks_row : (o : Option Rule) → rule_named name id ≡ o → option_map_or (λ a. a.required) o false ≡ true
       → option_map_or (λ (r : Row). nat_lt 0 (length r.values)) (row_named id rows) false ≡ false → has_all name rows ≡ true → ⊥
   lacks_row None is required none has = true≢false (sym required)
@@ -52,7 +52,7 @@ module _ (name id : Text) (rows : List Row) where
       go None e = refl
       go (Some r) e = empty r.values e
 
-  -- if all arguments are there, the values of each pass its parser
+  -- if the rows have all arguments, the values of each pass its parser
   passing : (p : ValueParser) (o : Option Rule) → rule_named name id ≡ o → option_map (λ a. parser_of_value a.parser) o ≡ Some p →
       has_all name rows ≡ true → (r : Row) → row_named id rows ≡ Some r → (ignore_case : Bool)
       × (list_all (accepts ignore_case p) r.values ≡ true)

@@ -19,7 +19,7 @@ parse_explains words e passes kinds = go (takes eros_app words) refl
     go true taken = inl (passes taken)
     go false not_taken = elim kinds [ inl memory ↦ inl memory | inr among ↦ inr (inl (not_taken, among)) ]
 
--- the same, for any command equal to that of `eros`
+-- the same as `parse_explains`, for any command equal to that of `eros`
 pub parse_refused : (words : List Text) (command : Command) (e : Error) → app_of command ≡ eros_app →
     (takes (app_of command) words ≡ true → kind_of e ≡ OutOfMemory)
     → (is_simple_and_free (app_of command) ≡ true → HasKind (fault_of (app_of command) words) e) →

@@ -253,7 +253,7 @@ whole_from : (c xs : List Rule) (rows : List Row) → AllOwn c xs → Filled c r
 whole_from c [] rows own f given = refl
 whole_from c (a ∷ xs) rows own f given = grind (arith, nat_tests, whole_from c xs rows own.1 f, rule_filled)
 
--- if a level of the parse is accepted, its arguments have valid values, no help is asked for, and a required subcommand is there
+-- if a level of the parse is accepted, its arguments have valid values, no help is asked for, and a required subcommand isn't missing
 pub level_keeps : (s : Shape) (names : Names) (words : List Text) (has_subcommand : Bool) → is_plain s.rules ≡ true →
     s.subcommand_negates_reqs ≡ false → level_passes s names nothing_held words has_subcommand ≡ true
     → (is_whole s.rules (finished s.rules (walk s.rules names nothing_held words).held) ≡ true)

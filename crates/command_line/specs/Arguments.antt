@@ -38,7 +38,7 @@ GivesNoNumber rows name least most = (word : Text) × IsGiven rows name word × 
 abbrev pub IsNumberOption : List Row → Text → Option ℕ → Type 0
 IsNumberOption rows name number = IsOption rows name 0 greatest_number number
 
--- words as texts
+-- borrowed words as texts
 abbrev pub texts_of : List (Bor Text) → List Text
 texts_of = map (λ s. s.now)
 

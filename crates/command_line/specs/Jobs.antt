@@ -15,11 +15,11 @@ abbrev pub IsScript : Text → Script → Type 0
 IsScript word script.Input = word ≡ codes "-"
 IsScript word (script.File name) = (name.now ≡ word) × (word ≢ codes "-")
 
--- the capacity that `--cache` gives, if it is there
+-- the capacity that `--cache` gives, or `None` if it is missing
 abbrev pub IsCache : List Row → Option ℕ → Type 0
 IsCache rows cache = IsOption rows (codes "cache") 8 8192 cache
 
--- the sizes that the options give, if they are there
+-- the sizes that the options give, or `None` for those that are missing
 abbrev pub AreSizes : List Row → Sizes → Type 0
 AreSizes rows sizes = IsNumberOption rows (codes "nodes") sizes.nodes
     × IsNumberOption rows (codes "pages") sizes.pages × IsNumberOption rows (codes "log") sizes.log
@@ -57,7 +57,7 @@ IsJob name rows (job.Draw image from reads to) = (name ≡ codes "draw") × IsGi
     × IsNumberOption rows (codes "from") from × IsFlag rows (codes "reads") reads
     × IsNumberOption rows (codes "to") to
 
--- the file that `--names` gives, if it is there
+-- the file that `--names` gives, or `None` if it is missing
 abbrev pub IsNames : List Row → Option (Bor Text) → Type 0
 IsNames rows names = first_of (codes "names") rows ≡ option_map (λ file. file.now) names
 

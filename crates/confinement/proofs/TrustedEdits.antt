@@ -168,7 +168,7 @@ unfolding with_slot
 stays_slot z os n i c h change stays =
     stays_content z os n (with_slot_in (content_at os n) i c) h change (slot_may z os n i c (content_at os n) stays (may_stay z os n h))
 
--- the same for several slots, one after the other
+-- setting several slots of an object that may change stays within the set, if the capabilities stay inside
 pub stays_slots : (z : Zone) (os : List Object) (n i : ℕ) (cs : List Capability) → Encloses z os → MayChange z n
     → ((j : ℕ) → Stays z (slice_index_or cs j Void)) → StaysWithin z os (with_slots_from os n i cs)
 stays_slots z os n i [] h change stays = stays_refl z os h

@@ -120,7 +120,7 @@ record IsWithin (g : Geometry) (z : Zone) (os : List Object) (s : Running) : Typ
   sound : IsSound g s.now
   stays : StaysWithin z os s.now.objects
 
--- the same for any machine; nothing is required of one that is down
+-- a machine that is up is as `IsWithin` says; nothing is required of one that is down
 abbrev MachineWithin : Geometry → Zone → List Object → Machine → Type 0
 MachineWithin g z os (Up s) = IsWithin g z os s
 MachineWithin g z os (Down saved) = Unit {0}
@@ -182,7 +182,7 @@ IsAnswer g s c a after refused = elim refused [
   | None ↦ (a ≡ (carried_out g s c).answer) × (after ≡ Up (carried_out g s c).after)
 ]
 
--- a machine that is down stays down under such commands
+-- a machine that is down stays down under the commands of members
 down_keeps : (g : Geometry) (z : Zone) (os : List Object) (saved : List Saved) (c : Command) (a : Answer) (after : Machine)
     → IsBy z.members c → Step g (Down saved) c a after → MachineWithin g z os after
 down_keeps g z os saved c a after by is = grind (arith, nat_tests)

@@ -30,15 +30,15 @@ pub record IsConfinedBut (trusted inside : ℕ → Bool) (os us : List Object) :
   pub kept : (n : ℕ) → with_free os inside n ≡ false → (IsInbox trusted os n → ⊥) →
       IsKept inside (object_at os n) (object_at us n)
 
--- an invocation by a running member of such a set is confined
+-- if a set is closed but for trusted processes, an invocation by a running member is confined
 abbrev pub InvocationIsConfinedBut : Type 0
 InvocationIsConfinedBut = (g : Geometry) (w : World) (i : Invocation) (e : Effect) (trusted inside : ℕ → Bool) →
     IsSound g w → Fits (command.Invoke i) → IsTrue (is_running_process w.objects i.process) →
     IsClosedBut trusted w.objects inside → IsTrue (inside i.process) → invoke g w.objects i ≡ Some e →
     IsConfinedBut trusted inside w.objects e.objects
 
--- the authority bound with trusted processes. A run is confined if it has only invocations, loads and stores by
--- members of such a set, or by processes that members make
+-- the authority bound with trusted processes. Take a set that is closed but for these. A run is confined if it has
+-- only invocations, loads and stores by members, or by processes that members make
 abbrev pub RunIsConfinedBut : Type 0
 RunIsConfinedBut = (g : Geometry) (trusted inside : ℕ → Bool) (s t : Running) (turns : List Turn) →
     IsSound g s.now → IsClosedBut trusted s.now.objects inside → IsRun g (Up s) turns (Up t) →

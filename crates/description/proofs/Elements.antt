@@ -24,7 +24,7 @@ last_read P [] [] v x are is = (is, tt)
 last_read P (w ∷ ws) (y ∷ ys) v x are is = (are.0, last_read P ws ys v x are.1 is)
 last_read P vs xs v x are is = absurd are
 
--- reading the first i values and then the next reads i + 1
+-- reading the first i values and then the next reads the first i + 1
 pub one_more : {A : Type 0} (P : Data → A → Type 0) (vs : List Value) (i : ℕ) (xs : List A) (v : Value) (x : A) → i < length vs →
     get_or vs i v ≡ v → AreItems P (items_view (take i vs)) xs → P (view v) x → AreItems P (items_view (take (i + 1) vs)) (xs ++ x ∷ [])
 one_more P vs i xs v x within at are is = rw (take_more vs i v within, at) (last_read P (take i vs) xs v x are is)

@@ -10,7 +10,7 @@ use Rattle.description.specs.declared.flaw.Part.TheVariants as part
 use Rattle.description.specs.declared.flaw.SlotFlaw.TheVariants as slot
 use Rattle.description.proofs.Lists.{all_got, contains_cases, contains_here, contains_none, contains_there}
 
--- if the first i numbers differ from n and the next one does, the first i + 1 do
+-- if the first i numbers differ from n and the next one does, the first i + 1 differ from n
 pub one_more_other : (ns : List ℕ) (i n : ℕ) → i < length ns → (Contains (take i ns) n → ⊥) → (slice_index ns i ≢ n) →
     Contains (take (i + 1) ns) n → ⊥
 one_more_other ns i n within none other there =

@@ -136,7 +136,7 @@ module _ {E : Type 0} (index : E → ℕ) where
     ]
   ]
 
--- writing the first i entries and then the next writes i + 1
+-- writing the first i entries and then the next writes the first i + 1
 pub each_wrote : {E V : Type 0} → (index : E → ℕ) (value : E → V) (es : List E) (now next all : List V) (i : ℕ) (d : E) (v : V) →
     i < length es → next ≡ slice_set now (index (slice_index_or es i d)) v → v ≡ value (slice_index_or es i d)
     → set_each index value (drop i es) now ≡ all → set_each index value (drop (i + 1) es) next ≡ all

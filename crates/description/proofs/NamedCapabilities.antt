@@ -122,7 +122,7 @@ first_turned : {A : Type 0} (P Q B C : A → Type 0) → ((x : A) → P x → Q 
     IsFirst P B xs i → IsFirst Q C xs i
 first_turned P Q B C good bad xs i first = (all_turned P Q good (take i xs) first.0, some_turned B C bad (slice_get xs i) first.1)
 
--- a capability that lacks P is there
+-- if a capability lacks P, there is a capability that does
 lacked : (P : Capability → Type 0) (o : Option Capability) → LacksIt P o → (c : Capability) × (o ≡ Some c) × (P c → ⊥)
 lacked P None lacks = absurd lacks
 lacked P (Some c) lacks = (c, refl, lacks)
@@ -154,7 +154,7 @@ some_both : {A : Type 0} (R : Type 0) (P Q : A → Type 0) → ((x : A) → P x 
 some_both R P Q split None is = absurd is
 some_both R P Q split (Some x) is = split x is
 
--- in the first process with a capability that lacks P, this is the first such capability
+-- the first process with a capability that lacks P has its first one at this place
 pub process_lacks : (P : Capability → Type 0) (d : Description) (k : ℕ) (at : Held) →
     IsFirst (AllOfProcess P) (λ p. OneOfProcess P k p at) d.processes.items k → FirstLacks P d at
 unfolding OneOfProcess

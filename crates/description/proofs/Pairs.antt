@@ -18,7 +18,7 @@ module _ {A : Type 0} (R : A → A → Type 0) where
   set_below (suc i) (x ∷ xs) (y ∷ ys) d v inside is below = (below.0, set_below i xs ys d v (omega (arith, inside)) is below.1)
   set_below i xs ys d v inside is below = absurd (grind (arith, nat_tests))
 
-  -- rewriting one more item relates i + 1
+  -- rewriting one more item relates the first i + 1
   pub zip_set : (i : ℕ) (xs ys : List A) (d v : A) → i < length ys → R (slice_index_or ys i d) v → ZipBelow R i xs ys →
       ZipBelow R (i + 1) xs (slice_set ys i v)
   zip_set i xs ys d v inside is below =

@@ -10,7 +10,7 @@ pub record AreSeen (marks : List Bool) (ns : List ℕ) (i : ℕ) : Type 0 where
   pub distinct : AreDistinct (take i ns)
   pub marked : (n : ℕ) → Contains (take i ns) n → is_marked marks n ≡ true
 
--- if the next number isn't among the first i, marking it extends them to i + 1
+-- if the next number isn't among the first i, marking it marks the first i + 1
 pub one_seen : (marks : List Bool) (ns : List ℕ) (i : ℕ) → i < length ns → slice_index ns i < length marks →
     (Contains (take i ns) (slice_index ns i) → ⊥) → AreSeen marks ns i → AreSeen (slice_set marks (slice_index ns i) true) ns (i + 1)
 one_seen marks ns i within inside none seen = record {

@@ -22,7 +22,7 @@ use Rattle.description.specs.declared.flaw.WorldFault.TheVariants as fault
 
 -- ---- sizes
 
--- how many numbers these ranges have
+-- how many numbers these ranges have together
 abbrev pub count_in : List NumberRange → ℕ
 count_in [] = 0
 count_in (r ∷ rs) = r.count + count_in rs

@@ -48,7 +48,7 @@ IsUnknown names ms _ = ⊥
 abbrev pub IsStranger : TableName → List (List ℕ) → Members → ShapePlace → Type 0
 IsStranger which names ms place = (place.table ≡ which) × IsUnknown names ms place.flaw
 
--- the flaw of the value at this key: it is no list; or its first item that isn't good, which has the property `So`
+-- the flaw at this key: its value is no list; or its first bad item has the property `So`
 abbrev pub IsBadList : (Data → Type 0) → (Data → Type 0) → Key → Data → Flaw → Type 0
 IsBadList Good So key d (Unknown k) = ⊥
 IsBadList Good So key d (Misfit k) = (k ≡ key) × ((ds : Items) → d ≡ array ds → ⊥)

@@ -167,7 +167,7 @@ BreaksAt ms (name.Process i) flaw = IsFirstInside Processes i (keys_of (name.Pro
 BreaksAt ms (name.Node i) flaw = IsFirstInside NodeList i (keys_of (name.Node i)) ms flaw
 BreaksAt ms (name.Page i) flaw = IsFirstInside PageList i (keys_of (name.Page i)) ms flaw
 
--- the same, for a place
+-- the place is the first flaw of the whole description
 abbrev pub BreaksShape : Members → ShapePlace → Type 0
 BreaksShape ms place = BreaksAt ms place.table place.flaw
 

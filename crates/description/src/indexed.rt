@@ -97,7 +97,8 @@ pub(crate) fn find_before<N: Numbers>(numbers: N, end: usize, number: u64) -> Op
     None
 }
 
-// The same, if no number before `end` is above `most`.
+// Returns the first place before `end` that has this number, or `None`; no number before `end` is
+// above `most`.
 #[tactic(auto, using(crate::proofs::FieldFlaws::none_above))]
 fn find_low<N: Numbers>(numbers: N, end: usize, number: u64, most: u64) -> Option<usize>
     requires within { end ≤ length (N.numbers numbers) }
@@ -121,9 +122,9 @@ fn greater(one: u64, other: u64) -> u64
     if one < other { other } else { one }
 }
 
-/// Returns the first place whose number occurs before, as the second of a pair; the first of the pair is
-/// where it occurs before. Returns `None` if all numbers differ. Most lists rise, and such a list is read
-/// only once.
+/// Returns the first two places with the same number: the first place whose number occurs before, as the
+/// second of the pair, and where it occurs before. Returns `None` if all numbers differ. A list that rises,
+/// as most do, is read only once.
 pub(crate) fn find_twice<N: Numbers>(numbers: N) -> Option<(usize, usize)>
     ensures { MatchOption result (AreDistinct (N.numbers numbers))
         (λ p. IsFirstTwice (N.numbers numbers) p.0 p.1) }

@@ -35,7 +35,7 @@ BreaksRule d (rule.Field p) = BreaksField d p
 BreaksRule d (rule.Target h) = BreaksTarget d h
 BreaksRule d (rule.Owner u) = BreaksOwner d u
 
--- the same, for a place of a table
+-- this is the first place of a table that breaks its rule
 abbrev pub Breaks : Members → Place → Type 0
 Breaks ms (place.Shape s) = BreaksShape ms s
 Breaks ms (place.Rule d r) = IsDescription ms d × BreaksRule d r

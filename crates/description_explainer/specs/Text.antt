@@ -112,7 +112,7 @@ abbrev pub indexed_entry : Indexed → ℕ
 indexed_entry (indexed.OutOfRange i) = i
 indexed_entry (indexed.Twice i j) = j
 
--- the same for a slot
+-- the index of the wrong slot; of two slots with the same index, that of the second
 abbrev pub slot_entry : SlotFlaw → ℕ
 slot_entry (slot.Index i) = indexed_entry i
 slot_entry (slot.Text i) = i

@@ -35,7 +35,8 @@ pub(crate) fn listed_number(description: &Description, named: Named) -> u64
     }
 }
 
-// Writes the text of the process at index `k` of its list. The next two functions do so for a node and a page.
+// Writes the text of the process at index `k` of its list. The next two functions write that of a node and of a
+// page.
 pub(crate) fn put_process(
     text: &mut String,
     description: &Description,

@@ -40,7 +40,7 @@ pub enum Place<'a> {
 }
 
 impl Place<'_> {
-    /// Returns the fault that `build` returns for such a table.
+    /// Returns the fault that `build` returns for this table.
     pub fn fault(&self) -> BuildFault
         ensures { result ≡ fault_of self.now }
     {

@@ -60,7 +60,7 @@ pub filled : (ps : List Pair) (ns : Nodes) → ArePairs ps → IsTrue (are_apart
 filled [] ns pairs apart fresh = (ns, refl, refl)
 filled (p ∷ ps) ns pairs apart fresh = grind (arith, nat_tests, filled ps, filled_at, right, new_kept, left)
 
--- no value is read from below a header
+-- if a value needs no header, the reader's pass over the headers ignores it
 not_under : (k : List ℕ) (o : Option Data) (ms : Members) (n : Nodes) → IfSome o (λ d. is_section d ≡ false) → fill_sections ms n ≡ Some n →
     fill_sections (member_or k o ms) n ≡ Some n
 not_under k None ms n pair none = none

@@ -14,7 +14,7 @@ DescribedIsSame = (g : Geometry) (age : ℕ) (fs gs : List Frame) (d : Descripti
     Describes g (world_at age fs) d → IsDescribed d gs →
     IsSoundFrames d.geometry d.age gs × (world_at d.age gs ≡ world_at age fs)
 
--- if the world of such a description can't be laid out, memory ran out
+-- if the world of a world's description can't be laid out, memory ran out
 abbrev pub DescribedIsLaid : Type 0
 DescribedIsLaid = (g : Geometry) (age : ℕ) (fs : List Frame) (d : Description) (fault : BuildFault) →
     IsSoundFrames g age fs → Describes g (world_at age fs) d → IsWorldFault d fault → fault ≡ NoMemory

@@ -8,7 +8,7 @@ pub fn described_is_same()
     ensures { DescribedIsSame }
 {}
 
-/// The world of such a description can be laid out.
+/// The world of a world's description can be laid out.
 pub fn described_is_laid()
     ensures { DescribedIsLaid }
 {}

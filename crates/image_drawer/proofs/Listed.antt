@@ -84,7 +84,7 @@ adds_both ms ns was between now first second = record {
       ∙ sym (either_or (is_marked was n) (is_listed n (ms ++ ns)) (is_listed n ms) (is_listed n ns) (list_any-append (λ m. m == n) ms ns));
 }
 
--- adding the first i numbers and then the next adds i + 1
+-- adding the first i numbers and then the next adds the first i + 1
 pub adds_more : (ns : List ℕ) (i d : ℕ) (was now : List Bool) → i < length ns → Adds (take i ns) was now → get_or ns i d < length now →
     Adds (take (i + 1) ns) was (slice_set now (get_or ns i d) true)
 adds_more ns i d was now within adds below = rw (take_more ns i d within) (adds_both (take i ns) (get_or ns i d ∷ []) was now _ adds

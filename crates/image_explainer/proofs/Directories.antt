@@ -11,7 +11,7 @@ module _ (g : Geometry) (es : List Entry) where
   pub no_directory : (part : DirectoryPart) → BreaksDirectory g es part → IsDirectory g es → ⊥
   no_directory part broken is = grind (arith, nat_tests)
 
-  -- if entries have such a flaw, their bytes are no directory's
+  -- if entries have a flaw of `BreaksDirectory`, their bytes are no directory's
   pub no_spelling : (part : DirectoryPart) (bytes : List ℕ) → AllFitting es → bytes ≡ directory_bytes es → BreaksDirectory g es part
       → (ds : List Entry) → IsDirectory g ds → bytes ≡ directory_bytes ds → ⊥
   no_spelling part bytes fits spelt broken ds is same = grind (arith, nat_tests, one_directory, directory_fits, no_directory)

@@ -29,7 +29,7 @@ run_in image bytes at (suc n) copy inside =
     ∙ ap (λ (r : List ℕ). take 512 (drop (512 * at) bytes) ++ r) rest
     ∙ ap (λ (b : List ℕ). b ++ sectors_from image (at + 1) n) first
 
--- the same, cut out as the code does it
+-- a run of sectors in a copy, cut out as the code does it, is that of the image
 pub sectors_in : (image : Image) (bytes : List ℕ) (at n : ℕ) → IsCopy image bytes → 512 * (at + n) ≤ length bytes →
     take (at * 512 + 512 * n - at * 512) (drop (at * 512) bytes) ≡ sectors_from image at n
 sectors_in image bytes at n copy inside =

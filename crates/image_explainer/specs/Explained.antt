@@ -11,7 +11,7 @@ use Rattle.kernel.specs.Opening.{IsNoReason}
 use Rattle.image_explainer.specs.declared.fault.ImageFault.{ImageFault}
 use Rattle.image_explainer.specs.Breaking.{Breaks, reason_of}
 
--- the image denotes a saved state; or the fault's reason is the least that applies, and the fault is there
+-- the image denotes a saved state; or it has this fault, with the least reason that applies
 abbrev pub IsExplainedBy : ℕ → Image → Option ImageFault → Type 0
 IsExplainedBy size c None = (g : Geometry) × (saved : Saved) × Denotes g size c saved
 IsExplainedBy size c (Some f) = IsBad size c (reason_of f) × Breaks size c f

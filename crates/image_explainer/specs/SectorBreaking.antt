@@ -191,6 +191,6 @@ BreaksSectors size c (fault.Frame number is_page part) =
     × ((f : Frame) → IsFrameOf p.geometry h.age number (frame_in c p h.generation es number) f → ⊥)
     × BreaksFrame p.geometry h.age number (frame_in c p h.generation es number) part
 
--- the fault's reason is the least that applies, and the fault is there
+-- the image has this fault, with the least reason that applies
 abbrev pub IsFault : ℕ → Image → SectorFault → Type 0
 IsFault size c f = IsBadBy c size (sector_reason f) × BreaksSectors size c f

@@ -85,7 +85,7 @@ module _ {D S : Type 0} (disk : D → Disk) (view : S → View D) (parts : S →
       last input input_left output output_left outcome
       × IsDeviceOf disk view parts last back
 
-  -- the same, and an observer saw each turn
+  -- a kernel was opened on the device, and an observer saw a script run over it with this outcome
   abbrev pub OpensAndSees : {O : Type 0} → (Geometry → Turn → O → O → Bool → Type 0) → D → D → O → O
       → Option (List ℕ) → Option (List ℕ) → Written → Written → Result (Unit {0}) RunFault → Type 0
   OpensAndSees sees device back before after input input_left output output_left outcome =
@@ -93,7 +93,8 @@ module _ {D S : Type 0} (disk : D → Disk) (view : S → View D) (parts : S →
       × RunsSeen disk view parts sees first last before after input input_left output output_left outcome × IsDeviceOf
       disk view parts last back
 
-  -- a script was run and observed like this; or the device wasn't opened, and nothing was read, written or observed
+  -- an observer saw a script run over the image; or the device wasn't opened, and nothing was read, written or
+  -- observed
   abbrev pub SeesImage : {O : Type 0} → (Geometry → Turn → O → O → Bool → Type 0) → D → D → O → O
       → Option (List ℕ) → Option (List ℕ) → Written → Written →
       Result (Result (Unit {0}) RunFault) OpenFault → Type 0

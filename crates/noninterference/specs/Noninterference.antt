@@ -20,8 +20,8 @@ depends_on_supply bank.NewBank = true
 depends_on_supply bank.Remaining = true
 depends_on_supply _ = false
 
--- whether invoking this capability with this first word looks outside: it is such an order of a bank, or starts a
--- process that is no member
+-- whether invoking this capability with this first word looks outside: its order depends on free numbers or on the
+-- banks above, or it starts a process that is no member
 abbrev pub looks_outside : (ℕ → Bool) → Capability → ℕ → Bool
 looks_outside inside (Bank b) w = elim (bank_order w) [ None ↦ false | Some requested ↦ depends_on_supply requested ]
 looks_outside inside (Start p key) w = not (inside p)

@@ -87,7 +87,7 @@ new_nodes =
     ) ∷ [])
     ∷ []
 
--- so does a new bank
+-- a new bank gets the first free number, and the worlds differ in it
 abbrev pub new_banks : List Row
 new_banks =
     row (at_world e0) (("call 1 1 4 3 0 0 0 0 0 0", "done") ∷ (

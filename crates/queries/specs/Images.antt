@@ -14,7 +14,7 @@ pub record ReadsSaved {D : Type 0} (disk : D → Disk) (device back : D) (state 
   pub failures : (disk back).failures ≡ (disk device).failures
   pub only_reads : OnlyReads (disk device) (disk back)
 
--- a device was read like this, and x is what `Is` says of its saved state
+-- x is what `Is` says of the saved state of a device that was only read
 abbrev pub IsReadFrom : {D T : Type 0} → (D → Disk) → (SavedState → T → Type 0) → D → D → T → Type 0
 IsReadFrom disk Is device back x = (s : SavedState) × ReadsSaved disk device back s × Is s x
 
@@ -47,7 +47,7 @@ pub record IsDescribedIn (p : Plan) (g : Geometry) (age : ℕ) (frames : List Fr
     pub ranges : description.ranges.items ≡ grown_ranges p.geometry g (map numbers_of p.ranges)
     pub layout : description.layout ≡ version_number p.version
 
--- The text is the one text of such a description, and is read as this description.
+-- The text is the one text of a description as in `IsDescribedIn`, and is read as this description.
 pub record IsTextIn (p : Plan) (g : Geometry) (age : ℕ) (frames : List Frame) (text : List ℕ) : Type 0 where
   pub table : Members
   pub read : parse_document text ≡ Some table
@@ -74,8 +74,8 @@ abbrev pub TellsWhole : Sizes → SavedState → (List ℕ → Type 0) → Type 
 TellsWhole sizes s Reported = (text : List ℕ)
     × IsTextIn s.plan (grown_geometry s.plan.geometry sizes) s.header.age s.frames text × Reported text
 
--- such a text was written; or it couldn't be written whole; or an image of these sizes can't have the objects; or
--- memory ran out
+-- the text that describes the saved state for an image of these sizes was written; or it couldn't be written whole;
+-- or an image of these sizes can't have the objects; or memory ran out
 abbrev pub TellsGrownState : Sizes → SavedState → Written → Written → Result (Unit {0}) Fault → Type 0
 TellsGrownState sizes s output output_left (Ok a) = TellsWhole sizes s (Wrote output output_left)
 TellsGrownState sizes s output output_left (Err fault.CannotWriteOutput) = TellsWhole sizes s
@@ -86,7 +86,8 @@ TellsGrownState sizes s output output_left (Err (fault.Sizes why)) =
 TellsGrownState sizes s output output_left (Err fault.NoMemory) = output_left ≡ output
 TellsGrownState sizes s output output_left (Err _) = ⊥
 
--- the same for a device; or it wasn't opened, or memory ran out
+-- what `describe` does: `TellsGrownState` for the device's saved state; or the device wasn't opened, or memory ran
+-- out
 abbrev pub DescribesImage : {D : Type 0} → (D → Disk) → Sizes → D → D → Written → Written →
     Result (Unit {0}) Fault → Type 0
 DescribesImage disk sizes device back output output_left outcome = TellsImage disk device back output output_left

@@ -71,7 +71,7 @@ TellsInfo f s output output_left (Err fault.CannotWriteOutput) = WroteFront outp
     (info_text f (info_lines s.plan (saved_of (kept_of s))))
 TellsInfo f s output output_left (Err _) = ⊥
 
--- the same for a device; or it wasn't opened, or memory ran out
+-- what `info` does: `TellsInfo` for the device's saved state; or the device wasn't opened, or memory ran out
 abbrev pub InspectsImage : {D : Type 0} → Format → (D → Disk) → D → D → Written → Written →
     Result (Unit {0}) Fault → Type 0
 InspectsImage f disk device back output output_left outcome = TellsImage disk device back output output_left

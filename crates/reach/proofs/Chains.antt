@@ -102,7 +102,7 @@ closed_by_steps os follows inside continues = record {
       (refl, conveys) is);
 }
 
--- no step leaves a closed set; the parameters: such a set
+-- the parameters: a closed set, which no step leaves
 module _ (os : List Object) (follows : Links) (inside : ℕ → Bool) (closed : IsClosedFor follows os inside) where
   held_inside : (n i : ℕ) (x : Content Capability) → content_at os n ≡ x → IsTrue (inside n) →
       StaysFor follows inside (slice_index_or (held_by os x) i Void)

@@ -124,7 +124,7 @@ finds_by follows from by c to level a b conveys = finds_same (IsTheStep (record 
     (IsBy follows from by c) level a b
     (λ s is. (is.0, is.1, rw is.2 conveys)) (λ s is. (is.0, is.1, same_Some s.to to (sym is.2.2 ∙ conveys.2)))
 
--- following the first i capabilities and then the next follows i + 1
+-- following the first i capabilities and then the next follows the first i + 1
 pub held_next : (follows : Links) (slots : List Capability) (i from level : ℕ) (a b c : Levels) →
     FindsBy (IsHeldIn follows slots i from) level a b → FindsBy (IsBy follows from (way.Slot i (slice_index_or slots i Void))
     (slice_index_or slots i Void)) level b c → FindsBy (IsHeldIn follows slots (i + 1) from) level a c
@@ -134,7 +134,7 @@ held_next follows slots i from level a b c first next = finds_both (IsHeldIn fol
     (λ s held. (held.0, omega (arith, held.1), held.2)) (λ s by. (i, omega arith, by))
     grind (arith, nat_tests) first next
 
--- following the first i numbers that a bank may own and then the next follows i + 1
+-- following the first i numbers that a bank may own and then the next follows the first i + 1
 pub owned_next_step : (os : List Object) (i bank level : ℕ) (step : Step) (a b c : Levels) → step.from ≡ bank → step.way ≡ way.Owner →
     step.to ≡ i → is_free (content_at os i) ≡ false → owner_at os i ≡ bank → FindsBy (IsOwnedBelow os i bank) level a b →
     FindsBy (IsTheStep step) level b c → FindsBy (IsOwnedBelow os (i + 1) bank) level a c

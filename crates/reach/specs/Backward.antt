@@ -9,7 +9,7 @@ use Rattle.reach.specs.Reached.{CanChange}
 abbrev pub others : (ℕ → Bool) → ℕ → Bool
 others inside n = not (inside n)
 
--- how many numbers aren't marked
+-- how many numbers of a set aren't marked
 abbrev pub unmarked : List Bool → ℕ
 unmarked [] = 0
 unmarked (true ∷ marks) = unmarked marks

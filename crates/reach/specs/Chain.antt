@@ -32,7 +32,7 @@ IsWay os follows n x way.Owner m = IsTrue (is_bank x) × (is_free (content_at os
 IsWay os follows n x (way.Space c) m = ((root_in x).space ≡ c) × Conveys follows c m
 IsWay os follows n x (way.Slot i c) m = (slice_index_or (held_by os x) i Void ≡ c) × Conveys follows c m
 
--- this step is one: its first object has authority over its second in this way
+-- a step: its first object has authority over its second, in the step's way
 abbrev pub IsStep : List Object → Links → Step → Type 0
 IsStep os follows s = IsWay os follows s.from (content_at os s.from) s.way s.to
 

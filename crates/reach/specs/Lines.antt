@@ -77,7 +77,7 @@ object_pulls f os n o = elim o.content [
   | _ ↦ []
 ]
 
--- the same, if the object is a member
+-- these lines, if the object is a member
 abbrev pub member_pulls : Format → List Object → List Bool → ℕ × Object → List ℕ
 member_pulls f os marks p = if is_marked marks p.0 then object_pulls f os p.0 p.1 else []
 

@@ -16,7 +16,7 @@ abbrev pub StaysAs : Purpose → (ℕ → Bool) → (ℕ → Bool) → Capabilit
 StaysAs purpose.Change trusted inside c = StaysBut trusted inside c
 StaysAs purpose.Read trusted inside c = NamesBut trusted inside c
 
--- the same for the purpose and the trusted processes of a search
+-- a capability stays inside a set, for the purpose and the trusted processes of a search
 abbrev pub StaysFor : Links → (ℕ → Bool) → Capability → Type 0
 StaysFor l inside c = StaysAs l.purpose l.trusted inside c
 

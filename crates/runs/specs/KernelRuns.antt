@@ -136,7 +136,8 @@ module _ {D S : Type 0} (disk : D → Disk) (view : S → View D) (parts : S →
       (g : Geometry) (m : Machine) → Stands disk view parts g old m →
       (turns : List Turn) × IsRunOf g m old new turns × Does turns input input_left output output_left result
 
-  -- the same, for a run whose turns an observer saw
+  -- for each machine that the kernel stands for, there is a run of it that read and wrote this, and an observer saw
+  -- its turns
   abbrev pub RunsSeen : {O : Type 0} → (Geometry → Turn → O → O → Bool → Type 0) → Power D S → Power D S → O → O
       → Option (List ℕ) → Option (List ℕ) → Written → Written → Result (Unit {0}) RunFault → Type 0
   RunsSeen sees old new before after input input_left output output_left result =

@@ -62,7 +62,7 @@ module _ {D S : Type 0} (disk : D → Disk) (view : S → View D) (parts : S →
   CrashesAreSurvived = (g : Geometry) (old new : Power D S) (t : Turn) → IsTurnOf disk view parts g old new t →
       IsSurvived g old new (MaySaveIn t)
 
-  -- the same for a crash at any moment of a run, and the states that may be saved in the run
+  -- if a crash comes at any moment of a run, the image opens at a state that may be saved in the run
   abbrev pub CrashesInRunsAreSurvived : Type 0
   CrashesInRunsAreSurvived = (g : Geometry) (m : Machine) (old new : Power D S) (turns : List Turn) →
       Stands disk view parts g old m → IsRunOf disk view parts g m old new turns →

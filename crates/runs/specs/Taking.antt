@@ -47,7 +47,8 @@ module _ {D S O : Type 0} (disk : D → Disk) (view : S → View D) (parts : S �
     pub is_seen : sees g (record { line = text; before = m; reply = reply; after = after }) before seen on
     pub writes : IsWritten written wrote result on (reply_text reply)
 
-  -- the same, for whatever the line says
+  -- a line was carried out, whatever it says: its reply, the machine after it, what a crash leaves, and what the
+  -- observer saw
   abbrev pub TakesLine : Geometry → Machine → List ℕ → Power D S → Power D S → O → O → Written → Written →
       Result Bool RunFault → Type 0
   TakesLine g m text old new before seen written wrote result = (says : Line) × Says text says × TakesTurn g m text says

@@ -1,4 +1,4 @@
--- The decimal text of a number, and the words that are such texts.
+-- The decimal text of a number, and words that are decimal texts.
 use Rattle.script.proofs.Names.{nat_tests, ℕ, List, Option, length, get_or, take, decimal, sym, ap, subst, arith, IfSome, IfNone, IsInRange, digit_value_digit}
 use Rattle.script.proofs.Names.{AllDigits, digits_value, decimal_nonempty, first_decimal, decimal_digit, digits_decimal, digits_value-decimal}
 use Rattle.script.proofs.Names.{decimal-digits_value, digits_value_more, digits_more, IsNumeralModel, numerals_by_value, tells_digits, digits_value-take-le}

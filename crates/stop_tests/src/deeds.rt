@@ -107,7 +107,7 @@ impl Task<'_> {
         Ok(())
     }
 
-    /// The same for each of these outcomes of a power cut.
+    /// Does a deed again and again in this way, for each of these outcomes of a power cut.
     pub(crate) fn try_outcomes<W: Write>(
         &self,
         deed: &Deed,

@@ -10,7 +10,7 @@ use Rattle.script.specs.declared.fault.RunFault.TheVariants as run
 use Rattle.vezhnake.specs.declared.session.CallsFault.TheVariants as lost
 use Rattle.vezhnake.specs.declared.status.Status.TheVariants as status
 
--- The parameters: the session before and after a call, whose kernel did its work before the device calls were collected.
+-- The parameters: a session before and after a call, and its kernel after the call.
 module _ (old new : Session) (kernel : HostKernel) (same : new.kernel ≡ kernel) where
   -- ---- running a text
 

@@ -52,7 +52,7 @@ module _ {S : Type 0} (view : S → View HostDevice) (parts : S → Parts) where
       StorageLeaves d.sectors d.file.history.first (take k d.file.history.calls) c →
       (s : Saved) × MaySave m turns s × Denotes g (disk_beneath old).sectors c s
 
-  -- the same for every run from the old kernel to the new one
+  -- what `Survives` says, for every run from the old kernel to the new one
   abbrev pub RunsSurvive : Power HostDevice S → Power HostDevice S → Type 0
   RunsSurvive old new = (g : Geometry) (m : Machine) (turns : List Turn) → Stands host_disk view parts g old m →
       IsRunOf host_disk view parts g m old new turns → Survives g m old new turns

@@ -26,7 +26,7 @@ abbrev pub IsNumbered : Geometry → Turn → Option Command → RawReply → Ty
 IsNumbered g t (Some c) r = (served : Served) × IsTurnFor g t c served × (r ≡ numbers_of served)
 IsNumbered g t None r = ⊥
 
--- the same for each turn, command and reply
+-- each turn, command and reply are as `IsNumbered` says
 abbrev pub AreNumbered : Geometry → List Turn → List (Option Command) → List RawReply → Type 0
 AreNumbered g [] [] [] = Unit {0}
 AreNumbered g (t ∷ ts) (c ∷ cs) (r ∷ rs) = IsNumbered g t c r × AreNumbered g ts cs rs
