@@ -266,8 +266,8 @@ fn info_of<'a>(inner: &ArgMatches<'a>) -> Option<Job<'a>>
     Some(Job::Info { image, json })
 }
 
-// Returns the `reach` job for these matches, processes and trusted processes, or `None` if there is no image
-// argument or an option has no valid number.
+// Returns the `reach` job for these matches, processes and trusted processes. Returns `None` if there is no image
+// argument, or if an option has no valid number.
 fn reach_from<'a>(inner: &ArgMatches<'a>, processes: Vec<u64>, trusted: Vec<u64>) -> Option<Job<'a>>
     ensures named { AreNumbersIfAny (rows_of (found_of inner.now)) (codes "P") processes.items
         → AreNumbersIfAny (rows_of (found_of inner.now)) (codes "trust") trusted.items → IfSome result (IsJob (codes "reach") (rows_of (found_of inner.now))) }
@@ -468,8 +468,8 @@ fn requested<'a>(
 }
 
 // Reads a command line from its words. Fails with clap's error if the words are wrong for the command or ask for
-// help, with `ValueValidation` if both files of an upgrade or a copy are the same, and with `OutOfMemory` if memory
-// runs out.
+// help. Fails with `ValueValidation` if both files of an upgrade or a copy are the same, and with `OutOfMemory` if
+// memory runs out.
 pub(crate) fn read_line<'a, S: AsStr>(
     alloc: Global,
     command: &mut Command<'a>,

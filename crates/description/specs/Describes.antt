@@ -1,4 +1,4 @@
--- That a description describes a world.
+-- Descriptions of worlds.
 use Rattle.description.specs.Names.{List, map, fresh_cap, map_content, World, Frame, Geometry, Object}
 use Rattle.std.specs.Prelude.{◌≡◌}
 use Rattle.description.specs.Described.{HasFields, HasNumbers, IsDescribed, first_frame}

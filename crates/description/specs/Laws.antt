@@ -1,5 +1,5 @@
--- What the definitions of this crate determine: each number has one form, each text at most one capability, each
--- table at most one description, and each description at most one first broken rule.
+-- What the definitions of this crate determine: a number has one form, a text names at most one capability, and a
+-- table is read as at most one description, which has at most one first broken rule.
 use Rattle.description.specs.Names.{ℕ, List, [], IfSome, IsWellFormed, named, capability_text, Capability, Data}
 use Rattle.description.specs.Names.{Members}
 use Rattle.std.specs.Prelude.{◌≡◌, ◌^◌, ◌<◌, ◌∷◌}

@@ -1,4 +1,4 @@
--- That described frames are whole processes.
+-- Described frames are whole processes.
 use Rattle.description.specs.Names.{List, Frame, AreWholeProcesses}
 use Rattle.description.specs.declared.entry.Description.{Description}
 use Rattle.description.specs.Described.{HasFields, HasNumbers, IsDescribed}

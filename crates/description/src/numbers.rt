@@ -143,8 +143,7 @@ fn first_twice(
     Ok(None)
 }
 
-// Returns the two objects at these places of the list of all numbers, or `None` if there are no
-// places.
+// Returns the two objects whose numbers are at these places, or `None` if `found` is.
 fn named_twice(
     description: &Description,
     nodes: usize,

@@ -79,8 +79,7 @@ fn explain_frames(
     }
 }
 
-// Returns the rule that keeps a description from having a world, or fails if that was lack of
-// memory.
+// Returns the rule that a description without a world breaks. Fails if memory ran out instead.
 fn rule_of(why: WorldFault) -> Result<Option<Rule>, AllocError>
     ensures { (d : Description) → IsWithinLimits d → BreaksWorld d why
         → IfOk result (λ found. ExplainsDescription d found) }
@@ -130,7 +129,7 @@ fn place_of<'a>(description: Description, found: Option<Rule>) -> Option<Place<'
     }
 }
 
-// Returns the place at which a table couldn't be read, or fails if memory ran out.
+// Returns the place where a table can't be read. Fails if memory ran out instead.
 fn unread<'a>(why: Misread<'a>) -> Result<Option<Place<'a>>, AllocError>
     ensures { (table : Members) → Misses (BreaksShape table) why.entry → IfOk result (Explains table) }
 {

@@ -506,8 +506,8 @@ pub fn on_one_line(words: &str) -> &str
     }
 }
 
-/// Returns the line that names a place in a description's table, says what is wrong there, and ends with the
-/// number of the fault that `build` returns. Fails only if memory runs out.
+/// Returns the line of an explanation. It names a place in a description's table, says what is wrong there, and
+/// ends with the number of the fault that `build` returns. Fails only if memory runs out.
 pub fn explanation(alloc: Global, table: &Table, place: &Place<'_>) -> Result<String, AllocError>
     ensures { IfOk result (λ text. IsExplanation place.now (string_bytes text)) }
 {

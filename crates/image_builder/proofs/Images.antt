@@ -1,4 +1,4 @@
--- That a built image is an image of its description.
+-- A built image is an image of its description.
 use Rattle.image_builder.proofs.Names.{List, ap, inl, inr, subst, ⊎_elim, Members, Cap, Frame, ObjectHeader, Content, frames_in, IsSoundFrames, Disk, Image}
 use Rattle.image_builder.proofs.Names.{Elsewhere, LeavesOnly, OnlyNow, leaves_weaker, started, Encodes, Plan, Holds, IsLeftWriting, first_saved, first_state}
 use Rattle.image_builder.proofs.Names.{kept_holds_the_same, none_is_held, IsDescription, Description, Builds, IsLeftOf, IsLeftBuilding, IsSoundDescription}

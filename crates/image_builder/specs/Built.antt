@@ -4,8 +4,8 @@ use Rattle.image_builder.specs.Names.{SavedFrames, first_saved, first_state, Des
 use Rattle.image_builder.specs.Names.{EndInZeros, IsAccepted, [], plan_for}
 use Rattle.std.specs.Prelude.{◌≡◌, ◌⊎◌, if◌then◌else◌}
 
--- an image of the description was built: it has the described frames, which stand for a sound world, the described
--- age, generation 0 and an empty log, with zeros after the frames of each cluster. A crash leaves the same
+-- an image of the description was built. It has the described frames, which stand for a sound world, and zeros after
+-- the frames of each cluster. It has the described age, generation 0 and an empty log. A crash leaves the same
 pub record Builds (d : Description) (old new : Disk) : Type 0 where
   pub accepted : IsAccepted d old.sectors
   pub frames : List Frame

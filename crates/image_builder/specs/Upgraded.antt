@@ -33,8 +33,8 @@ upgraded l s = record {
   frames = s.frames;
 }
 
--- the old device's saved state, which stands for a sound world, was written to a new device in the new layout, with
--- zeros after the frames of each cluster. A crash leaves the same
+-- the old device's saved state, which stands for a sound world, was written to a new device in the new layout. Zeros
+-- follow the frames of each cluster. A crash leaves the same
 pub record Upgrades (l : NewLayout) (old before new : Disk) : Type 0 where
   pub state : SavedState
   pub was : Encodes old.seen old.sectors state

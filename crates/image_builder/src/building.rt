@@ -48,8 +48,10 @@ pub fn sectors_needed(alloc: Global, table: &Table) -> Result<u64, BuildFault>
 ///
 /// After every fault but `Failed` the device is unchanged. After `Failed` the image's sectors may hold any bytes.
 ///
-/// A crash at any moment, even after `Failed`, leaves an image that it could have left before the call, the whole new
-/// image, or an image that doesn't open because no header is committed.
+/// A crash at any moment, even after `Failed`, leaves one of:
+/// - an image that a crash could have left before the call;
+/// - the whole new image;
+/// - an image that doesn't open, because no header is committed.
 pub fn build<D: Device>(alloc: Global, table: &Table, device: &mut D) -> Result<(), BuildFault>
     ensures built { OnOk result
         (BuildsFrom (table_view table.now) (D.disk device.old) (D.disk device.new)) }

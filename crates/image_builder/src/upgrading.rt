@@ -254,9 +254,9 @@ pub fn upgrade_and_count<D: ClosableDevice, E: Device, S: WholeStore<D>>(
 /// Opens an old device as a kernel does, and writes its saved state to a new device in a new layout, over any
 /// content.
 ///
-/// The new image has the same frames, generation, entries and age, sequence number 0, the same home ranges from
-/// sector 5 on, and log slots in order. After `Ok` a read of the new device returns that image, even after a crash.
-/// The old image may have the new version already.
+/// The new image has the same frames, generation, entries, age and home ranges. The ranges lie from sector 5 on, the
+/// log slots are in order, and the sequence number is 0. After `Ok` a read of the new device returns that image, even
+/// after a crash. The old image may have the new version already.
 ///
 /// Returns:
 /// - `Old`: exactly if a kernel doesn't open the old device, with the reason, unless memory ran out;
@@ -266,9 +266,12 @@ pub fn upgrade_and_count<D: ClosableDevice, E: Device, S: WholeStore<D>>(
 ///
 /// After every fault but `Failed` the new device is unchanged. After `Failed` the image's sectors may hold any bytes.
 ///
-/// A crash of the new device at any moment, even after `Failed`, leaves an image that it could have left before the
-/// call, the whole new image, or an image that doesn't open because no header is committed. The old device is only
-/// read, and closed at the end.
+/// A crash of the new device at any moment, even after `Failed`, leaves one of:
+/// - an image that a crash could have left before the call;
+/// - the whole new image;
+/// - an image that doesn't open, because no header is committed.
+///
+/// The old device is only read, and closed at the end.
 pub fn upgrade<D: ClosableDevice, E: Device, S: WholeStore<D>>(
     alloc: Global,
     old: D,

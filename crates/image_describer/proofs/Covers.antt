@@ -1,4 +1,4 @@
--- That the home ranges of an image may be laid out again.
+-- The home ranges of an image may be laid out again.
 use Rattle.image_describer.proofs.Names.{List, map, sym, subst, IsPlan, Plan, NumberRange, MayBeLaid, numbers_of}
 use Rattle.std.proofs.Common.{◌≡◌}
 use Rattle.home_ranges.proofs.LaidAgain as again

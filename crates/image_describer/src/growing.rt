@@ -66,7 +66,7 @@ fn moved_capability(old: Geometry, new: Geometry, capability: Capability) -> Cap
     }
 }
 
-// Returns the same for a capability that may be absent.
+// Returns a capability, if there is one, to the same object in an image of other sizes.
 fn moved_held(old: Geometry, new: Geometry, capability: Option<Capability>) -> Option<Capability>
     requires old { object_count old ≤ 8192 }
     requires new { new.nodes ≤ 4096 }

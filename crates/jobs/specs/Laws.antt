@@ -1,4 +1,4 @@
--- That a built image can be run.
+-- A built image can be run.
 use Rattle.jobs.specs.Names.{ℕ, List, Frame, IsSoundFrames, world_at, Image, Holds, first_saved, Denotes, Description}
 use Rattle.std.specs.Prelude.{◌≡◌, ◌≤◌}
 

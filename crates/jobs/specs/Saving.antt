@@ -37,8 +37,8 @@ module _ {D S : Type 0} (disk : D → Disk) (view : S → View D) (parts : S →
   SavesIf (Ok a) old new output output_left end = SavesAndTells old new output output_left end
   SavesIf (Err e) old new output output_left end = (new ≡ old) × (output_left ≡ output) × (end ≡ Ok tt)
 
-  -- a kernel was opened, an observer saw a script run over it, and if the script was read to its end, the present
-  -- state was saved; or the device wasn't opened, and nothing was read or written
+  -- a kernel was opened, and an observer saw a script run over it; if the script was read to its end, the present
+  -- state was saved. Or the device wasn't opened, and nothing was read or written
   abbrev pub SavesImage : {O : Type 0} → (Geometry → Turn → O → O → Bool → Type 0) → D → D → O → O
       → Option (List ℕ) → Option (List ℕ) → Written → Written →
       Result (Result (Unit {0}) RunFault) OpenFault → Result (Unit {0}) Fault → Type 0

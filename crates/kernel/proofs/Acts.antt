@@ -1,4 +1,4 @@
--- That a kernel serves a command (`ServesUp`) if it refuses it, if it carries it out, and if the device fails.
+-- Commands that are served (`ServesUp`): refused, carried out, or ended by a failure of the device.
 use Rattle.kernel.proofs.Names.{nat_tests, ℕ, Bool, Option, None, Some, Err, List, [], length, refl, sym, ap, subst, arith, Answer, Refusal, Command, Geometry}
 use Rattle.kernel.proofs.Names.{AreKeepable, IsSoundFrames, world_at, Frozen, Running, Saved, Up, touched_count, untouched, Step, refusal_of, second, Image}
 use Rattle.kernel.proofs.Names.{Disk, IsCommitAnswer, IsFreezeAnswer, IsRefused, Holds, LeavesSaved, LeavesEither, Parts, frames_of, objects_in, keepable_count}

@@ -1,4 +1,4 @@
--- Journaling a page: the machine after it, what a crash leaves, and that each outcome is served.
+-- Journaling a page: the machine after it, what a crash leaves, and its outcomes.
 use Rattle.kernel.proofs.Names.{ℕ, Bool, true, false, not, Option, None, Some, List, [], map, length, set, length-set, refl, sym, ap, subst, arith, nat_lt}
 use Rattle.kernel.proofs.Names.{slice_index_or, All, get_or-map, map-set_same, nat_tests, get_or_past, map-set, All-nil, Refusal, NotPage, Renewed, Cap}
 use Rattle.kernel.proofs.Names.{Capability, Frame, ObjectHeader, Geometry, Content, Object, Role, blank_frame, conveyed, frame_at, header_at, headers, held_at}

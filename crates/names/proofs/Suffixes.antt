@@ -8,7 +8,7 @@ use Rattle.std.specs.List.{suffix_len}
 use Rattle.names.specs.Output.{is_in_line}
 
 module _ (p : ℕ → Bool) (text : List ℕ) where
-  -- all bytes after the first n pass the test, so the passing bytes at the end are these and those at the end of the first n
+  -- all bytes after the first n pass the test: the passing bytes at the end are these, and those at the end of the first n
   abbrev pub FollowFrom : ℕ → Type 0
   FollowFrom n = (n ≤ length text) × (suffix_len p text ≡ (length text - n) + suffix_len p (take n text))
 

@@ -60,8 +60,8 @@ abbrev pub HasRoom : Turn → Type 0
 HasRoom t = (t.reply ≡ Reported (answer.Refused refusal.Worn) → ⊥)
     × (t.reply ≡ Reported (answer.Refused refusal.LogFull) → ⊥)
 
--- noninterference. Two runs have the same lines, all by members, and begin with the same objects in the set. If no
--- turn looks outside, or is refused for the age or a full log, the runs have the same answers and end with the same
+-- noninterference. Two runs have the same lines, all by members, and begin with the same objects in the set. No turn
+-- looks outside, or is refused for the age or a full log. Then both runs have the same answers and end with the same
 -- objects in the set
 abbrev pub RunsAreNoninterferent : Type 0
 RunsAreNoninterferent = (g : Geometry) (trusted inside : ℕ → Bool) (s t q r : Running) (turns others : List Turn) →

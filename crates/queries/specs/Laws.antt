@@ -18,8 +18,8 @@ DescribedIsDenoted = (p : Plan) (age : ℕ) (frames : List Frame) (text : List �
     IsTextOf p age frames text → parse_document text ≡ Some table → IsDescription table d → IsSavedOf d saved →
     Holds size c saved → Denotes p.geometry size c (anew age frames)
 
--- The description of a world, with a version that programs open and home ranges that an image may have, is accepted
--- on each device with enough sectors.
+-- Take a description of a world, with a version that programs open and home ranges that an image may have. It is
+-- accepted on each device with enough sectors.
 abbrev pub DescribedIsAccepted : Type 0
 DescribedIsAccepted = (g : Geometry) (age : ℕ) (fs : List Frame) (d : Description) (v : Version) (sectors : ℕ) →
     IsSoundFrames g age fs → Describes g (world_at age fs) d →

@@ -8,7 +8,7 @@ pub fn described_is_denoted()
     ensures { DescribedIsDenoted }
 {}
 
-/// The description of a world, with a version and home ranges that an image may have, is accepted by `build` on
+/// Take a description of a world, with a version and home ranges that an image may have. `build` accepts it on
 /// each device with enough sectors.
 pub fn described_is_accepted()
     ensures { DescribedIsAccepted }

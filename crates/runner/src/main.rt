@@ -111,9 +111,9 @@ fn open(rt: &HostRuntime, image: &str) -> Result<FileDevice, Refusal> {
     }
 }
 
-// Refuses a file that is neither a regular file nor a block device, such as a FIFO, because opening that to read
-// waits until somebody writes to it. If the file is replaced before it is opened, the command may still wait. It
-// then checks what it opens, as it does any image.
+// Refuses a file that is neither a regular file nor a block device, such as a FIFO. Opening one to read would wait
+// until somebody writes to it. If the file is replaced before it is opened, the command may still wait. It then
+// checks what it opens, as it does any image.
 fn refuse_pipe(rt: &HostRuntime, image: &str) -> Result<(), Refusal> {
     let kind = match fs::metadata(rt, image) {
         Ok(found) => found.file_type(),

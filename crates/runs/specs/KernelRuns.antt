@@ -57,11 +57,11 @@ pub record IsCutShort (turns : List Turn) (output output_left : Written) : Type 
 -- What a run with these turns read and wrote.
 -- - Ok: all of the input was read, and each of its lines is a turn whose answer was written.
 -- - The reader failed: the same holds of the lines that were read whole.
--- - The writer failed: the turns are the first of the lines that were read whole, or all lines if the input ended,
---   and only the last answer may be cut short. Or it accepted the answers to all of these lines, and didn't pass
---   them on.
--- - The observer ended the run: the turns are the first of the lines that were read whole, or all lines if the input
---   ended, and each was answered.
+-- - The writer failed: the turns are the first of the lines that were read whole, or of all lines if the input
+--   ended. Only the last answer may be cut short. Or the writer accepted the answers to all of these lines, and
+--   didn't pass them on.
+-- - The observer ended the run: the turns are the first of the lines that were read whole, or of all lines if the
+--   input ended. Each was answered.
 abbrev pub Does : List Turn → Option (List ℕ) → Option (List ℕ) → Written → Written → Result (Unit {0}) RunFault →
     Type 0
 Does turns input input_left output output_left (Ok a) =
@@ -145,8 +145,9 @@ module _ {D S : Type 0} (disk : D → Disk) (view : S → View D) (parts : S →
       (turns : List Turn) × IsRunOf g m old new turns × Does turns input input_left output output_left result
       × (on : Bool) × AreSeen (sees g) before after turns on × EndsBy on result
 
-  -- The authority bound. Take a kernel that is up before and after. If every line is by a process of a closed set, or
-  -- by one that these made from free numbers, each object outside the set that wasn't free is kept.
+  -- The authority bound. Take a kernel that is up before and after. Every line that was read is by a process of a
+  -- closed set, or by one that these made from free numbers. Then each object outside the set that wasn't free is
+  -- kept.
   abbrev pub IsConfined : Power D S → Power D S → Option (List ℕ) → Option (List ℕ) → Type 0
   IsConfined old new input input_left = (g : Geometry) (s t : Running) → Stands disk view parts g old (Up s) →
       Stands disk view parts g new (Up t) →

@@ -33,8 +33,8 @@ MaySave m (t ∷ ts) s = MaySaveIn t s ⊎ MaySave t.after ts s
 
 -- The parameters: the ghost members of a device and of an object store.
 module _ {D S : Type 0} (disk : D → Disk) (view : S → View D) (parts : S → Parts) where
-  -- the authority bound: if a run has only invocations, loads and stores by processes of a closed set, or by those
-  -- that they make from free numbers, each object outside the set that wasn't free is kept
+  -- the authority bound. Take a run of invocations, loads and stores by processes of a closed set, or by those that
+  -- they make from free numbers. Then each object outside the set that wasn't free is kept
   abbrev pub RunsAreConfined : Type 0
   RunsAreConfined = (g : Geometry) (s t : Running) (old new : Power D S) (turns : List Turn) (inside : ℕ → Bool) →
       Stands disk view parts g old (Up s) → Stands disk view parts g new (Up t) →

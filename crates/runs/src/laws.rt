@@ -13,22 +13,22 @@ pub fn steady_runs_agree()
     ensures { SteadyRunsAgree }
 {}
 
-/// Take a run whose lines are all invocations, loads and stores by processes of a closed set, or by processes that
-/// these make from free numbers. If the kernel is still up at the end, each object outside the set that wasn't free
-/// is unchanged, except that capabilities in it to members may be void (EROS: confinement).
+/// Take a run of invocations, loads and stores by processes of a closed set, or by those that they make from free
+/// numbers. If the kernel is still up at the end, objects outside the set that weren't free are unchanged.
+/// Exception: capabilities in them to members may be void (EROS: confinement).
 pub fn runs_are_confined<D: Device, S: ObjectStore<D>>()
     ensures { RunsAreConfined D.disk S.view S.parts }
 {}
 
-/// The main theorem. If a crash comes at any moment of a turn, the image denotes a candidate of the machine before
-/// the turn, or the state that the turn's command saves. A device that holds this image opens at that state, unless
-/// the device fails or memory runs out.
+/// The main theorem. After a crash at any moment of a turn, the image denotes one of two: a candidate of the
+/// machine before the turn, or the state that the turn's command saves. A device that holds this image opens at
+/// that state, unless the device fails or memory runs out.
 pub fn crashes_are_survived<D: Device, S: ObjectStore<D>>()
     ensures { CrashesAreSurvived D.disk S.view S.parts }
 {}
 
-/// The same for whole runs. If a crash comes at any moment of a run, the image denotes a state that one of the turns
-/// may save, or a candidate of the machine after the last turn.
+/// The same for whole runs. After a crash at any moment of a run, the image denotes a state that one of the turns may
+/// save, or a candidate of the machine after the last turn.
 pub fn crashes_in_runs_are_survived<D: Device, S: ObjectStore<D>>()
     ensures { CrashesInRunsAreSurvived D.disk S.view S.parts }
 {}

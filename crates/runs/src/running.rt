@@ -203,8 +203,8 @@ fn run_turns<D: Device, S: ObjectStore<D>, R: Script, W: Output, O: Observer>(
     }
 }
 
-/// Runs a script over a kernel. It reads the script in pieces of at most 4096 bytes, which may end anywhere, and
-/// answers each line that isn't skipped before it takes the next. A line outside the grammar is answered `bad line`.
+/// Runs a script over a kernel. Answers each line that isn't skipped before it takes the next; a line outside the
+/// grammar is answered `bad line`. It reads the script in pieces of at most 4096 bytes, which may end anywhere.
 /// Answers are passed on before each read, and at the end of the input. All lines that end in a piece are answered
 /// before the next piece is read; that is tested, not proved.
 ///
@@ -213,13 +213,13 @@ fn run_turns<D: Device, S: ObjectStore<D>, R: Script, W: Output, O: Observer>(
 ///   is answered exactly if the device failed.
 /// - **Crashes.** After a crash at any moment of a line, the image denotes a candidate of the machine before the
 ///   line, or the state that its command saves.
-/// - **Confinement** (EROS). If each line is an invocation, load or store by a process of a closed set, or by one
-///   made from free numbers, objects outside the set that weren't free keep their content and owner. Exception:
+/// - **Confinement** (EROS). Let each line be an invocation, load or store by a process of a closed set, or by one
+///   made from free numbers. Then objects outside the set that weren't free keep their content and owner. Exception:
 ///   capabilities to members may become void.
 /// - **Read errors.** Returns `RunFault::Read` exactly if a read failed. Then each line whose newline was read was
 ///   answered.
 /// - **Write errors.** Returns `RunFault::Write` exactly if a call of the writer failed. Then the lines taken are
-///   the first of those read whole (at the end of the input, of all), and only the last answer may be cut short. If
+///   the first of those read whole, or of all lines if the input ended. Only the last answer may be cut short. If
 ///   the failed call was one that passes on, all of them were answered. The kernel is in the state after the lines
 ///   taken.
 ///

@@ -1,4 +1,4 @@
--- That a line contains the invocation, load or store whose numbers were read one after the other.
+-- If the numbers of an invocation, load or store were read one after the other, the line contains it.
 use Rattle.script.proofs.Names.{nat_tests, ℕ, List, [], Option, Some, length, get_or, drop, refl, ap, arith, IfSome, IsSome, lt-ltb, Command, Operation, Fits}
 use Rattle.script.proofs.Names.{command_words, operation_name, keyword_name, Words, arguments_at, invocation_at, number_at, numbers_at, register_at}
 use Rattle.script.proofs.Names.{registers_at, words_of}
@@ -58,7 +58,7 @@ void_begins a b c d pa pb pc pd is = grind (arith, nat_tests)
 void_ends : (a b c d : ℕ) → a < 256 → b < 256 → c < 256 → d < 256 → four a b c d ≡ 807415840 → (a ≡ 32) × (b ≡ 48) × (c ≡ 32) × (d ≡ 48)
 void_ends a b c d pa pb pc pd is = grind (arith, nat_tests)
 
--- if the last eight bytes are ` 0 0 0 0`, all four registers are 0
+-- if the last seven bytes are `0 0 0 0`, all four registers are 0
 pub void_read : (text : List ℕ) (at : ℕ) → length text ≡ at + 7 → ((i : ℕ) → get_or text i 0 < 256)
     → four (get_or text at 0) (get_or text (at + 1) 0) (get_or text (at + 2) 0) (get_or text (at + 3) 0) ≡ 540024880
     → four (get_or text (at + 3) 0) (get_or text (at + 3 + 1) 0) (get_or text (at + 3 + 2) 0) (get_or text (at + 3 + 3) 0) ≡ 807415840

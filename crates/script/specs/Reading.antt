@@ -31,7 +31,7 @@ first_end text = position_or_len (λ b. b == 32) text
 abbrev pub first_word : List ℕ → List ℕ
 first_word text = take (first_end text) text
 
--- a reader returned the value, and left the words, that `read` gives; or nothing if `read` gives nothing
+-- a reader returned what `read` gives: the value and the words left, or nothing
 abbrev pub Gives : {A : Type 0} → Option A → Words → Option (A × Words) → Type 0
 Gives None left read = read ≡ None
 Gives (Some x) left read = read ≡ Some (x, left)

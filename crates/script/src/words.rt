@@ -104,8 +104,8 @@ impl<'a> Words<'a> {
         }
     }
 
-    /// Takes the next word if it is `load`, `store` or an operation, the words that most lines begin with, and
-    /// the line is long enough for its numbers. Otherwise takes nothing and returns `None`.
+    /// Takes the next word if it is `load`, `store` or an operation, and the line is long enough for its numbers.
+    /// Most lines begin with these words. Otherwise takes nothing and returns `None`.
     #[inline(always)]
     pub fn common_keyword(&mut self) -> Option<Keyword>
         ensures taken { IfSome result (λ k. self.old ≡ keyword_name k ∷ self.new) }

@@ -1,4 +1,4 @@
--- That different answers have different numbers.
+-- Different answers have different numbers.
 use Rattle.vezhnake.proofs.Names.{ℕ, Option, None, Some, refl, sym, ap, Answer, MemoryFault, Refusal, NotPage, Renewed, ResultCode, RawReply}
 use Rattle.vezhnake.proofs.Names.{RepliesTellAnswers, ShowsNone, reply_of}
 use Rattle.std.proofs.Common.{◌≡◌, ◌∙◌}

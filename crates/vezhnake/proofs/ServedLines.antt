@@ -118,7 +118,7 @@ module _ {S : Type 0} (view : S → View HostDevice) (parts : S → Parts) where
     survives = serves.survives;
   }
 
-  -- no commands are served by doing nothing
+  -- doing nothing serves an empty list of commands
   pub none_served : CrashesInRunsAreSurvived host_disk view parts → (p : Power HostDevice S) → ServesEach view parts p p [] []
   none_served all p = record {
     turns = λ g m stands. ([], record { after = m; run = refl; stands = stands; each = refl }, tt);
