@@ -11,8 +11,8 @@ use layout::BadImage;
 use recovery::check;
 use std::alloc::Global;
 
-// Returns the fault for the reason why described frames are inconsistent. It is never a process, nor one of reasons
-// 1 to 7.
+// Returns the fault for the reason why described frames are inconsistent. The reason is 8 or 10: described processes
+// are always consistent.
 fn fault_for(why: BadImage) -> BuildFault
     ensures target { why ≡ BadImage.BadCapability → result ≡ BuildFault.Target }
     ensures owner { why ≡ BadImage.BadBank → result ≡ BuildFault.Owner }

@@ -6,13 +6,13 @@ use Rattle.reach.proofs.Names.{missing, slice_index_or, Links}
 use Rattle.std.proofs.Common.{◌≡◌, ◌≢◌, ◌⊎◌, ◌+◌, ◌<◌, ◌≤◌, ◌∷◌, ◌∙◌}
 use Rattle.reach.specs.declared.step.Way.TheVariants as way
 
--- the missing numbers are at most all numbers
+-- the count of missing numbers is at most that of all numbers
 pub missing_most : {X : Type 0} (xs : List (Option X)) → missing xs ≤ length xs
 missing_most [] = omega arith
 missing_most (None ∷ xs) = let rest : missing xs ≤ length xs = missing_most xs in omega (arith, rest)
 missing_most (Some x ∷ xs) = let rest : missing xs ≤ length xs = missing_most xs in omega (arith, rest)
 
--- if one more number is found, one fewer is missing
+-- if one more number is found, the count of missing numbers falls by one
 pub missing_fewer : {X : Type 0} (xs : List (Option X)) (n : ℕ) (x : X) → n < length xs → slice_index_or xs n None ≡ None →
     missing (slice_set xs n (Some x)) + 1 ≡ missing xs
 missing_fewer [] n x lt none = absurd (omega (arith, lt))

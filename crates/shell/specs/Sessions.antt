@@ -133,7 +133,7 @@ module _ {D S : Type 0} (disk : D → Disk) (view : S → View D) (parts : S →
       (next : Session D S) × StepsBy topics prompts l s next (Ok true) × AreServed topics prompts ls next t
 
   -- How a session ends: by its last line; or without one, at the end of the input or because a read failed. At the
-  -- end of the input the line of the prompt is ended.
+  -- end of the input a newline ends the line of the prompt.
   abbrev pub Finishes : List Topic → Bool → List (List ℕ) → Option (List (List ℕ)) → Session D S → Session D S →
       Result (Unit {0}) RunFault → Type 0
   Finishes topics prompts [] ahead s t (Ok u) = NoneAhead ahead × (prompted : Written)
