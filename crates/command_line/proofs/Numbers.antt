@@ -3,7 +3,7 @@ use Rattle.command_line.proofs.Names.{ap, ap₂, sym, subst, ℕ, List, [], leng
 use Rattle.command_line.proofs.Names.{All-get_or, All-more, IsUnsignedIn, Text, IsNumber, number_of, texts_of, greatest_number}
 use Rattle.std.proofs.Common.{◌≡◌, ◌∙◌, ◌<◌, ◌+◌, ◌∷◌, ◌++◌}
 
--- what stands for a missing word
+-- the value for a missing word
 abbrev pub no_word : Bor Text
 no_word = record { ref_ptr = (0, 0); now = [] }
 

@@ -34,7 +34,7 @@ client n = n == 1 || n == 2 || n == 7
 abbrev pub store : ℕ → Bool
 store n = n == 3
 
--- the client's set is closed but for the store, and not closed without it
+-- the client's set is closed but for the store, and isn't closed without this exception
 abbrev pub ClientIsClosedBut : Type 0
 ClientIsClosedBut = IsClosedBut store d0.objects client × (IsClosed d0.objects client → ⊥)
 

@@ -56,7 +56,7 @@ ranges_broken d (limit.Range i n) geometry age layout broken = (geometry, age, l
 ranges_broken d (limit.RangesEnd n) geometry age layout broken = (geometry, age, layout, broken)
 ranges_broken d other geometry age layout broken = absurd broken
 
--- a description that is otherwise within the limits is so exactly if its ranges are valid
+-- if a description keeps all limits but those of ranges, it is within the limits exactly if its ranges are valid
 pub ranges_decide : (d : Description) (rs : List NumberRange) (found : Option Limit) (v : Version) → IsGeometry d.geometry →
     rs ≡ d.ranges.items → d.layout ≡ version_number v → IsOpened v → d.age ≤ 2 ^ 62 → MatchOption found (MayBeLaid d.geometry rs)
     (λ l. BreaksRanges d.geometry rs l) → MatchOption found (IsWithinLimits d) (λ l. BreaksLimit d l)

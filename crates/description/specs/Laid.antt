@@ -50,7 +50,7 @@ slot_held s = fresh_cap (unwrap_or s.capability Void)
 unfoldable pub slots_of : List SlotEntry → List Cap
 slots_of slots = set_each (λ s. s.index) slot_held slots (replicate 32 void_held)
 
--- 512 words with those of these entries; the others are 0
+-- 512 words: those of these entries, and 0 for the others
 unfoldable pub words_of : List WordEntry → List ℕ
 words_of words = set_each (λ w. w.index) (λ w. w.word) words (replicate 512 0)
 

@@ -27,7 +27,7 @@ abbrev pub Misses : (ShapePlace → Type 0) → Misread → Type 0
 Misses At (Misshapen place) = At place
 Misses At NoMemory = Unit {0}
 
--- the result is a value with P; or the error of `Misses`
+-- the result is a value with P, or an error that `Misses` describes
 abbrev pub Reads : {A : Type 0} → (A → Type 0) → (ShapePlace → Type 0) → Result A Misread → Type 0
 Reads P At (Ok x) = P x
 Reads P At (Err e) = Misses At e

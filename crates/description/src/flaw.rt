@@ -31,7 +31,7 @@ pub enum Part {
     Words(usize, Indexed),
 }
 
-/// A size that no image may have, or another of the limits.
+/// A limit of images that a description breaks.
 #[derive(Clone, Copy)]
 pub enum Limit {
     Nodes,

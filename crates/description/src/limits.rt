@@ -1,4 +1,4 @@
-// Finding the first size that no image may have.
+// Finding the first limit of images that a description breaks.
 ghost use Rattle.std.specs.Prelude.{◌≡◌, ◌+◌, ◌<◌, ◌≤◌, ◌↔◌, ◌^◌, length, map, IsTrue, MatchOption};
 ghost use Rattle.layout.specs.Superblock.{Cover, IsGeometry, IsNext};
 ghost use Rattle.home_ranges.specs.Laid.{MayBeLaid, placed};
@@ -87,7 +87,8 @@ fn bad_layout(description: &Description) -> Option<Limit>
     }
 }
 
-/// Returns the first size that no image may have, or `None`. The order is nodes, pages, log, age, layout, ranges.
+/// Returns the first limit that the description breaks, or `None`. The order is nodes, pages, log, age, layout,
+/// ranges.
 #[tactic(auto, using(crate::proofs::BrokenLimits::count_broken))]
 pub fn beyond_limits(description: &Description) -> Option<Limit>
     ensures { MatchOption result (IsWithinLimits description.now)

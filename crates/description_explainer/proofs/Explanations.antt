@@ -51,7 +51,7 @@ module _ (d : Description) where
                 rule.2),
           )
 
--- the parameters: a description within the limits, and the rule that keeps it from having a world
+-- the parameters: a description within the limits, and the first rule of worlds that it breaks
 module _ (d : Description) (limits : IsWithinLimits d) (why : WorldFault) (broken : BreaksWorld d why) where
   broken_as : (is : WorldFault) → why ≡ is → BreaksWorld d is
   broken_as is same = subst (λ (w : WorldFault). BreaksWorld d w) same broken
@@ -83,7 +83,7 @@ module _ (d : Description) (fs gs : List Frame) (same : gs ≡ fs) (is : IsDescr
   unnamed_some limits numbers fields kinds (Some at) lacks = explains_role d limits numbers fields fs is kinds at
       (subst (λ (hs : List Frame). FirstLacks (NamesItsRole hs) d at) same lacks)
 
--- if a description breaks a rule first, its table is refused with that rule's fault
+-- if this is the first rule that a description breaks, its table is refused with that rule's fault
 pub refused_rule : (ms : Members) (d : Description) (sectors : ℕ) (r : Rule) → IsDescription ms d → IsFirstBroken d sectors (rule_fault r) →
     Refuses ms sectors (rule_fault r)
 refused_rule ms d sectors (rule.Limit l) is first = (d, is, first)

@@ -66,7 +66,7 @@ escapes_line : (text : List ℕ) → breaks (flat_map (debug_escape 34) text) �
 escapes_line [] = refl
 escapes_line (c ∷ cs) = both (debug_escape 34 c) (flat_map (debug_escape 34) cs) (escape_line c) (escapes_line cs)
 
--- if a quoted text has a newline, its contract doesn't determine it, so any text may replace it
+-- nothing is known of a quoted text that has a newline, so any other text may replace it
 pub quoted_line : (key shown : List ℕ) → (breaks shown ≡ false → ⊥) → IfSome (debug_str key) (λ s. shown ≡ s) → (other : List ℕ) →
     IfSome (debug_str key) (λ s. other ≡ s)
 quoted_line key shown broken is other = go (debug_str key) refl is

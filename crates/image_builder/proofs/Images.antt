@@ -58,7 +58,7 @@ nothing_written d disk only_now = started disk (λ c. IsLeftBuilding d disk c) o
 pub nothing_written_of : (ms : Members) (disk : Disk) → OnlyNow disk → LeavesOnly disk disk (λ c. IsLeftOf ms disk c)
 nothing_written_of ms disk only_now = started disk (λ c. IsLeftOf ms disk c) only_now (λ c left saved holds. inl (c, left, holds))
 
--- what a crash may leave while a description is built, it may leave while its table is built
+-- if a crash may leave an image while a description is built, it may leave it while the description's table is built
 pub left_of : (ms : Members) (d : Description) {old new : Disk} → IsDescription ms d → LeavesOnly old new (λ c. IsLeftBuilding d old c) →
     LeavesOnly old new (λ c. IsLeftOf ms old c)
 left_of ms d {old} {new} is run =

@@ -18,7 +18,7 @@ pub object_added : (old begun new name : List ℕ) (fs : List Field) → begun �
 object_added old begun new name fs header adds = added begun new fs adds ∙ ap (λ (text : List ℕ). text ++ field_lines fs) header
     ∙ append_assoc old _ _
 
--- a list that equals the written one was written
+-- if an equal list was written at a key, this list was
 pub same_list : {A : Type 0} (old new key : List ℕ) (f : A → List ℕ) (xs ys : List A) →
     new ≡ old ++ field_line (key, list_unless_empty f xs) → xs ≡ ys → new ≡ old ++ field_line (key, list_unless_empty f ys)
 same_list {A = A} old new key f xs ys made is = made ∙ ap (λ (zs : List A). old ++ field_line (key, list_unless_empty f zs)) is

@@ -18,7 +18,7 @@ abbrev pub keyed : List Pair → Members
 keyed [] = no_members
 keyed (p ∷ ps) = member_or p.0 p.1 (keyed ps)
 
--- no value needs a header of its own
+-- no value among these pairs needs a header of its own in TOML
 abbrev pub ArePairs : List Pair → Type 0
 ArePairs [] = Unit {0}
 ArePairs (p ∷ ps) = IfSome p.1 (λ d. is_section d ≡ false) × ArePairs ps

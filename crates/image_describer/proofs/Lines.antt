@@ -78,7 +78,7 @@ SpellsOption None None = Unit {0}
 SpellsOption (Some text) (Some d) = Spells 2 text d
 SpellsOption _ _ = ⊥
 
--- a text of a value with at most m levels is one with at most n, if m is at most n
+-- if m is at most n, a text of a value with at most m levels is also one with at most n
 pub deeper : (m n : ℕ) (text : List ℕ) (d : Data) → m ≤ n → Spells m text d → Spells n text d
 deeper m n text d few spells = record {
   text_is = spells.text_is;

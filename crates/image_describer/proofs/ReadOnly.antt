@@ -22,7 +22,7 @@ module _ {S : Type 0} {parts : S → Parts} {Continues : S → S → Type 0} {s 
     cause = (λ fault. reads.cause.0 (cc), λ failed. let fault = reads.cause.1 failed in cc);
   }
 
-  -- if the parts are the same, the call ends well
+  -- if a store was only read, a call that now returns a value satisfies `OnlyReads`
   pub looked_well : {T : Type 0} {x : T} → HasLooked parts Continues s t → OnlyReads parts Continues s t
       (let r : Result T Refusal = Ok x in r)
   looked_well looked = read_well looked.same looked.continues

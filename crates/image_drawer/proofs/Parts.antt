@@ -14,7 +14,7 @@ kept_one : {X Y : Type 0} (t : X → Bool) (g : X → List Y) (x : X) (xs : List
 kept_one {X} t g x xs true is = ap (λ (b : Bool). flat_map g (if b then x ∷ filter t xs else filter t xs)) is
 kept_one {X} t g x xs false is = ap (λ (b : Bool). flat_map g (if b then x ∷ filter t xs else filter t xs)) is
 
--- if each kept item gives what is kept of its image, the kept items give what is kept of the whole
+-- filtering the images of a list gives the images of the filtered list, if this holds item by item
 kept_flat : {X Y : Type 0} (t : X → Bool) (q : Y → Bool) (f g : X → List Y) → ((x : X) → filter q (f x) ≡ (if t x then g x else [])) →
     (xs : List X) → flat_map g (filter t xs) ≡ filter q (flat_map f xs)
 kept_flat t q f g on [] = refl

@@ -73,7 +73,7 @@ geometry_in bytes = record { nodes = number_at bytes 16; pages = number_at bytes
 abbrev pub IsWithin : ℕ → ℕ → ℕ → Type 0
 IsWithin least most n = (least ≤ n) × (n ≤ most)
 
--- reason 3: the first number outside its limits; if there is none, the places, which no superblock has
+-- reason 3: the first number outside its limits; if all are within, the places of the ranges or of the log are wrong
 abbrev pub BreaksGeometry : List ℕ → GeometryPart → Type 0
 BreaksGeometry bytes (geometry.Nodes n) = (n ≡ number_at bytes 16) × IsOutside 16 4096 n
 BreaksGeometry bytes (geometry.Pages n) =
@@ -149,7 +149,7 @@ IsFirstEntry g es part = (j : ℕ) → j < entry_of part → IsAmong g es j
 abbrev pub HoldsCap : Geometry → ℕ → List ℕ → ℕ → Type 0
 HoldsCap g age bytes k = (c : Cap) × IsKeptCap g age c × (take 24 (drop (32 + 24 * k) bytes) ≡ capability_bytes c)
 
--- the first slot of a node's frame that doesn't
+-- the first slot of a node's frame whose bytes encode no capability that an image may hold
 abbrev pub IsBadSlot : Geometry → ℕ → List ℕ → ℕ → Type 0
 IsBadSlot g age bytes slot =
     (slot < 32) × (HoldsCap g age bytes slot → ⊥) × ((k : ℕ) → k < slot → HoldsCap g age bytes k)

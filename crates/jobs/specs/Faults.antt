@@ -88,7 +88,7 @@ fault_json (fault.Stopped stop) = text_object (codes "fault") (codes "stopped") 
 fault_json (fault.Sizes why) = text_object (codes "fault") (codes "not renumbered") []
 fault_json (fault.NotSaved why) = text_object (codes "fault") (codes "not saved") []
 
--- if the observer ended the run, it is known where
+-- if the observer ended the run, the line where it did is known
 abbrev pub HasStop : Result (Result (Unit {0}) RunFault) OpenFault → Option Stop → Type 0
 HasStop (Ok (Err run.Stopped)) None = ⊥
 HasStop outcome stop = Unit {0}

@@ -89,7 +89,7 @@ leaves_either {g} {old} {new} {fs} {next} sound sound_next size moments = record
       (λ is. inr (inl (denoted_by g old.sectors c next sound_next is))) held) moments;
 }
 
--- what a crash at the end of a run leaves, a crash during it may leave
+-- if a crash at any moment of a run leaves one of some states, so does a crash at its end
 pub leaves_end : (g : Geometry) (old new : Disk) (ss : List Saved) → CountsNow new → LeavesOne g old new ss → Leaves g new ss
 leaves_end g old new ss counts_now run c left = search (arith, nat_tests)
 
@@ -130,7 +130,7 @@ up_again : (g : Geometry) (r : Running) (a : Answer) (after : Machine) → Reope
     (a ≡ answer.At r.saved.generation r.saved.world.age) × (after ≡ Up (opened g r.saved))
 up_again g r a after again = search (arith, nat_tests, only_one)
 
--- what `restart` may do with a machine that is down at m's candidates, it may do with m
+-- a `restart` of a machine that is down at m's candidates is also a `restart` of m
 restarts : (g : Geometry) (m : Machine) (a : Answer) (after : Machine) → Step g (Down (candidates m)) command.Restart a after →
     Step g m command.Restart a after
 unfolding refusal_of carried_out

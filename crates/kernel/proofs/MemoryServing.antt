@@ -92,7 +92,7 @@ module _ {S : Type 0} {parts : S → Parts} {Continues : S → S → Type 0} {ag
 -- the outcome of a load or store of a running process, once a read has fetched its objects
 module _ {age : ℕ} {old mid : Parts} (new : Parts) (p address : ℕ) (sound : IsSoundFrames old.geometry age (frames_of old))
     (acts : IsEarly (objects_in old) p None) (same : mid ≡ old) where
-  -- if a read changed nothing, what is performed after it is performed from before it
+  -- a command performed after a read that changed nothing is performed from the state before the read
   back : {c : Command} {a : Answer} → Performs age mid c a age new → Performs age old c a age new
   back {c} {a} performs = subst (λ (q : Parts). Performs age q c a age new) same performs
 

@@ -126,7 +126,7 @@ standing age renewed frozen saved to_move os ts = Up
       to_move = to_move;
     })
 
--- an invocation that was carried out is performed, with its result code
+-- if an invocation had its effect, the process performs it, with the answer `Done`
 done_serves : {age : ℕ} {old new : Parts} {i : Invocation} → age < 2 ^ 62 → is_process (objects_in old) i.process ≡ true →
     is_running_process (objects_in old) i.process ≡ true → IsSoundFrames old.geometry age (frames_of old) →
     Invokes old.geometry i (objects_in old) old.touched (objects_in new) new.touched → KeepsSoundFrames old new → Renews old new →
@@ -196,7 +196,7 @@ module _ {S : Type 0} (parts : S → Parts) (Continues : S → S → Type 0) (ag
       refused refusal.Fault said refusal.Fault (λ e. cc, λ e. cc) (λ renewed frozen saved to_move other. absurd (other refl))
   fault_serves c tells said = absurd tells
 
-  -- an invocation that was carried out is performed
+  -- if an invocation returned a result code, the process performs it
   pub invoked_serves : (code : Option ResultCode) → TellsState (objects_in (parts old)) i (Ok code) →
       Invoked parts Continues old new i (Ok code) → Performs age (parts old) (command.Invoke i) answer.Done (age + 1) (parts new)
   invoked_serves code runs said =

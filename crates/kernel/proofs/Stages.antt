@@ -221,7 +221,7 @@ module _ {g : Geometry} {p : Parts} {a : Snapshots FrozenFrames} {banks : BanksS
           risen = λ m. subst (λ (fs : List Frame). allocations_at fs m ≤ allocations_at (frames_of p) m) (sym (base_moved a n)) (s.risen m);
         }
 
--- the machine's saved state after `migrate` is that of the frames
+-- if the saved frames are moved home, so is the saved state; if not, it stays
 saved_if : (b : Bool) (fs : SavedFrames) → saved_of (if b then home_saved fs else fs) ≡ (if b then at_home (saved_of fs) else saved_of fs)
 saved_if b fs = search (arith, nat_tests)
 

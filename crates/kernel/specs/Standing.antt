@@ -15,7 +15,7 @@ use Rattle.kernel.specs.Power as power
 abbrev pub nothing : Disk
 nothing = record { sectors = 0; seen = λ k. []; may_leave = λ c. ⊥; moment = 0; left_since = λ t c. ⊥; failures = 0 }
 
--- the result code that comes with an answer: of the order that an invocation carried out, else none
+-- the result code of the order that an invocation carried out; none for any other answer
 abbrev pub reported_code : Geometry → Machine → Command → Answer → Option ResultCode
 reported_code g (Up r) (command.Invoke i) a = code_with g r.now.objects i a
 reported_code g m c a = None
@@ -47,7 +47,7 @@ pub record IsSameDisk (one other : Disk) : Type 0 where
 
 -- The parameters: the ghost members of a device and of an object store.
 module _ {D S : Type 0} (disk : D → Disk) (view : S → View D) (parts : S → Parts) where
-  -- a kernel that is up serves a command, if the device doesn't fail by a step of the machine; after a crash at any
+  -- a kernel that is up serves a command: if the device doesn't fail, by a step of the machine. After a crash at any
   -- moment the image denotes the saved state, or the one that the command may save
   pub record ServesAt (g : Geometry) (old : Live S) (c : Command) (a : Answer) (new : Live S) : Type 0 where
     pub step : (a ≡ answer.Refused refusal.Fault → ⊥) →

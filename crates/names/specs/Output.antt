@@ -28,7 +28,7 @@ abbrev pub written_above : Option NamedLines → ℕ → Written → Written
 written_above None own beneath = beneath
 written_above (Some l) own beneath = record { contents = None; failures = beneath.failures + own }
 
--- the bytes that wait in a writer with names: those in the inner writer, then the line that has no end yet
+-- the bytes that wait in a writer with names: those in the inner writer, then the unfinished line
 abbrev pub waiting_above : Option NamedLines → List ℕ → List ℕ
 waiting_above None beneath = beneath
 waiting_above (Some l) beneath = beneath ++ l.line.items
@@ -43,6 +43,6 @@ waiting_by waiting o = waiting_above o.lines (waiting o.inner)
 abbrev pub inner_output : {W : Type 0} → NamedOutput W → W
 inner_output o = o.inner
 
--- what adds names to the lines, if anything does
+-- what adds names to the lines, or `None` if nothing does
 abbrev pub lines_in : {W : Type 0} → NamedOutput W → Option NamedLines
 lines_in o = o.lines

@@ -15,7 +15,7 @@ use Rattle.model.specs.declared.order.ResultCode.TheVariants as code
 use Rattle.noninterference.proofs.ReadEdits.{Link, link_consume, link_of_root, link_slot, link_state, link_word}
 use Rattle.noninterference.proofs.ReadBanks.{OutcomesLink, bank_link, both_chosen, given_link, refused_link, replying_link, wrote_link}
 
--- if an option is empty, a property holds of both default values; else it holds of both values for its content
+-- if a property holds of two results when an option is `None`, and when it is `Some`, it holds of them
 found_both : {A X : Type 0} (P : X → X → Type 0) (found : Option A) (x y : X) (f k : A → X) → P x y →
     ((a : A) → found ≡ Some a → P (f a) (k a)) → P (elim found [ None ↦ x | Some a ↦ f a ]) (elim found [ None ↦ y | Some a ↦ k a ])
 found_both {A} {X} P None x y f k p q = p
@@ -135,7 +135,7 @@ module _ (trusted inside : ℕ → Bool) (os us : List Object) (h : Link trusted
         (link_of_root trusted inside os us p h in_p (λ r. with_space r args.capability) annex_inside sent) p p refl)
         (λ e. refuse code.BadCapability)
 
-  -- a capability that names a member or starts a process names a member if it is no start capability
+  -- if a capability names a member or starts a process, and isn't a start capability, it names a member
   pub member : (n : ℕ) → IsTrue (inside n) ⊎ ⊥ → IsTrue (inside n)
   member n is = grind (arith, nat_tests)
 

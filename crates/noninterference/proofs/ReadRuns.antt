@@ -160,7 +160,7 @@ module _ (g : Geometry) (trusted inside : ℕ → Bool) (s q : Running) (h : IsL
   carried_alike o p first second same linked =
       (second.0 ∙ same ∙ sym first.0, (o.after, p.after, first.1, second.1, linked))
 
-  -- two commands are alike if both are refused because no process runs, or if they are alike from there
+  -- two commands are alike if they are alike for a process that runs; if it doesn't run, both are refused
   running_alike : (root runs : Bool) (next after : Option Refusal) (o p : Outcome)
       → (runs ≡ true → AnswerBy s a m next o → AnswerBy q b n after p → Same)
       → AnswerBy s a m (unless root refusal.NoProcess (unless runs refusal.NotRunning next)) o

@@ -14,7 +14,7 @@ pub record ReadsSaved {D : Type 0} (disk : D → Disk) (device back : D) (state 
   pub failures : (disk back).failures ≡ (disk device).failures
   pub only_reads : OnlyReads (disk device) (disk back)
 
--- x is what `Is` says of the saved state of a device that was only read
+-- a device was only read, and x has the relation `Is` to its saved state
 abbrev pub IsReadFrom : {D T : Type 0} → (D → Disk) → (SavedState → T → Type 0) → D → D → T → Type 0
 IsReadFrom disk Is device back x = (s : SavedState) × ReadsSaved disk device back s × Is s x
 

@@ -27,7 +27,7 @@ pub(crate) enum InfoLine {
     Entries(u64),
     /// How many numbers are free.
     Free(u64),
-    /// How many objects are pages; the next ones say nodes, processes and banks.
+    /// How many objects are pages; the next variants count nodes, processes and banks.
     PageObjects(u64),
     NodeObjects(u64),
     /// How many roots there are.

@@ -21,12 +21,12 @@ pub record IsClosedAt (os : List Object) (follows : Links) (inside : ℕ → Boo
   pub slots : (i : ℕ) → StaysFor follows inside (slot_at os n i)
   pub space : StaysFor follows inside (root_at os n).space
 
--- if a capability stays inside a set, that set shares a member with `inside`
+-- each set that the capability stays inside shares a member with `inside`
 abbrev pub ConveysInto : Links → (ℕ → Bool) → Capability → Type 0
 ConveysInto follows inside c = (other : ℕ → Bool) → StaysFor follows other c →
     (m : ℕ) × IsTrue (inside m) × IsTrue (other m)
 
--- if a closed set contains n, it shares a member with `inside`
+-- each closed set that contains n shares a member with `inside`
 abbrev pub LeadsInto : List Object → Links → (ℕ → Bool) → ℕ → Type 0
 LeadsInto os follows inside n = (other : ℕ → Bool) → IsClosedFor follows os other → IsTrue (other n) →
     (m : ℕ) × IsTrue (inside m) × IsTrue (other m)

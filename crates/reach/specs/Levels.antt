@@ -89,7 +89,7 @@ IsOwnedBelow os count bank s = (s.from ≡ bank) × (s.way ≡ way.Owner) × (s.
 abbrev pub IsFrom : List Object → Links → ℕ → Step → Type 0
 IsFrom os follows n s = (s.from ≡ n) × IsStep os follows s
 
--- s goes from a number of this level
+-- s is a step of the search from a number found at this level
 abbrev pub IsFromLevel : List Object → Links → Levels → ℕ → ℕ → Step → Type 0
 IsFromLevel os follows l level count s = IsAt l s.from level × (s.from < count) × IsStep os follows s
 

@@ -65,7 +65,7 @@ held_text format.Json name n place i c = kind_object name n
 abbrev pub pull_line : Format → List ℕ → ℕ → Key → ℕ × Capability → List ℕ
 pull_line f name n place p = if pulls n p.1 then line_of (held_text f name n place p.0 p.1) else []
 
--- the lines of those of these capabilities that pull
+-- a line for each of these capabilities that pulls
 abbrev pub pull_lines : Format → List ℕ → ℕ → Key → List Capability → List ℕ
 pull_lines f name n place capabilities = flat_map (pull_line f name n place) (enumerate_from 0 capabilities)
 

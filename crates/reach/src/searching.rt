@@ -207,7 +207,8 @@ fn follow_level(
     }
 }
 
-// Returns all numbers that chains of steps lead to. No step starts a process of `trusted`.
+// Returns all numbers that chains of steps from `starts` lead to. No step starts a process that
+// `trusted` marks.
 #[tactic(auto, using(crate::proofs::Searches::searched_first))]
 fn search_but(
     alloc: Global,
@@ -234,7 +235,7 @@ fn search_but(
     Ok(levels)
 }
 
-/// Returns the set of these numbers. Fails only if memory runs out.
+/// Returns the set of the numbers in a list. Fails only if memory runs out.
 pub(crate) fn set_of(alloc: Global, numbers: &[u64], total: usize) -> Result<NumberSet, AllocError>
     requires { All (λ n. n < total) numbers.now }
     ensures count { IfOk result (λ set. length set ≡ total) }

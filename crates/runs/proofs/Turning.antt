@@ -266,7 +266,7 @@ module _ {D S O : Type 0} (disk : D → Disk) (view : S → View D) (parts : S �
 
   -- ---- a piece of the input
 
-  -- the parameters: the state before a piece; `Goes`: after these bytes of it the run has come this far
+  -- the parameters: the state before a piece; `Goes` says how far the run has come after some bytes of the piece
   module _ (first : Power D S) (saw : O) (begun_line : LineBuffer) (had : Written) where
     abbrev pub Goes : List ℕ → Power D S → O → LineBuffer → Written → Type 0
     Goes read k seen line written = (g : Geometry) (m : Machine) (start : Power D S) (begins : O) (text : List ℕ) (output : Written) →

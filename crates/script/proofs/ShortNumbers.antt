@@ -147,7 +147,7 @@ digits_last text at place n begun whole few some values =
 pub last_one : (text : List ℕ) (at n : ℕ) → length text ≡ at + 1 → IsDigit text at n → number_at (words_of (drop at text)) ≡ Some (n, [])
 last_one text at n whole first = grind (arith, nat_tests, digits_alone, begins_behind, values_one, length-drop)
 
--- one digit at the end of the text, if it is there, is read as its number
+-- if the last byte of the text is a digit, it is read as its number
 pub last_one_found : (text : List ℕ) (at : ℕ) (r : Option ℕ) → length text ≡ at + 1 → IfSome r (λ n. IsDigit text at n)
     → IfSome r (λ n. number_at (words_of (drop at text)) ≡ Some (n, []))
 last_one_found text at r whole found = grind (arith, nat_tests, last_one)

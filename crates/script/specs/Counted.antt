@@ -4,7 +4,7 @@ use Rattle.script.specs.Writing.{Written}
 use Rattle.script.specs.declared.counted.CountedWriter.{CountedWriter}
 use Rattle.script.specs.declared.counted.BufferedOutput.{BufferedOutput}
 
--- the writer beneath
+-- the writer whose failures are counted
 abbrev pub inner_writer : {W : Type 0} → CountedWriter W → W
 inner_writer w = w.inner
 

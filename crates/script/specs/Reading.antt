@@ -18,7 +18,7 @@ Words = List (List ℕ)
 abbrev pub words_of : List ℕ → Words
 words_of line = slice_split (λ b. b == 32) line
 
--- the words of what is left of a line, if anything is
+-- the words of the rest of a line, or none if there is no rest
 abbrev pub words_left : Option (List ℕ) → Words
 words_left None = []
 words_left (Some rest) = words_of rest
@@ -40,20 +40,20 @@ Gives (Some x) left read = read ≡ Some (x, left)
 unfoldable pub number_in : List ℕ → Option ℕ
 number_in word = let n = digits_value 10 word in if bytes_eq word (decimal n) && nat_lt n (2 ^ 64) then Some n else None
 
--- the number that the first of these words is, and the other words
+-- the number in the first of these words, and the words after it
 unfoldable pub number_at : Words → Option (ℕ × Words)
 number_at [] = None
 number_at (word ∷ words) = do
   n ← number_in word
   Some (n, words)
 
--- the register that the first of these words is, and the other words
+-- the register in the first of these words, and the words after it
 unfoldable pub register_at : Words → Option (ℕ × Words)
 register_at words = do
   n ← number_at words
   if nat_lt n.0 32 then Some n else None
 
--- the four numbers that the first of these words are, and the other words
+-- the numbers in the first four of these words, and the words after them
 unfoldable pub numbers_at : Words → Option (List ℕ × Words)
 numbers_at words = do
   a ← number_at words
@@ -62,7 +62,7 @@ numbers_at words = do
   d ← number_at c.1
   Some (a.0 ∷ b.0 ∷ c.0 ∷ d.0 ∷ [], d.1)
 
--- the four registers that the first of these words are, and the other words
+-- the registers in the first four of these words, and the words after them
 unfoldable pub registers_at : Words → Option (List ℕ × Words)
 registers_at words = do
   a ← register_at words

@@ -28,7 +28,7 @@ abbrev other_parts : List (List ℕ) → List (List ℕ)
 other_parts [] = []
 other_parts (p ∷ ps) = ps
 
--- these words and then others, with a space between if there are any before
+-- the text `words` and then these words, with a space between if `words` isn't empty
 abbrev behind : List ℕ → List (List ℕ) → List ℕ
 behind words [] = words
 behind words (p ∷ ps) = cond (nat_lt 0 (length words)) (words ++ 32 ∷ spaced (p ∷ ps)) (spaced (p ∷ ps))

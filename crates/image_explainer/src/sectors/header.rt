@@ -75,8 +75,8 @@ fn header_at(sector: u64, bytes: &[u8], log: u64) -> ControlFlow<SectorFault, Ch
     }
 }
 
-/// Continues with the committed header of two, which have these gates, or breaks with why there is none. A half of
-/// the log has `log` slots.
+/// Continues with the committed one of two headers, which have these gates, or breaks with why there is none. A half
+/// of the log has `log` slots.
 pub(crate) fn choose(
     first: &[u8],
     first_gate: &[u8],
