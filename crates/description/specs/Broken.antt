@@ -43,7 +43,7 @@ HasPages g = (1 ≤ g.pages) × (g.pages ≤ 4096)
 abbrev pub HasLog : Geometry → Type 0
 HasLog g = (16 ≤ g.log) × (g.log ≤ 4096)
 
--- this count is the first of nodes, pages and log slots that an image may not have
+-- the first of the counts of nodes, pages and log slots that is outside its limits
 abbrev pub BreaksGeometry : Geometry → Limit → Type 0
 BreaksGeometry g limit.Nodes = HasNodes g → ⊥
 BreaksGeometry g limit.Pages = HasNodes g × (HasPages g → ⊥)

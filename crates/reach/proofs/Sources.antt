@@ -292,7 +292,7 @@ module _ (os : List Object) (follows : Links) (o : ℕ) (marks : List Bool) (sou
           let out : not (is_marked marks o) ≡ true = can (others (is_marked marks)) others_closed (ap not is) in
           let both : not true ≡ true = ap not (sym sources.object) ∙ out in absurd (cc)
 
--- the set of those among the first numbers that are members
+-- `set` has those of the first `at` numbers that are members of `inside`
 pub record Picks (inside : List Bool) (numbers : List ℕ) (at : ℕ) (set : List Bool) : Type 0 where
   pub count : length set ≡ length inside
   pub some : (n : ℕ) → IsTrue (is_marked set n) → Contains numbers n × IsTrue (is_marked inside n)
