@@ -28,7 +28,7 @@ class Objects:
         self.rest[number] = {key: value for key, value in row.items() if key not in ("slots", "registers", "space")}
 
     def steps(self, number, trusted=(), reads=False):
-        """What an object can change, or with `reads` read, in one step: each object with the step's line. No step starts a trusted process."""
+        """The objects that an object can change, or read, in one step, each with the step's line. No step starts a trusted process."""
         name = f"{self.kind[number]} {number}"
         if self.kind[number] == "bank":
             yield from ((it, f"{name} owns {self.kind[it]} {it}") for it, owner in self.owner.items() if owner == number)
