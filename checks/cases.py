@@ -1,4 +1,4 @@
-"""What the checks share that try the program on many images: a case with files of its own, and a run of all cases."""
+"""What the checks that try the program on many images share: a case with files of its own, and a run of all cases."""
 import os
 import sys
 import tempfile

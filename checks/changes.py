@@ -18,7 +18,7 @@ class Changed:
         self.data[place : place + size] = (number % 2 ** (8 * size)).to_bytes(size, "little")
 
     def some(self, *roles):
-        """A number of an object of one of these roles, or else any."""
+        """The number of an object with one of these roles, or of any object if none has one."""
         return self.chance.choice([it for it, frame in enumerate(self.frames) if frame.role in roles] or range(len(self.frames)))
 
     def any_number(self):

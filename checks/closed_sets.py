@@ -28,7 +28,7 @@ class Objects:
         self.rest[number] = {key: value for key, value in row.items() if key not in ("slots", "registers", "space")}
 
     def steps(self, number, trusted=(), reads=False):
-        """What an object lets change in one step, or read, with the line of each such step. A capability to start a trusted process has none."""
+        """The objects that an object can change, or read, in one step, each with the step's line. No step starts a trusted process."""
         name = f"{self.kind[number]} {number}"
         if self.kind[number] == "bank":
             yield from ((it, f"{name} owns {self.kind[it]} {it}") for it, owner in self.owner.items() if owner == number)
@@ -53,7 +53,7 @@ class Objects:
 
 
 def conveyed(text, trusted, reads):
-    """The object that a capability lets change, or read if it is weak too, but not by starting a trusted process."""
+    """The object that the holder of a capability can change, or with `reads` read. None if the capability starts a trusted process."""
     kind, *words = text.split()
     if kind in ("void", "number", "discrim") or (words[-1] == "weak" and not reads) or (kind == "start" and int(words[0]) in trusted):
         return None

@@ -12,7 +12,7 @@ class BadEdit(Exception):
 
 
 def crate_of(edit):
-    """The crate that an edit changes: its folder's name, but for those of the gate."""
+    """The crate that an edit changes. Its name is that of the edit's folder, except for edits of the gate."""
     return edit.parent.name if edit.parent.name != "must-fail" else edit.parent.parent.name
 
 

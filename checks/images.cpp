@@ -1,5 +1,5 @@
-// Builds, checks, explains and describes images through vezhnake.hpp, for checks/library. Prints what `eros` answers: of a description that
-// is refused, its explanation and the status.
+// Builds, checks, explains and describes images through vezhnake.hpp, for checks/library. Prints what `eros` answers. If a description
+// is refused, prints its explanation and the status.
 // usage: PROGRAM DESCRIPTION
 #include "vezhnake.hpp"
 

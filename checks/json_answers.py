@@ -9,7 +9,7 @@ import subprocess
 import sys
 
 KINDS = "free|page|node|process|annex|bank"
-# What a line says, by its form: the members of its object in order. $1 is the first group.
+# For each form of a line, the members of its JSON object in order. $1 is the first group of the form.
 FORMS = [
     (r"ok generation (\d+) age (\d+) entries (\d+)", [("generation", 1), ("age", 2), ("entries", 3)]),
     (r"range (\d+) (\d+)", [("range", 1), ("count", 2)]),

@@ -23,7 +23,7 @@ static uint32_t step(vezhnake_machine *machine, uint8_t *into, size_t into_size,
     return vezhnake_step(machine, (const uint8_t *)text, strlen(text), into, into_size, size);
 }
 
-/* The answers and calls of one step, each first without enough room and then into exactly as many bytes as there are. */
+/* Copies the answers and calls of one step: first to buffers that are too small, and then to buffers of exactly the right size. */
 static void try_step(vezhnake_machine *machine) {
     static const char *first = "done\nfrozen ", *last = "left 0\ncommitted 1\nbad line\n";
     size_t wanted, size;
@@ -56,7 +56,7 @@ static void try_refusals(vezhnake_machine *machine) {
     NEED(vezhnake_open(image + 512, image_size - 512, 0, machine) == VEZHNAKE_NOT_A_SUPERBLOCK && !machine->is_open);
 }
 
-/* What is made of bytes, each first without enough room and then into exactly as many bytes as there are. */
+/* Returns what a call makes of bytes, after two calls with a buffer that is too small. The last buffer has exactly the right size. */
 static uint8_t *copied(uint32_t (*call)(const uint8_t *, size_t, uint8_t *, size_t, size_t *), const uint8_t *from, size_t from_size, size_t *size) {
     size_t wanted = 0;
     NEED(call(from, from_size, NULL, 0, &wanted) == VEZHNAKE_SMALL_BUFFER && wanted > 0);
@@ -66,7 +66,7 @@ static uint8_t *copied(uint32_t (*call)(const uint8_t *, size_t, uint8_t *, size
     return exact;
 }
 
-/* The description of the image, and what is built of it. The image is that of a build, so both are the same. */
+/* Describes the image, and builds an image from the description. The first one was just built, so both are the same. */
 static void try_images(void) {
     static const uint8_t no_table[] = "nodes = ", no_utf8[] = {255}, no_shape[] = "nodes = 16";
     static const char *ok = "ok";

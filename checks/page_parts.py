@@ -2,8 +2,8 @@
 import random
 import re
 
-# Mistakes in examples/two-processes.toml: old and new text, and a text that the line of the
-# mistake is the last to have, or None.
+# Mistakes in examples/two-processes.toml: the old and the new text, and a text whose last line is the line of the
+# mistake, or None.
 BROKEN = [
     ("log = 16", "logs = 16", "logs = 16"),
     ("log = 16", "log = 15", "log = 15"),

@@ -1,4 +1,4 @@
-"""Reads an image by docs/FORMAT.md, from which alone it was written, for `checks/images`."""
+"""Reads an image, for `checks/images`. It was written from docs/FORMAT.md alone."""
 from collections import namedtuple
 from struct import unpack_from
 
@@ -7,7 +7,7 @@ PAGE_CAP, NODE_CAP, SPACE, PROCESS, START, RESUME, BANK_CAP, DISCRIM = range(2, 
 ROLES = {PAGE_CAP: 1, NODE_CAP: 2, SPACE: 2, PROCESS: ROOT, START: ROOT, RESUME: ROOT, BANK_CAP: BANK}
 
 Shape = namedtuple("Shape", "version nodes pages slots halves homes")
-# Where an object's home begins, by version 2 that of a node's cluster, and at which byte of it the frame does.
+# The sector where an object's home begins (in version 2 a node's home is its cluster), and the byte in it where the frame begins.
 Home = namedtuple("Home", "sector offset")
 Header = namedtuple("Header", "slot sequence generation entries age")
 Cap = namedtuple("Cap", "tag access key height zeros number count")
@@ -139,7 +139,7 @@ def frame_at(data, place, number, shape, age):
 
 
 def is_stale(cap, frames):
-    """Whether it acts as void. Its count isn't greater than that of its object."""
+    """Whether a capability acts as void: its count is below its object's. No capability of a valid image has a greater count."""
     return cap.tag in ROLES and cap.count < (frames[cap.number].calls if cap.tag == RESUME else frames[cap.number].allocations)
 
 
@@ -164,7 +164,7 @@ def check_processes(frames):
 
 
 def usages(frames):
-    """What each bank accounts for. The owners have to be banks without rings, and the chains short enough."""
+    """The usage of each bank. Each owner must be a bank, the chains of owners must end at bank 0, and they must be short enough."""
     need(frames[0].role == BANK and frames[0].owner == 0, 10)
     used = {number: 0 for number, it in enumerate(frames) if it.role == BANK}
     for number, frame in enumerate(frames):

@@ -76,7 +76,7 @@ static void print_reply(const vezhnake_reply *reply) {
     NEED(reply->code == VEZHNAKE_NO_CODE || (reply->kind == VEZHNAKE_DONE && reply->code <= 10));
 }
 
-/* Serves a batch, and prints its answers. The command behind it is none: it stops there. */
+/* Serves a batch, and prints its answers. The command after it is invalid, so serving stops there. */
 static void serve(vezhnake_command *commands, size_t count) {
     vezhnake_reply replies[MOST + 1];
     size_t served;

@@ -7,7 +7,7 @@
  * open it again from what the storage holds.
  *
  * You must keep these rules. Nothing checks them:
- *   - Each pointer has as many bytes behind it as its size says. The arguments of one call don't overlap.
+ *   - Each pointer points to as many bytes as its size says. The arguments of one call don't overlap.
  *   - A handle begins as VEZHNAKE_CLOSED. Don't copy it or change its fields. Use it in one call at a time.
  *   - malloc, realloc and free are those of the C library. Make no call in a signal handler, or in a child that was
  *     forked from a process with threads.
@@ -59,7 +59,7 @@ enum vezhnake_status {
     VEZHNAKE_BAD_OWNER = 26         /* an object has no owner within its limit */
 };
 
-/* A handle. Its fields are the library's. */
+/* A handle. Only the library uses its fields. */
 typedef struct vezhnake_machine {
     void *session;
     bool is_open;
@@ -67,8 +67,8 @@ typedef struct vezhnake_machine {
 
 #define VEZHNAKE_CLOSED {NULL, false}
 
-/* Opens the image in these bytes, which it copies. If `cache` is 0, all objects are in memory. Otherwise it is the
- * most objects in memory, 8 to 8192. The handle is open after VEZHNAKE_OK, and unchanged after any other status. */
+/* Copies the image in these bytes, and opens it. If `cache` is 0, all objects are in memory. Otherwise at most `cache`
+ * objects are, 8 to 8192. The handle is open after VEZHNAKE_OK, and unchanged after any other status. */
 uint32_t vezhnake_open(const uint8_t *image, size_t image_size, uint64_t cache, vezhnake_machine *handle);
 
 /* Each call that runs commands keeps their device calls in the handle, until vezhnake_calls has copied them. If memory
@@ -83,9 +83,9 @@ uint32_t vezhnake_step(vezhnake_machine *handle, const uint8_t *text, size_t tex
 /* Copies the answers of the last vezhnake_step to the buffer again. */
 uint32_t vezhnake_answer(vezhnake_machine *handle, uint8_t *buffer, size_t buffer_size, size_t *size);
 
-/* Copies the device calls that it has not returned yet to the buffer, in order. A call is a header and bytes. The
- * header is two numbers of 8 bytes, the lowest byte first: where a write begins, as a byte, and its length. Then come
- * the bytes to write. A sync has the header UINT64_MAX, 0. After VEZHNAKE_SMALL_BUFFER no call was returned. */
+/* Copies the device calls that it has not returned yet to the buffer, in order. A call is a header and the bytes to
+ * write. The header is two little-endian numbers of 8 bytes: the offset in the image, in bytes, and the length of the
+ * write. A sync has the header UINT64_MAX, 0 and no bytes. After VEZHNAKE_SMALL_BUFFER no call was returned. */
 uint32_t vezhnake_calls(vezhnake_machine *handle, uint8_t *buffer, size_t buffer_size, size_t *size);
 
 /* ---- Commands and answers as numbers. Each command does what its line does, and its answer has the same meaning. */
@@ -154,9 +154,9 @@ typedef struct vezhnake_reply {
     uint64_t second;
 } vezhnake_reply;
 
-/* Serves commands one after another, and sets *served to their number. replies[i] answers commands[i], also where the
- * machine refuses it. After VEZHNAKE_BAD_COMMAND those before commands[*served] were served, and it was not. After
- * VEZHNAKE_SMALL_BUFFER there are fewer replies than commands, and none was served. */
+/* Serves commands one after another, and sets *served to how many it served. replies[i] answers commands[i], also if
+ * the machine refuses the command. After VEZHNAKE_BAD_COMMAND commands[*served] is invalid, and only the commands before
+ * it were served. After VEZHNAKE_SMALL_BUFFER there are fewer replies than commands, and none was served. */
 uint32_t vezhnake_serve(vezhnake_machine *handle, const vezhnake_command *commands, size_t commands_count,
                         vezhnake_reply *replies, size_t replies_count, size_t *served);
 
@@ -171,7 +171,7 @@ typedef struct vezhnake_page_words {
     uint64_t words[512];
 } vezhnake_page_words;
 
-/* Shows an object. If it is a page, copies its words, and otherwise leaves *page alone. The reply is VEZHNAKE_SHOWN with
+/* Shows an object. If it is a page, copies its words; otherwise *page is unchanged. The reply is VEZHNAKE_SHOWN with
  * the object's kind, or a refusal. */
 uint32_t vezhnake_page(vezhnake_machine *handle, uint64_t number, vezhnake_page_words *page, vezhnake_reply *reply);
 
@@ -198,7 +198,7 @@ typedef struct vezhnake_object {
     vezhnake_capability slots[32]; /* a node's slots; a process's or an annex's registers */
 } vezhnake_object;
 
-/* Shows an object. If there is one, sets *object, and otherwise leaves it alone. The reply is as for vezhnake_page. */
+/* Shows an object. If there is one, sets *object; otherwise *object is unchanged. The reply is as for vezhnake_page. */
 uint32_t vezhnake_show(vezhnake_machine *handle, uint64_t number, vezhnake_object *object, vezhnake_reply *reply);
 
 /* Serves one command. */
@@ -289,19 +289,19 @@ typedef struct vezhnake_info {
     vezhnake_range ranges[8]; /* the home ranges; the others are 0 */
 } vezhnake_info;
 
-/* Opens the image in these bytes as vezhnake_open does, and sets *info. A status other than VEZHNAKE_OK says why an image is
- * refused, and leaves *info alone. */
+/* Opens the image in these bytes as vezhnake_open does, and sets *info. Any status other than VEZHNAKE_OK says why the
+ * image is refused; then *info is unchanged. */
 uint32_t vezhnake_check(const uint8_t *image, size_t image_size, vezhnake_info *info);
 
 /* Copies the description of all that an image saves to the buffer, as `eros describe` prints it, and sets *size to its
  * length. After VEZHNAKE_SMALL_BUFFER *size is the size that fits. After another status the buffer and *size are unchanged. */
 uint32_t vezhnake_describe(const uint8_t *image, size_t image_size, uint8_t *text, size_t text_size, size_t *size);
 
-/* Copies the line that `eros explain` prints of an image to the buffer, without its newline: "ok", or where it breaks which
- * rule, and what is wrong. Buffer and *size are as for vezhnake_describe; 300 bytes fit each line. */
+/* Copies the line that `eros explain` prints about an image to the buffer, without its newline: "ok", or the place that
+ * breaks a rule and what is wrong there. Buffer and *size are as for vezhnake_describe. No line is longer than 300 bytes. */
 uint32_t vezhnake_explain(const uint8_t *image, size_t image_size, uint8_t *line, size_t line_size, size_t *size);
 
-/* The same of a description's text. Its line may be longer. VEZHNAKE_NOT_TOML if the text is no UTF-8. */
+/* Does the same for a description's text. Its line may be longer. Returns VEZHNAKE_NOT_TOML if the text isn't UTF-8. */
 uint32_t vezhnake_explain_text(const uint8_t *text, size_t text_size, uint8_t *line, size_t line_size, size_t *size);
 
 /* The version of the library, as in VEZHNAKE_VERSION. The text is never freed. */

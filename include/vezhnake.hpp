@@ -30,7 +30,7 @@
 
 namespace vezhnake {
 
-// The base of the other exceptions, but for std::system_error: that is what file_storage throws.
+// The base of the exceptions below. file_storage throws std::system_error, which isn't one of them.
 class error : public std::runtime_error {
     using std::runtime_error::runtime_error;
 };
@@ -56,7 +56,7 @@ public:
     uint64_t code;
 };
 
-// What holds an image. A crash may tear or drop the writes since the last sync. Any exception closes the machine.
+// The storage of an image. A crash may tear or drop the writes since the last sync. If it throws, the machine is closed.
 class storage {
 public:
     virtual ~storage() = default;
@@ -146,7 +146,7 @@ inline std::string text_of(const vezhnake_reply &reply) {
     }
 }
 
-// What a call of the library copies to a buffer, which has `size` bytes at first.
+// What a call of the library copies to a buffer. The buffer has `size` bytes at first, and grows if they don't suffice.
 inline std::vector<uint8_t> copied(uint32_t call(const uint8_t *, size_t, uint8_t *, size_t, size_t *), const uint8_t *data, size_t length,
                                    size_t size) {
     std::vector<uint8_t> buffer(size);
@@ -158,11 +158,11 @@ inline std::vector<uint8_t> copied(uint32_t call(const uint8_t *, size_t, uint8_
 }
 inline std::string as_text(const std::vector<uint8_t> &bytes) { return {bytes.begin(), bytes.end()}; }
 
-// The image of a description, which is a text in TOML. The status of the exception says which rule the description breaks.
+// The image of a description in TOML. If the description breaks a rule, the status of the exception says which one.
 inline std::vector<uint8_t> build(std::string_view description) {
     return copied(vezhnake_build, reinterpret_cast<const uint8_t *>(description.data()), description.size(), 0);
 }
-// What an image has, if it can be opened.
+// The sizes of an image, and counts of its objects. Throws status_error if the image can't be opened.
 inline vezhnake_info check(const std::vector<uint8_t> &image) {
     vezhnake_info info{};
     if (const uint32_t status = vezhnake_check(image.data(), image.size(), &info)) throw status_error(status);
@@ -172,7 +172,7 @@ inline vezhnake_info check(const std::vector<uint8_t> &image) {
 inline std::string describe(const std::vector<uint8_t> &image) {
     return as_text(copied(vezhnake_describe, image.data(), image.size(), 1 << 16));
 }
-// "ok", or where an image, or a description, breaks which rule, and what is wrong there.
+// The line that explains an image or a description: "ok", or the place that breaks a rule and what is wrong there.
 inline std::string explain(const std::vector<uint8_t> &image) {
     return as_text(copied(vezhnake_explain, image.data(), image.size(), 1 << 10));
 }
@@ -180,7 +180,7 @@ inline std::string explain(std::string_view description) {
     return as_text(copied(vezhnake_explain_text, reinterpret_cast<const uint8_t *>(description.data()), description.size(), 1 << 10));
 }
 
-// What an invocation gave. `code` is the result code, if a kernel object replied, and `values` are the other words of its reply.
+// The reply to an invocation. `code` is the result code, if a kernel object replied, and `values` are the other words of the reply.
 struct reply {
     std::optional<uint64_t> code;
     std::array<uint64_t, 3> values{};
@@ -208,7 +208,7 @@ public:
         storage_.reset();
     }
 
-    // Runs the lines of a text, and returns the answers as `eros run` writes them. No answer is an exception.
+    // Runs the lines of a text, and returns the answers as `eros run` writes them. Doesn't throw because of an answer.
     std::string run(std::string_view text) {
         size_t size = 0;
         const auto *from = reinterpret_cast<const uint8_t *>(text.data());
@@ -226,7 +226,7 @@ public:
     // Runs one line whose answer begins with `kind`, and returns the number in it, or 0.
     uint64_t command(std::string_view line, std::string_view kind) { return number_in(run(line), kind); }
 
-    // Serves commands one after another, and returns the answer to each. No answer is an exception, but the status VEZHNAKE_BAD_COMMAND is.
+    // Serves commands one after another, and returns the answer to each. Throws for the status VEZHNAKE_BAD_COMMAND, but for no answer.
     std::vector<vezhnake_reply> serve(const std::vector<vezhnake_command> &commands) {
         std::vector<vezhnake_reply> replies(commands.size());
         size_t served = 0;
@@ -237,7 +237,7 @@ public:
         return replies;
     }
 
-    // Serves one command. A refusal is an exception.
+    // Serves one command. Throws if it is refused.
     vezhnake_reply serve(const vezhnake_command &command) { return accepted(serve(std::vector<vezhnake_command>{command}).front()); }
 
     // The process invokes the capability in its register, and gets the reply. After a call of another process there is no code.
@@ -290,7 +290,7 @@ public:
     }
 
     // Saves the state in one step, and returns the generation: migrates what an earlier run left, freezes, stabilizes, commits and
-    // migrates. The first of these that is refused is the exception.
+    // migrates. Throws for the first of these that is refused.
     uint64_t save() {
         std::array<vezhnake_reply, VEZHNAKE_SAVE_STAGES> replies{};
         size_t served = 0;
@@ -322,7 +322,7 @@ private:
         std::copy(sent.begin(), sent.end(), made.sent);
         return made;
     }
-    // An answer. A refusal is an exception.
+    // An answer. Throws if the command was refused.
     static const vezhnake_reply &accepted(const vezhnake_reply &reply) {
         if (reply.kind == VEZHNAKE_MEMORY_FAULT || reply.kind >= VEZHNAKE_DOWN) throw refused(text_of(reply));
         return reply;
@@ -350,7 +350,7 @@ private:
             place += length;
         }
     }
-    // A number of 8 bytes, the lowest first.
+    // A little-endian number of 8 bytes.
     uint64_t number_at(size_t place) const {
         uint64_t number = 0;
         for (size_t i = 8; i-- > 0;) number = number << 8 | buffer_[place + i];

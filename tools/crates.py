@@ -21,7 +21,7 @@ def named():
 
 
 def libraries():
-    """The repository's crates, each with those of them that it names."""
+    """The repository's crates, each with the crates of the repository that it names."""
     crates = named()
     return {name: [it for it in below if it in crates] for name, below in crates.items()}
 
@@ -32,7 +32,7 @@ def rlib(folder, name):
 
 
 def refuse_unknown(names, crates):
-    """Ends the program if one of the names is none of the crates."""
+    """Ends the program if one of the names isn't a crate's."""
     unknown = [it for it in names if it not in crates]
     if unknown:
         sys.exit(f"{Path(sys.argv[0]).name}: no crate {', '.join(unknown)}")

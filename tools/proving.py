@@ -1,6 +1,6 @@
 """Proves crates from nothing, side by side. One `rt ci` over all of them often gives a crate of the longest chain one processor while others
-are idle. Here each crate gets an `rt ci` of its own, which takes the crates below it from what earlier ones kept on the machine. Edits
-that must be refused take what processors the proofs leave."""
+are idle. Here each crate gets an `rt ci` of its own, which takes the crates below it from what earlier ones kept on the machine. The
+edits that must be refused run on processors that the proofs leave idle."""
 import os
 import shutil
 import subprocess
@@ -110,7 +110,7 @@ class Proving:
             self.running[pool.submit(self.prove, name, share)] = name, share
 
     def begin_edits(self, pool):
-        """Begins edits where a processor is free. They keep none from the proofs, which go before them."""
+        """Begins edits where a processor is free. Proofs go first."""
         trying = sum(not share for _, share in self.running.values())
         for name in [it for it in self.edited if it in self.proved][: max(0, self.free - trying)]:
             self.edited.remove(name)

@@ -6,7 +6,7 @@ from progress import run
 
 
 def rattle(command, crate, folder, source, *more):
-    """The words that call `rattle` for a crate with this root file, over what a folder has of the libraries below."""
+    """The words that call `rattle` for a crate with this root file. The folder has the libraries below it."""
     where = kit()
     below = [it for it in closure([crate]) if it != crate]
     libraries = {it: rlib(folder, it) if it in below else where / "rlibs" / f"{it}.rlib" for it in ["std", *named()[crate]]}

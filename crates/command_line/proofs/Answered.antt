@@ -1,4 +1,4 @@
--- Words that the command takes name a job, unless they are an upgrade or a copy of one word to itself.
+-- If `eros` accepts the words of a command line, they name a job, except for an upgrade or copy of a file to itself.
 use Rattle.command_line.proofs.Names.{nat_tests, is_some, not, suc, arith, length, option_map, refl, sym, subst, ap, List, [], Bool, drop, true, false, Option}
 use Rattle.command_line.proofs.Names.{Some, None, true≢false, codes, list_any, option_map_or, bytes_eq, eqb-true, bytes_eq-Decides, answers_to, is_empty}
 use Rattle.command_line.proofs.Names.{nothing_held, stop_after, Command, ArgMatches, HasMatchesOf, Shape, app_of, built, entered, is_simple, label_of, names_of}
@@ -10,15 +10,15 @@ use Rattle.clap.specs.Simple.{App, subcommand_rows_of}
 use Rattle.command_line.proofs.Lacking.{found}
 use Rattle.command_line.proofs.Taken.{StopsWell, is_no_help, is_plain, level_keeps}
 
--- the command in the form that a parse builds
+-- the command of `eros`, as clap builds it for a parse
 abbrev whole : App
 whole = built eros_app
 
--- a subcommand but that for help has plain arguments, and none has another name
+-- a subcommand has no aliases; it is `help`, or its arguments are plain
 abbrev is_ready : Shape → Bool
 is_ready s = is_empty s.aliases && (bytes_eq s.name (codes "help") || (is_plain s.rules && not s.subcommand_negates_reqs))
 
--- a subcommand without aliases has only its name
+-- a subcommand without aliases answers only to its name
 its_name : (s : Shape) (name : Text) → is_empty s.aliases ≡ true → answers_to name (label_of s) ≡ true → s.name ≡ name
 its_name s name plain answers = go s.aliases plain (bytes_eq s.name name) refl answers
   where
@@ -68,7 +68,7 @@ entered_named (Some p) some well passes none = go (subcommand_named p.0) refl so
     go None is some level none = absurd (true≢false (sym some))
     go (Some s) is some level none = shape_named p well s is level none
 
--- words that the command accepts name a job, unless they are an upgrade or a copy of one word to itself
+-- if `eros` accepts words that name no job, they ask for an upgrade or copy of a file to itself
 pub takes_named : (words : List Text) → takes eros_app words ≡ true → NamesNone (subcommand_of eros_app words) →
     AsksForSame (subcommand_of eros_app words)
 takes_named words taken none =
@@ -79,7 +79,7 @@ takes_named words taken none =
     let kept = level_keeps whole.top (names_of whole) given (is_some (entered whole stop)) refl refl passes.1 in
     entered_named stop kept.2 kept.1 passes.0 none
 
--- a parse that returns matches of such words names no job only in this case
+-- if accepted words have matches that name no job, the words ask for an upgrade or copy of a file to itself
 pub unnamed : (words : List Text) (command : Command) (m : ArgMatches) → app_of command ≡ eros_app → HasMatchesOf (app_of command) words m
     → NamesNone (subcommand_rows_of m) → takes eros_app words ≡ true → AsksForSame (subcommand_of eros_app words)
 unnamed words command m is has none taken =

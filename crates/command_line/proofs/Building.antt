@@ -1,4 +1,4 @@
--- A command, after a subcommand or an argument is added.
+-- Building clap's command, argument by argument and subcommand by subcommand.
 use Rattle.command_line.proofs.Names.{nat_tests, arith, false, ap, ap₂, AddsArg, AddsSubcommand, App, Rule, rule_of, with_rule, with_subcommand, Arg, Command}
 use Rattle.command_line.proofs.Names.{IsCommand, ℕ, List, [], map, take, get_or, length, refl, add-one, take-length, take-suc, map-append, argument_rule}
 use Rattle.command_line.proofs.Names.{subcommand_app, with_rules, with_subcommands, Argument, Subcommand}
@@ -8,7 +8,7 @@ pub added : (a b : App) (old sub new : Command) → AddsSubcommand old sub new �
     IsCommand (with_subcommand a b.top) new
 added a b old sub new adds is_old is_sub = grind (arith, nat_tests)
 
--- adding an argument
+-- adding an argument to a command adds its rule
 pub argued : (app : App) (old new : Command) (arg : Arg) (rule : Rule) → AddsArg old arg new → IsCommand app old → rule_of arg ≡ rule →
     arg.global ≡ false → IsCommand (with_rule app rule) new
 argued app old new arg rule adds is_old ruled local = (
@@ -17,7 +17,7 @@ argued app old new arg rule adds is_old ruled local = (
       ∙ ap₂ (λ x y. x || y) is_old.1 local,
 )
 
--- adding one more argument, or one more subcommand
+-- adding the rules of a list and then one more adds them all
 with_rules_more : (app : App) (rs : List Rule) (r : Rule) → with_rules app (rs ++ (r ∷ [])) ≡ with_rule (with_rules app rs) r
 with_rules_more app [] r = refl
 with_rules_more app (x ∷ rs) r = with_rules_more (with_rule app x) rs r
@@ -52,7 +52,7 @@ pub added_more : (app : App) (ss : List Subcommand) (i : ℕ) (d : Subcommand) (
     IsCommand (with_subcommands app (take (i + 1) ss)) new
 added_more app ss i d old sub new inside is adds is_sub = rw (subcommands_more app ss i d inside) (added _ _ old sub new adds is is_sub)
 
--- after all arguments were added
+-- if all arguments were added, the command has all rules
 pub has_all : (app : App) (xs : List Argument) (rs : List Rule) (i : ℕ) (command : Command) → i ≡ length xs → map argument_rule xs ≡ rs →
     IsCommand (with_rules app (map argument_rule (take i xs))) command → IsCommand (with_rules app rs) command
 has_all app xs rs i command all same is = grind (arith, nat_tests, take-length)

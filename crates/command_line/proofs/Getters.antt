@@ -6,12 +6,12 @@ use Rattle.command_line.proofs.Names.{IsGiven, All, IsUnsignedIn, greatest_numbe
 use Rattle.command_line.proofs.Names.{AreNumbersIfAny, GivesNoNumbers}
 use Rattle.std.proofs.Common.{◌≡◌, ◌∙◌}
 
--- the subcommand in the matches is that of its name and its rows
+-- if the name and the rows of the subcommand are these, the matches have this subcommand
 pub met : (m : ArgMatches) (name : Text) (rows : List Row) → Some name ≡ subcommand_name_of m
     → Some rows ≡ option_map (λ p. p.1) (subcommand_rows (out-ArgMatches m).subcommand) → subcommand_rows_of m ≡ Some (name, rows)
 met m name rows named rowed = grind (arith, nat_tests)
 
--- the value of a getter is that of the rows
+-- if a getter returned a text, the argument was given as this text
 pub given : (f : Found) (id : Text) (o : Option (Bor Text)) (text : Bor Text) → option_map (λ s. s.now) o ≡ first_value f id → o ≡ Some text
     → IsGiven (rows_of f) id text.now
 given f id o text got is = sym (first_value-rows f id) ∙ (sym got ∙ ap (option_map (λ s. s.now)) is)
@@ -34,7 +34,7 @@ pub missing_all : (f : Found) (id : Text) (o : Option (Bor (List (Bor Text)))) �
     → o ≡ None → all_of id (rows_of f) ≡ None
 missing_all f id o got is = sym (raw_values-rows f id) ∙ (sym got ∙ ap (option_map (λ s. map (λ v. v.now) s.now)) is)
 
--- a property of the value of an option, if there is one
+-- if P holds of whatever an option holds, it holds of the value in it
 pub held : {X : Type 0} (P : X → Type 0) (o : Option X) (x : X) → IfSome o P → o ≡ Some x → P x
 held P None x holds is = let bad : None ≡ Some x = is in cc
 held P (Some y) x holds is = let same : y ≡ x = ap (λ (o : Option _). unwrap_or o y) is in subst P same holds
@@ -46,7 +46,7 @@ flagged rows id word b given e = grind (arith, nat_tests, bytes_eq-Decides)
 pub unflagged : (rows : List Row) (id : Text) → first_of id rows ≡ None → IsFlag rows id false
 unflagged rows id none = λ set. let bad : None ≡ Some (codes "true") = sym none ∙ set in cc
 
--- numbers that were given, or a word that is none
+-- if all words were read, these are the numbers; if one wasn't, the argument was given a word that is no number
 pub numbers_given : (rows : List Row) (name : Text) (words : List Text) (r : Result (Option (Vec ℕ Global)) AllocError) →
     all_of name rows ≡ Some words → IfOk r (λ o. IfSome o (λ numbers. (numbers.items ≡ map number_of words)
     × All (IsUnsignedIn 0 greatest_number) words))

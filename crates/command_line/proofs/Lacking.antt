@@ -1,4 +1,4 @@
--- Rows that lack an argument, or have a wrong one, name no job.
+-- If rows lack an argument, or have a wrong one, they name no job.
 use Rattle.command_line.proofs.Names.{nat_tests, ap, refl, subst, sym, Bool, ℕ, suc, arith, not, Option, Some, None, List, [], length, option_map, true, false}
 use Rattle.command_line.proofs.Names.{true≢false, inl, codes, ⊤, cond, find, nat_lt, option_and_then, slice_get, unwrap_or, All, list_all, list_any}
 use Rattle.command_line.proofs.Names.{slice_index_or, option_map_or, bytes_eq, eqb-true, AllPass-from_list_all, bytes_eq-Decides, parser_of_value, Shape, built}
@@ -9,7 +9,7 @@ use Rattle.std.proofs.Common.{◌≡◌, ◌≢◌, ◌<◌, ◌∙◌, ◌&&◌
 use Rattle.command_line.specs.declared.subcommands.Subcommand.TheVariants as sub
 use Rattle.command_line.proofs.Getters.{missing}
 
--- an item that is found passes its test, and each test that all items pass
+-- an item that was found passes its test, and every test that all items pass
 pub found : {X : Type 0} (p q : X → Bool) (xs : List X) (x : X) → find p xs ≡ Some x → list_all q xs ≡ true → (p x ≡ true) × (q x ≡ true)
 found p q [] x is all = let bad : None ≡ Some x = is in cc
 found p q (y ∷ ys) x is all = grind (arith, nat_tests, found p q ys x)
@@ -18,7 +18,7 @@ found p q (y ∷ ys) x is all = grind (arith, nat_tests, found p q ys x)
 abbrev pub rule_named : Text → Text → Option Rule
 rule_named name id = option_and_then (λ s. arg_by_id s.rules id) (subcommand_named name)
 
--- the row, if any, fills the argument
+-- the row has values that are valid for the argument; or it is missing, and the argument isn't required
 abbrev fills : Rule → Option Row → Bool
 fills a o = option_map_or (λ r. nat_lt 0 (length r.values) && values_pass a r.values) o (not a.required)
 
@@ -30,7 +30,7 @@ module _ (name id : Text) (rows : List Row) where
       option_map_or (λ s. is_whole s.rules rows) o false ≡ true → fills a (row_named id rows) ≡ true
   filled_in o a is has = grind (arith, nat_tests, found, bytes_eq-Decides)
 
-  -- rows that lack what is required name no job
+  -- if a required argument has no value, the rows don't have all arguments
   lacks_row : (o : Option Rule) → rule_named name id ≡ o → option_map_or (λ a. a.required) o false ≡ true
       → option_map_or (λ (r : Row). nat_lt 0 (length r.values)) (row_named id rows) false ≡ false → has_all name rows ≡ true → ⊥
   lacks_row None is required none has = true≢false (sym required)
@@ -52,7 +52,7 @@ module _ (name id : Text) (rows : List Row) where
       go None e = refl
       go (Some r) e = empty r.values e
 
-  -- the values of an argument pass its parser
+  -- if the rows have all arguments, the values of each pass its parser
   passing : (p : ValueParser) (o : Option Rule) → rule_named name id ≡ o → option_map (λ a. parser_of_value a.parser) o ≡ Some p →
       has_all name rows ≡ true → (r : Row) → row_named id rows ≡ Some r → (ignore_case : Bool)
       × (list_all (accepts ignore_case p) r.values ≡ true)
@@ -62,7 +62,7 @@ module _ (name id : Text) (rows : List Row) where
       let same : parser_of_value a.parser ≡ p = ap (λ (o : Option ValueParser). unwrap_or o p) parser in
       (a.ignore_case, subst (λ q. list_all (accepts a.ignore_case q) r.values ≡ true) same (both _ _ full).1)
 
-  -- rows in which an option gives no number name no job
+  -- if an option was given a word that is no number, the rows name no job
   pub wrong : (least most : ℕ) → option_map (λ a. parser_of_value a.parser) (rule_named name id) ≡ Some (Unsigned least most) →
       GivesNoNumber rows id least most → IsNoJob name rows
   wrong least most parser gives has = absurd (go (row_named id rows) refl gives.1)
@@ -91,12 +91,12 @@ module _ (name id : Text) (rows : List Row) where
           (AllPass-from_list_all (accepts all.0 (Unsigned least most)) words
           (subst (λ vs. list_all (accepts all.0 (Unsigned least most)) vs ≡ true) same all.1) k d lt))
 
--- an upgrade or a copy whose two words are equal
+-- an upgrade or copy with two equal words is one of a file to itself
 pub same_twice : (command id : Text) (rows : List Row) (one other : Text) → first_of id rows ≡ Some one →
     first_of (codes "NEW") rows ≡ Some other → one ≡ other → IsSameOf command id command rows
 same_twice command id rows one other one_is other_is same = (refl, one, one_is, other_is ∙ ap Some (sym same))
 
--- the name is none of these names
+-- the name differs from all these names
 abbrev DiffersFrom : Text → List Shape → Type 0
 DiffersFrom name [] = ⊤
 DiffersFrom name (s ∷ rest) = (name ≡ s.name → ⊥) × DiffersFrom name rest
@@ -114,7 +114,7 @@ not_found name (s ∷ rest) differs plain = go (bytes_eq s.name name) refl s.ali
     go false e [] none more = more
     go false e (x ∷ xs) none more = let bad : suc (length xs) ≡ 0 = eqb-true _ _ none in absurd (omega arith)
 
--- a name that isn't a subcommand's names no job
+-- if the name isn't a subcommand's, the rows name no job
 pub unknown : (name : Text) (rows : List Row) → All (λ s. name ≢ subcommand_name s) subcommands → IsNoJob name rows
 unknown name rows each has = go (bytes_eq name (codes "help")) refl
   where
@@ -144,7 +144,7 @@ unknown name rows each has = go (bytes_eq name (codes "help")) refl
         let other : name ≡ codes "help" → ⊥ = λ is. true≢false (sym ((bytes_eq-Decides name (codes "help")).1 is) ∙ e) in
         absurd (none_found (subcommand_named name) (not_found name (built eros_app).subs (differs other) refl) has)
 
--- rows without an argument that a getter needs name no job
+-- if a getter found no value for a required argument, the rows name no job
 pub lacking : (name id : Text) (f : Found) (o : Option (Bor Text)) → option_map_or (λ a. a.required) (rule_named name id) false ≡ true
     → option_map (λ s. s.now) o ≡ first_value f id → o ≡ None → IsNoJob name (rows_of f)
 lacking name id f o required got is = lacks name id (rows_of f) required (missing f id o got is)

@@ -1,4 +1,4 @@
--- The names that the proofs here cite: of other crates, and of the definitions of this one.
+-- The names that the proofs here import: from other crates, and from the definitions of this one.
 pub use Rattle.clap.proofs.ValueTestLemmas.{accepts-Accepts}
 pub use Rattle.clap.proofs.WalkLemmas.{both, first_value-rows, raw_values-rows}
 pub use Rattle.clap.specs.Facts.{parser_of_value, unwrap_or_range}

@@ -1,13 +1,13 @@
--- Words that write numbers, one after the other.
+-- Reading words as numbers, one after the other.
 use Rattle.command_line.proofs.Names.{ap, ap₂, sym, subst, ℕ, List, [], length, take, map, get_or, Bor, All, get_or-map, length-map, map-append, take_more}
 use Rattle.command_line.proofs.Names.{All-get_or, All-more, IsUnsignedIn, Text, IsNumber, number_of, texts_of, greatest_number}
 use Rattle.std.proofs.Common.{◌≡◌, ◌∙◌, ◌<◌, ◌+◌, ◌∷◌, ◌++◌}
 
--- the default for a word that is missing
+-- the value for a missing word
 abbrev pub no_word : Bor Text
 no_word = record { ref_ptr = (0, 0); now = [] }
 
--- the first words write these numbers
+-- the first i words are these numbers
 abbrev pub NumbersBefore : List (Bor Text) → ℕ → List ℕ → Type 0
 NumbersBefore words i numbers = (numbers ≡ map number_of (take i (texts_of words)))
     × All (IsUnsignedIn 0 greatest_number) (take i (texts_of words))

@@ -1,4 +1,4 @@
--- A parse that takes the words gives each argument its values, and isn't for help.
+-- If a parse accepts the words, each argument has valid values, and no help is asked for.
 use Rattle.command_line.proofs.Names.{nat_tests, ℕ, zero, suc, not, is_some, refl, ap, arith, List, [], Bool, length, true, false, Option, Some, None}
 use Rattle.command_line.proofs.Names.{true≢false, ⊤, cond, fold, find, nat_le, nat_lt, option_map_or, list_all, list_any, bytes_eq, eqb-true, leb-true, lt-ltb}
 use Rattle.command_line.proofs.Names.{list_all-append, bytes_eq-Decides, is_request, ArgAction, ValueSource, unwrap_or_range, Held, Names, Outcome, Step}
@@ -12,7 +12,7 @@ use Rattle.std.proofs.Common.{◌≡◌, ◌<◌, ◌&&◌, ◌||◌, ◌∙◌,
 use Rattle.std.specs.Prelude.{codes}
 use Rattle.clap.specs.Walk.{Row, Rule, Text}
 
--- the values pass the parser of the argument of this name
+-- the values are valid for the argument of this name
 abbrev pub suits : List Rule → Text → List Text → Bool
 suits c id values = option_map_or (λ a. values_pass a values) (arg_by_id c id) true
 
@@ -20,21 +20,21 @@ suits c id values = option_map_or (λ a. values_pass a values) (arg_by_id c id) 
 abbrev pub IsGood : List Rule → Row → Type 0
 IsGood c r = (0 < length r.values) × (suits c r.id r.values ≡ true)
 
--- each row is good
+-- all rows are good
 abbrev pub Filled : List Rule → List Row → Type 0
 Filled c [] = ⊤
 Filled c (r ∷ rs) = IsGood c r × Filled c rs
 
--- each use of the argument gives a value, unless it asks for help or the version
+-- the argument always gets a value, unless it asks for help or the version
 abbrev pub gives_value : Rule → Bool
 gives_value a = is_request (action_of a) || (nat_lt 0 (unwrap_or_range a.range).start_inclusive || not (is_empty a.missing))
 
--- each use of these arguments gives a value, and no two have the same name
+-- each of these arguments always gets a value, and no two have the same name
 abbrev pub is_plain : List Rule → Bool
 is_plain [] = true
 is_plain (a ∷ c) = gives_value a && (not (list_any (λ b. bytes_eq b.id a.id) c) && is_plain c)
 
--- the argument gives values, and is the only one of its name
+-- the argument always gets a value, and is the only one of its name
 abbrev IsOwn : List Rule → Rule → Type 0
 IsOwn c a = (gives_value a ≡ true) × (arg_by_id c a.id ≡ Some a)
 
@@ -69,7 +69,7 @@ longer : (vs ws : List Text) → 0 < length ws → 0 < length (vs ++ ws)
 longer [] ws lt = lt
 longer (v ∷ vs) ws lt = omega arith
 
--- a use leaves a value
+-- if the number of values is valid, the argument gets a value
 left_values : (a : Rule) (values : List Text) → (nat_lt 0 (unwrap_or_range a.range).start_inclusive || not (is_empty a.missing)) ≡ true
     → nat_le (unwrap_or_range a.range).start_inclusive (length values) ≡ true → 0 < length (values_or_missing a values)
 left_values a values gives le = grind (arith, nat_tests, leb-true)
@@ -88,7 +88,7 @@ module _ (c : List Rule) where
   without_keeps : (id : Text) (rows : List Row) → Filled c rows → Filled c (without id rows)
   without_keeps id rows f = changed id (λ _. []) [] rows (λ r is good. tt) tt f
 
-  -- the values of a row are valid for the argument of its name if they pass its parser
+  -- if the argument is the only one of its name, values are valid for the name if they are for the argument
   suits_own : (a : Rule) (id : Text) (values : List Text) → arg_by_id c a.id ≡ Some a → bytes_eq id a.id ≡ true →
       suits c id values ≡ values_pass a values
   suits_own a id values own same =
@@ -158,7 +158,7 @@ module _ (c : List Rule) (again : Bool) (own : AllOwn c c) where
 
 -- ---- a word
 
--- the subcommand that was entered isn't the one for help, if there is one
+-- the subcommand isn't `help`
 abbrev pub is_no_help : Shape → Text → Bool
 is_no_help s name = not (bytes_eq name (codes "help")) || s.disable_help_subcommand
 
@@ -203,7 +203,7 @@ module _ (s : Shape) (own : AllOwn s.rules s.rules) where
       StepKeeps s (word_met s.rules names is_trailing waiting position word h)
   word_keeps names is_trailing waiting position word h passes f = grind (arith, nat_tests, other_keeps)
 
-  -- ---- the walk
+  -- ---- the walk over the words
 
   step_keeps : (word : Text) (w : Walk) (h : Held) (step : Step) → step_passes s w.position h step ≡ true → StopsWell s w.stopped →
       Filled s.rules h.rows → EntersNoHelp s step → WalkKeeps s (after_step s.rules word w h step)
@@ -235,7 +235,7 @@ defaults_keep : (c xs : List Rule) (rows : List Row) → AllOwn c xs → list_al
 defaults_keep c [] rows own passes f = f
 defaults_keep c (a ∷ xs) rows own passes f = grind (arith, nat_tests, defaults_keep c xs (with_default rows a) own.1, with_default_keeps)
 
--- the row of this name, if any, is good
+-- if there is a row of this name, it is good
 abbrev IsGoodIfAny : List Rule → Text → Option Row → Type 0
 IsGoodIfAny c id None = ⊤
 IsGoodIfAny c id (Some r) = (0 < length r.values) × (suits c id r.values ≡ true)
@@ -253,8 +253,7 @@ whole_from : (c xs : List Rule) (rows : List Row) → AllOwn c xs → Filled c r
 whole_from c [] rows own f given = refl
 whole_from c (a ∷ xs) rows own f given = grind (arith, nat_tests, whole_from c xs rows own.1 f, rule_filled)
 
--- a level that is accepted: each argument has valid values, no help is asked for, and a required subcommand is
--- present
+-- if a level of the parse is accepted, its arguments have valid values, no help is asked for, and a required subcommand isn't missing
 pub level_keeps : (s : Shape) (names : Names) (words : List Text) (has_subcommand : Bool) → is_plain s.rules ≡ true →
     s.subcommand_negates_reqs ≡ false → level_passes s names nothing_held words has_subcommand ≡ true
     → (is_whole s.rules (finished s.rules (walk s.rules names nothing_held words).held) ≡ true)

@@ -1,4 +1,4 @@
--- The command of `eros`, as a parse reads it.
+-- The command of `eros`, as clap parses it.
 use Rattle.std.specs.Prelude.{◌≡◌, ℕ, List, [], ◌∷◌, Some, true, false, codes}
 use Rattle.clap.specs.Words.{App, Rule, Text, app_of, new_app, new_rule, with_rule, with_subcommand}
 use Rattle.clap.specs.declared.builder.action.ArgAction.TheVariants.{Append, SetTrue}
@@ -14,51 +14,51 @@ use Rattle.command_line.specs.declared.subcommands.Subcommand.TheVariants as sub
 abbrev pub file_rule : Text → Rule
 file_rule name = record (new_rule name) { required = true }
 
--- the greatest number that a word may write
+-- the greatest number that an argument may give
 abbrev pub greatest_number : ℕ
 greatest_number = 18446744073709551615
 
--- --NAME VALUE, a number within limits, which may be left out
+-- --NAME VALUE, a number within limits; optional
 abbrev pub option_rule : Text → ℕ → ℕ → Rule
 option_rule name least most = record
     (new_rule name) { long = Some name; value_names = 1; parser = Some (Unsigned least most) }
 
--- --cache C, how many objects a cache may hold
+-- --cache C, the capacity of the cache
 abbrev pub cache_rule : Rule
 cache_rule = option_rule (codes "cache") 8 8192
 
--- --NAME VALUE, any number
+-- --NAME VALUE, any number; optional
 abbrev pub number_rule : Text → Rule
 number_rule name = option_rule name 0 greatest_number
 
--- --NAME VALUE, any number, which may be given several times or left out
+-- --NAME VALUE, any number; optional, and may be repeated
 abbrev pub numbers_rule : Text → Rule
 numbers_rule name = record (number_rule name) { action = Some Append }
 
--- P [P ..], numbers, which may be left out
+-- P [P ..], numbers; optional
 abbrev pub processes_rule : Rule
 processes_rule = record (new_rule (codes "P")) {
   range = Some (record { start_inclusive = 1; end_inclusive = greatest_number });
   parser = Some (Unsigned 0 greatest_number);
 }
 
--- --NAME, which may be left out
+-- --NAME; optional
 abbrev pub flag_rule : Text → Rule
 flag_rule name = record (new_rule name) { long = Some name; action = Some SetTrue }
 
--- --json, by which answers are written as JSON
+-- --json, for answers in JSON
 abbrev pub json_rule : Rule
 json_rule = flag_rule (codes "json")
 
--- --verbose, which every subcommand takes
+-- --verbose, an option of every subcommand
 abbrev pub cause_rule : Rule
 cause_rule = flag_rule (codes "verbose")
 
--- --NAME VALUE, any text, which may be left out
+-- --NAME VALUE, any text; optional
 abbrev pub text_rule : Text → Rule
 text_rule name = record (new_rule name) { long = Some name; value_names = 1 }
 
--- --names FILE, by which objects have names
+-- --names FILE, the file with the names of objects
 abbrev pub names_rule : Rule
 names_rule = text_rule (codes "names")
 
@@ -72,7 +72,7 @@ argument_rule (argument.Numbers name value help) = numbers_rule name.now
 argument_rule (argument.Flag name help) = flag_rule name.now
 argument_rule argument.Names = names_rule
 
--- the word that names a subcommand
+-- the name of a subcommand
 abbrev pub subcommand_name : Subcommand → Text
 subcommand_name sub.Build = codes "build"
 subcommand_name sub.Run = codes "run"
@@ -106,7 +106,7 @@ rules_of sub.Describe = file_rule (codes "IMAGE") ∷ number_rule (codes "nodes"
 rules_of sub.Draw = file_rule (codes "IMAGE") ∷ number_rule (codes "from") ∷ flag_rule (codes "reads")
     ∷ number_rule (codes "to") ∷ names_rule ∷ cause_rule ∷ []
 
--- a command with more arguments
+-- a command with these arguments added
 abbrev pub with_rules : App → List Rule → App
 with_rules app [] = app
 with_rules app (r ∷ rs) = with_rules (with_rule app r) rs
@@ -115,7 +115,7 @@ with_rules app (r ∷ rs) = with_rules (with_rule app r) rs
 abbrev pub subcommand_app : Subcommand → App
 subcommand_app s = with_rules (new_app (subcommand_name s)) (rules_of s)
 
--- a command with more subcommands
+-- a command with these subcommands added
 abbrev pub with_subcommands : App → List Subcommand → App
 with_subcommands app [] = app
 with_subcommands app (s ∷ rest) = with_subcommands (with_subcommand app (subcommand_app s).top) rest
@@ -133,10 +133,10 @@ bare_app = record {
   subs = [];
 }
 
--- the program, which needs one of its subcommands
+-- the program, which requires one of its subcommands
 abbrev pub eros_app : App
 eros_app = with_subcommands bare_app subcommands
 
--- clap's command c is this one, and has no argument that holds for subcommands too
+-- clap's command c is this one, and no argument of it is global
 abbrev pub IsCommand : App → Command → Type 0
 IsCommand app c = (app_of c ≡ app) × ((out-Command c).has_globals ≡ false)

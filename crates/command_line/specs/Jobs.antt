@@ -10,21 +10,21 @@ use Rattle.command_line.specs.declared.requested.Script.{Script}
 use Rattle.command_line.specs.declared.requested.Script.TheVariants as script
 use Rattle.command_line.specs.declared.requested.Sizes.{Sizes}
 
--- standard input is named by a hyphen, and a file by any other word
+-- a hyphen is standard input, and any other word a file
 abbrev pub IsScript : Text → Script → Type 0
 IsScript word script.Input = word ≡ codes "-"
 IsScript word (script.File name) = (name.now ≡ word) × (word ≢ codes "-")
 
--- the capacity that `--cache` gives, if any
+-- the capacity that `--cache` gives, or `None` if it is missing
 abbrev pub IsCache : List Row → Option ℕ → Type 0
 IsCache rows cache = IsOption rows (codes "cache") 8 8192 cache
 
--- the sizes that the options give, if any
+-- the sizes that the options give, or `None` for those that are missing
 abbrev pub AreSizes : List Row → Sizes → Type 0
 AreSizes rows sizes = IsNumberOption rows (codes "nodes") sizes.nodes
     × IsNumberOption rows (codes "pages") sizes.pages × IsNumberOption rows (codes "log") sizes.log
 
--- the subcommand of this name, with these arguments, is the job
+-- the subcommand of this name, with these arguments, is this job
 abbrev pub IsJob : Text → List Row → Job → Type 0
 IsJob name rows (job.Build description image is_new) = (name ≡ codes "build") × IsFlag rows (codes "new") is_new
     × IsGiven rows (codes "DESCRIPTION") description.now × IsGiven rows (codes "IMAGE") image.now
@@ -57,34 +57,35 @@ IsJob name rows (job.Draw image from reads to) = (name ≡ codes "draw") × IsGi
     × IsNumberOption rows (codes "from") from × IsFlag rows (codes "reads") reads
     × IsNumberOption rows (codes "to") to
 
--- the file that `--names` gives, if any
+-- the file that `--names` gives, or `None` if it is missing
 abbrev pub IsNames : List Row → Option (Bor Text) → Type 0
 IsNames rows names = first_of (codes "names") rows ≡ option_map (λ file. file.now) names
 
--- the subcommand of this name, with these arguments, is the job, and says whether causes are written and where names are
+-- the subcommand of this name, with these arguments, is this line: the job, whether causes are written, and the file
+-- with names
 abbrev pub IsLine : Text → List Row → CommandLine → Type 0
 IsLine name rows line = IsJob name rows line.job × IsFlag rows (codes "verbose") line.is_verbose × IsNames rows line.names
 
--- the subcommand that was parsed, if any, is what the line requests
+-- the parsed subcommand is this line
 abbrev pub NamesLine : Option (Text × List Row) → CommandLine → Type 0
 NamesLine None line = ⊥
 NamesLine (Some met) line = IsLine met.0 met.1 line
 
--- the subcommand is `command`, and its image and the new one are the same word
+-- the subcommand is `command`, and its image and the new file are the same word
 abbrev pub IsSameOf : Text → Text → Text → List Row → Type 0
 IsSameOf command image name rows = (name ≡ command) × (word : Text) × IsGiven rows image word × IsGiven rows
     (codes "NEW") word
 
--- the subcommand is an upgrade or a copy whose two words are equal
+-- the subcommand is an upgrade or a copy of a file to itself
 abbrev pub IsSameTwice : Text → List Row → Type 0
 IsSameTwice name rows = IsSameOf (codes "upgrade") (codes "OLD") name rows ⊎ IsSameOf (codes "copy") (codes "IMAGE")
     name rows
 
--- the subcommand lacks an argument, or is `help`, or is an upgrade or a copy whose two words are equal
+-- the subcommand lacks an argument, is `help`, or is an upgrade or a copy of a file to itself
 abbrev pub IsNoJob : Text → List Row → Type 0
 IsNoJob name rows = has_all name rows ≡ true → (name ≡ codes "help") ⊎ IsSameTwice name rows
 
--- the subcommand that was parsed, if any, is no job
+-- if a subcommand was parsed, it is no job
 abbrev pub NamesNone : Option (Text × List Row) → Type 0
 NamesNone None = ⊤
 NamesNone (Some met) = IsNoJob met.0 met.1

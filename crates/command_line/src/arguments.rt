@@ -1,4 +1,4 @@
-// Reading the matches of an argument.
+// Reading arguments from clap's matches.
 ghost use Rattle.std.specs.Prelude.{◌≡◌, IfSome, IsNone, IfOk, Some, codes, map};
 ghost use Rattle.std.specs.List.{All};
 ghost use Rattle.clap.specs.Words.{IsUnsignedIn, found_of, rows_of};
@@ -9,7 +9,7 @@ ghost use Rattle.command_line.specs.Commands.{greatest_number};
 use clap::ArgMatches;
 use std::alloc::{AllocError, Global};
 
-// Returns the number that a word writes, or `None` if it isn't a number from `least` to `most`.
+// Returns the number in a word, or `None` if the word isn't a number from `least` to `most`.
 fn number_in(word: &str, least: u64, most: u64) -> Option<u64>
     ensures named { IfSome result (IsNumber least most word.now) }
     ensures none { IsNone result → IsUnsignedIn least most word.now → ⊥ }
@@ -20,8 +20,8 @@ fn number_in(word: &str, least: u64, most: u64) -> Option<u64>
     }
 }
 
-// Returns the number of an option: `Some(None)` if the option is left out, and `None` if its word isn't a number from
-// `least` to `most`.
+// Returns the number that an option gives, `Some(None)` if the option is missing, or `None` if its word isn't a
+// number from `least` to `most`.
 #[tactic(auto, using(crate::proofs::Getters::missing))]
 pub(crate) fn option_of(
     inner: &ArgMatches<'_>,
@@ -41,8 +41,8 @@ pub(crate) fn option_of(
     }
 }
 
-// Returns the numbers that these words write, in their order, or `None` if a word isn't a number. Fails if memory
-// runs out.
+// Returns the numbers in these words, in their order, or `None` if a word isn't a number. Fails if memory runs
+// out.
 pub(crate) fn numbers_in(alloc: Global, words: &[&str]) -> Result<Option<Vec<u64>>, AllocError>
     ensures named { IfOk result (λ o. IfSome o (λ numbers. numbers.items ≡ map number_of (texts_of words.now)
         × All (IsUnsignedIn 0 greatest_number) (texts_of words.now))) }
@@ -58,8 +58,8 @@ pub(crate) fn numbers_in(alloc: Global, words: &[&str]) -> Result<Option<Vec<u64
     Ok(Some(numbers))
 }
 
-// Returns the numbers of an argument, in their order, and an empty list if it is left out; or `None` if one of its
-// words isn't a number. Fails if memory runs out.
+// Returns the numbers that an argument gives, in their order; an empty list if it is missing; or `None` if a word
+// isn't a number. Fails if memory runs out.
 pub(crate) fn numbers_of(
     alloc: Global,
     inner: &ArgMatches<'_>,

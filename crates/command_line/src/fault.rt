@@ -1,4 +1,4 @@
-// Why the words of a command line name no job.
+// Why a command line names no job.
 ghost use Rattle.std.specs.Prelude.{◌≡◌, IfOk};
 ghost use Rattle.clap.specs.Words.{kind_of};
 ghost use Rattle.clap.specs.declared.error.kind.ErrorKind.TheVariants.{InvalidValue};
@@ -9,11 +9,11 @@ use clap::Error;
 use clap::error::ErrorKind;
 use std::alloc::{AllocError, Global};
 
-/// Why the words of a command line name no job.
+/// Why a command line names no job.
 #[derive(Drop)]
 pub enum JobFault {
-    /// With clap's message: the words are wrong for the command, they ask for help, or both files of an upgrade or a
-    /// copy are the same.
+    /// The words are wrong for the command, they ask for help, or both files of an upgrade or a copy are the same.
+    /// This is clap's message.
     BadWords(Error),
     /// Memory ran out.
     NoMemory,
@@ -30,7 +30,7 @@ impl From<AllocError> for JobFault {
 impl JobFault {
     ghost use Rattle.command_line.specs.Refusals.{IsFaultOf};
 
-    // Returns the fault for an error of clap.
+    // Returns the fault for an error from clap.
     pub(crate) fn of(error: Error) -> JobFault
         ensures { IsFaultOf error result }
     {

@@ -1,4 +1,4 @@
-//! The command line of `eros`: reading from its words which job to do.
+//! The command line of `eros`: reading the job to do from its words.
 #![tactic(auto)]
 
 mod arguments;

@@ -1,4 +1,4 @@
-// The jobs of `eros`, and reading them from clap's matches.
+// The jobs of `eros`, and how they are read from clap's matches.
 ghost use Rattle.std.specs.Prelude.{◌≡◌, ◌⊎◌, IfErr, IfOk, IfSome, IsNone, codes, map};
 ghost use Rattle.clap.specs.Words.{found_of, kind_of, rows_of, subcommand_of, subcommand_rows_of};
 ghost use Rattle.clap.specs.declared.error.kind.ErrorKind.TheVariants.{OutOfMemory};
@@ -38,34 +38,35 @@ pub struct Sizes {
     pub log: Option<u64>,
 }
 
-/// A run of a script over an image.
+/// Running a script over an image.
 #[derive(Drop)]
 pub struct Run<'a> {
     pub image: &'a str,
     pub script: Script<'a>,
-    /// The most objects kept in memory. `None`: all.
+    /// The most objects kept in memory; all if `None`.
     pub cache: Option<Capacity>,
-    /// Whether a line about each line of the script is written to standard error.
+    /// Whether to write a line about each line of the script to standard error.
     pub trace: bool,
-    /// Whether the run stops at the first line that is bad or refused, or whose invocation of a kernel object fails.
+    /// Whether to stop at the first line that is bad or refused, or whose invocation of a kernel object fails.
     pub strict: bool,
-    /// Whether the present state is saved after the last line.
+    /// Whether to save the present state after the last line.
     pub saves: bool,
-    /// The number of reads, writes and syncs after which the device fails every call. `None`: it never does.
+    /// The number of reads, writes and syncs after which the device fails every call; if `None`, it never
+    /// does.
     pub stop_after: Option<u64>,
 }
 
-/// A question about what processes of an image can ever change.
+/// What processes of an image can ever change.
 #[derive(Drop)]
 pub struct Reach<'a> {
     pub image: &'a str,
-    /// The numbers of the processes, in the order of the words; if there are none, all processes.
+    /// The numbers of the processes, in the order of the words; all processes if there are none.
     pub processes: Vec<u64>,
-    /// Whether the question is what they can ever read, instead of change.
+    /// Whether to print what they can ever read, instead of change.
     pub reads: bool,
-    /// The object to which a shortest chain of capabilities is printed.
+    /// If there is one, print a shortest chain of capabilities to this object.
     pub shows: Option<u64>,
-    /// The object for which all processes are printed that can change it.
+    /// If there is one, print all processes that can change this object.
     pub to: Option<u64>,
     /// The numbers of the trusted processes, in the order of the words.
     pub trusted: Vec<u64>,
@@ -73,14 +74,14 @@ pub struct Reach<'a> {
     pub json: bool,
 }
 
-/// A job of `eros`, with the names of its files.
+/// A job of `eros`, with its files and options.
 #[derive(Drop)]
 pub enum Job<'a> {
     /// Builds an image.
     Build {
         description: &'a str,
         image: &'a str,
-        /// Whether an existing file is refused. Then no file is left after a fault.
+        /// Whether to refuse an existing file. Then a fault leaves no file.
         is_new: bool,
     },
     /// Runs a script over an image.
@@ -88,7 +89,7 @@ pub enum Job<'a> {
     /// Reads commands from a terminal and runs them over an image.
     Shell {
         image: &'a str,
-        /// The most objects kept in memory. `None`: all.
+        /// The most objects kept in memory; all if `None`.
         cache: Option<Capacity>,
     },
     /// Checks an image.
@@ -111,12 +112,12 @@ pub enum Job<'a> {
     },
     /// Prints what processes of an image can ever change, or read.
     Reach(Reach<'a>),
-    /// Writes the saved state of an image to a new image, in version 2 of the layout. The two names differ.
+    /// Writes the saved state of an image to a new image, in version 2 of the layout. The two words differ.
     Upgrade {
         old: &'a str,
         new: &'a str,
     },
-    /// Writes the saved state of an image to a new image, in the same version of the layout. The two names differ.
+    /// Writes the saved state of an image to a new image, in the same version of the layout. The two words differ.
     Copy {
         image: &'a str,
         new: &'a str,
@@ -129,11 +130,11 @@ pub enum Job<'a> {
     /// Prints a graph of the saved state of an image.
     Draw {
         image: &'a str,
-        /// Draws only what this process reaches: the least closed set that contains it.
+        /// If there is one, draw only the least closed set that contains this process.
         from: Option<u64>,
-        /// Whether that set is closed for reading.
+        /// Whether that set is the one closed for reading.
         reads: bool,
-        /// Draws only this object and the holders of capabilities to it.
+        /// If there is one, draw only this object and the holders of capabilities to it.
         to: Option<u64>,
     },
 }
@@ -145,7 +146,7 @@ pub struct CommandLine<'a> {
     pub job: Job<'a>,
     /// Whether the cause of a fault is always written to standard error.
     pub is_verbose: bool,
-    /// The file that gives names to objects.
+    /// The file with the names of objects.
     pub names: Option<&'a str>,
 }
 
@@ -160,8 +161,8 @@ fn script_of<'a>(word: &'a str) -> Script<'a>
     }
 }
 
-// Returns the capacity of the option `--cache`: `Some(None)` if it is left out, and `None` if it isn't a number from
-// 8 to 8192.
+// Returns the capacity that `--cache` gives, `Some(None)` if it is missing, or `None` if its word isn't a number
+// from 8 to 8192.
 fn cache_of(inner: &ArgMatches<'_>) -> Option<Option<Capacity>>
     ensures named { IfSome result (IsCache (rows_of (found_of inner.now))) }
     ensures none { IsNone result → GivesNoNumber (rows_of (found_of inner.now)) (codes "cache") 8 8192 }
@@ -175,7 +176,8 @@ fn cache_of(inner: &ArgMatches<'_>) -> Option<Option<Capacity>>
     }
 }
 
-// Returns the number of an option: `Some(None)` if it is left out, and `None` if its word isn't a number.
+// Returns the number that an option gives, `Some(None)` if it is missing, or `None` if its word isn't a
+// number.
 fn number_of(inner: &ArgMatches<'_>, name: &str) -> Option<Option<u64>>
     ensures named { IfSome result (IsNumberOption (rows_of (found_of inner.now)) name.now) }
     ensures none { IsNone result → GivesNoNumber (rows_of (found_of inner.now)) name.now 0 greatest_number }
@@ -183,7 +185,7 @@ fn number_of(inner: &ArgMatches<'_>, name: &str) -> Option<Option<u64>>
     option_of(inner, name, 0, u64::MAX)
 }
 
-// The `build` job for these matches, or `None` if a word is missing.
+// Returns the `build` job for these matches, or `None` if a word is missing.
 fn build_of<'a>(inner: &ArgMatches<'a>) -> Option<Job<'a>>
     ensures named { IfSome result (IsJob (codes "build") (rows_of (found_of inner.now))) }
     ensures none { IsNone result → IsNoJob (codes "build") (rows_of (found_of inner.now)) }
@@ -198,7 +200,8 @@ fn build_of<'a>(inner: &ArgMatches<'a>) -> Option<Job<'a>>
     })
 }
 
-// The `run` job for these matches, or `None` if a word is missing or an option has no valid number.
+// Returns the `run` job for these matches, or `None` if a word is missing or an option has no valid
+// number.
 fn run_of<'a>(inner: &ArgMatches<'a>) -> Option<Job<'a>>
     ensures named { IfSome result (IsJob (codes "run") (rows_of (found_of inner.now))) }
     ensures none { IsNone result → IsNoJob (codes "run") (rows_of (found_of inner.now)) }
@@ -222,7 +225,8 @@ fn run_of<'a>(inner: &ArgMatches<'a>) -> Option<Job<'a>>
     }))
 }
 
-// The `shell` job for these matches, or `None` if they have no image argument or no valid capacity.
+// Returns the `shell` job for these matches, or `None` if there is no image argument or no valid
+// capacity.
 fn shell_of<'a>(inner: &ArgMatches<'a>) -> Option<Job<'a>>
     ensures named { IfSome result (IsJob (codes "shell") (rows_of (found_of inner.now))) }
     ensures none { IsNone result → IsNoJob (codes "shell") (rows_of (found_of inner.now)) }
@@ -232,7 +236,7 @@ fn shell_of<'a>(inner: &ArgMatches<'a>) -> Option<Job<'a>>
     Some(Job::Shell { image, cache })
 }
 
-// The `check` job for these matches, or `None` if they have no image argument.
+// Returns the `check` job for these matches, or `None` if there is no image argument.
 fn check_of<'a>(inner: &ArgMatches<'a>) -> Option<Job<'a>>
     ensures named { IfSome result (IsJob (codes "check") (rows_of (found_of inner.now))) }
     ensures none { IsNone result → IsNoJob (codes "check") (rows_of (found_of inner.now)) }
@@ -242,7 +246,7 @@ fn check_of<'a>(inner: &ArgMatches<'a>) -> Option<Job<'a>>
     Some(Job::Check { image, json })
 }
 
-// The `explain` job for these matches, or `None` if they have no file argument.
+// Returns the `explain` job for these matches, or `None` if there is no file argument.
 fn explain_of<'a>(inner: &ArgMatches<'a>) -> Option<Job<'a>>
     ensures named { IfSome result (IsJob (codes "explain") (rows_of (found_of inner.now))) }
     ensures none { IsNone result → IsNoJob (codes "explain") (rows_of (found_of inner.now)) }
@@ -252,7 +256,7 @@ fn explain_of<'a>(inner: &ArgMatches<'a>) -> Option<Job<'a>>
     Some(Job::Explain { file, json })
 }
 
-// The `info` job for these matches, or `None` if they have no image argument.
+// Returns the `info` job for these matches, or `None` if there is no image argument.
 fn info_of<'a>(inner: &ArgMatches<'a>) -> Option<Job<'a>>
     ensures named { IfSome result (IsJob (codes "info") (rows_of (found_of inner.now))) }
     ensures none { IsNone result → IsNoJob (codes "info") (rows_of (found_of inner.now)) }
@@ -262,8 +266,8 @@ fn info_of<'a>(inner: &ArgMatches<'a>) -> Option<Job<'a>>
     Some(Job::Info { image, json })
 }
 
-// The `reach` job for these matches, processes and trusted processes, or `None` if there is no image argument or an
-// option has no valid number.
+// Returns the `reach` job for these matches, processes and trusted processes. Returns `None` if there is no image
+// argument, or if an option has no valid number.
 fn reach_from<'a>(inner: &ArgMatches<'a>, processes: Vec<u64>, trusted: Vec<u64>) -> Option<Job<'a>>
     ensures named { AreNumbersIfAny (rows_of (found_of inner.now)) (codes "P") processes.items
         → AreNumbersIfAny (rows_of (found_of inner.now)) (codes "trust") trusted.items → IfSome result (IsJob (codes "reach") (rows_of (found_of inner.now))) }
@@ -284,8 +288,8 @@ fn reach_from<'a>(inner: &ArgMatches<'a>, processes: Vec<u64>, trusted: Vec<u64>
     }))
 }
 
-// The `reach` job for these matches and processes, or `None` if there is no image argument or a word isn't a number.
-// Fails if memory runs out.
+// Returns the `reach` job for these matches and processes, or `None` if there is no image argument or a word isn't a
+// number. Fails if memory runs out.
 fn reach_with<'a>(
     alloc: Global,
     inner: &ArgMatches<'a>,
@@ -301,8 +305,8 @@ fn reach_with<'a>(
     }
 }
 
-// The `reach` job for these matches, or `None` if there is no image argument or a word isn't a number. Fails if
-// memory runs out.
+// Returns the `reach` job for these matches, or `None` if there is no image argument or a word isn't a number.
+// Fails if memory runs out.
 fn reach_of<'a>(alloc: Global, inner: &ArgMatches<'a>) -> Result<Option<Job<'a>>, AllocError>
     ensures named { IfOk result (λ o. IfSome o (IsJob (codes "reach") (rows_of (found_of inner.now)))) }
     ensures none { IfOk result (λ o. IsNone o → IsNoJob (codes "reach") (rows_of (found_of inner.now))) }
@@ -313,7 +317,7 @@ fn reach_of<'a>(alloc: Global, inner: &ArgMatches<'a>) -> Result<Option<Job<'a>>
     }
 }
 
-// The `upgrade` job for these matches, or `None` if a word is missing or both are the same.
+// Returns the `upgrade` job for these matches, or `None` if a word is missing or both are the same.
 fn upgrade_of<'a>(inner: &ArgMatches<'a>) -> Option<Job<'a>>
     ensures named { IfSome result (IsJob (codes "upgrade") (rows_of (found_of inner.now))) }
     ensures none { IsNone result → IsNoJob (codes "upgrade") (rows_of (found_of inner.now)) }
@@ -326,7 +330,7 @@ fn upgrade_of<'a>(inner: &ArgMatches<'a>) -> Option<Job<'a>>
     Some(Job::Upgrade { old, new })
 }
 
-// The `copy` job for these matches, or `None` if a word is missing or both are the same.
+// Returns the `copy` job for these matches, or `None` if a word is missing or both are the same.
 fn copy_of<'a>(inner: &ArgMatches<'a>) -> Option<Job<'a>>
     ensures named { IfSome result (IsJob (codes "copy") (rows_of (found_of inner.now))) }
     ensures none { IsNone result → IsNoJob (codes "copy") (rows_of (found_of inner.now)) }
@@ -339,7 +343,7 @@ fn copy_of<'a>(inner: &ArgMatches<'a>) -> Option<Job<'a>>
     Some(Job::Copy { image, new })
 }
 
-// The sizes in these matches, or `None` if a word isn't a number.
+// Returns the sizes in these matches, or `None` if a word isn't a number.
 fn sizes_of(inner: &ArgMatches<'_>) -> Option<Sizes>
     ensures named { IfSome result (AreSizes (rows_of (found_of inner.now))) }
     ensures none { IsNone result → IsNoJob (codes "describe") (rows_of (found_of inner.now)) }
@@ -351,7 +355,8 @@ fn sizes_of(inner: &ArgMatches<'_>) -> Option<Sizes>
     })
 }
 
-// The `describe` job for these matches, or `None` if they have no image argument or a size isn't a number.
+// Returns the `describe` job for these matches, or `None` if there is no image argument or a size isn't a
+// number.
 fn describe_of<'a>(inner: &ArgMatches<'a>) -> Option<Job<'a>>
     ensures named { IfSome result (IsJob (codes "describe") (rows_of (found_of inner.now))) }
     ensures none { IsNone result → IsNoJob (codes "describe") (rows_of (found_of inner.now)) }
@@ -361,7 +366,8 @@ fn describe_of<'a>(inner: &ArgMatches<'a>) -> Option<Job<'a>>
     Some(Job::Describe { image, sizes })
 }
 
-// The `draw` job for these matches, or `None` if they have no image argument or an option has no valid number.
+// Returns the `draw` job for these matches, or `None` if there is no image argument or an option has no valid
+// number.
 fn draw_of<'a>(inner: &ArgMatches<'a>) -> Option<Job<'a>>
     ensures named { IfSome result (IsJob (codes "draw") (rows_of (found_of inner.now))) }
     ensures none { IsNone result → IsNoJob (codes "draw") (rows_of (found_of inner.now)) }
@@ -377,7 +383,7 @@ fn draw_of<'a>(inner: &ArgMatches<'a>) -> Option<Job<'a>>
     })
 }
 
-// The job of a subcommand with these matches, or `None`. Fails if memory runs out.
+// Returns the job of a subcommand with these matches, or `None`. Fails if memory runs out.
 fn job_of<'a>(
     alloc: Global,
     subcommand: Subcommand,
@@ -401,7 +407,7 @@ fn job_of<'a>(
     }
 }
 
-// The job of the subcommand with this name, or `None`. Fails if memory runs out.
+// Returns the job of the subcommand with this name, or `None`. Fails if memory runs out.
 fn job_named<'a>(
     alloc: Global,
     name: &str,
@@ -416,7 +422,7 @@ fn job_named<'a>(
     }
 }
 
-// The file that gives names to objects, if one is given.
+// Returns the file with the names of objects, if one is given.
 #[tactic(auto, using(crate::proofs::Getters::given_or_not))]
 fn names_of<'a>(inner: &ArgMatches<'a>) -> Option<&'a str>
     ensures { IsNames (rows_of (found_of inner.now)) result }
@@ -424,7 +430,7 @@ fn names_of<'a>(inner: &ArgMatches<'a>) -> Option<&'a str>
     inner.get_str(NAMES)
 }
 
-// What the subcommand with this name asks for, or `None`. Fails if memory runs out.
+// Returns what the subcommand with this name asks for, or `None`. Fails if memory runs out.
 fn line_named<'a>(
     alloc: Global,
     name: &str,
@@ -447,7 +453,7 @@ fn line_named<'a>(
     }
 }
 
-// What these matches ask for, or `None`. Fails if memory runs out.
+// Returns what these matches ask for, or `None`. Fails if memory runs out.
 fn requested<'a>(
     alloc: Global,
     matches: ArgMatches<'a>,
@@ -462,8 +468,8 @@ fn requested<'a>(
 }
 
 // Reads a command line from its words. Fails with clap's error if the words are wrong for the command or ask for
-// help, with `ValueValidation` if both files of an upgrade or a copy are the same, and with `OutOfMemory` if memory
-// runs out.
+// help. Fails with `ValueValidation` if both files of an upgrade or a copy are the same, and with `OutOfMemory` if
+// memory runs out.
 pub(crate) fn read_line<'a, S: AsStr>(
     alloc: Global,
     command: &mut Command<'a>,
@@ -477,7 +483,7 @@ pub(crate) fn read_line<'a, S: AsStr>(
     let matches = command.try_get_matches_from_mut(words)?;
     match requested(alloc, matches)? {
         Some(line) => Ok(line),
-        // Clap accepts words that name no job only if both files of an upgrade or a copy are the same.
+        // If clap accepts words that name no job, both files of an upgrade or a copy are the same.
         None => Err(command.error(ErrorKind::ValueValidation, "both files are the same")?),
     }
 }

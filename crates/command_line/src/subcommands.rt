@@ -68,17 +68,17 @@ const VERSION: &str = "1.0.0\nlayouts 1 and 2\nproved with rattle-kit-13f logic 
 enum Argument<'a> {
     /// A required file: its name and its help.
     File(&'a str, &'a str),
-    /// The option for how many objects a cache may hold.
+    /// The option `--cache`, the capacity of the cache.
     Cache,
     /// The optional processes of `reach`.
     Processes,
     /// An option with a number: its name, the name of the number, and its help.
     Number(&'a str, &'a str, &'a str),
-    /// An option with a number that may be given several times: its name, the name of the number, and its help.
+    /// An option with a number that may be repeated: its name, the name of the number, and its help.
     Numbers(&'a str, &'a str, &'a str),
     /// An option without a value: its name and its help.
     Flag(&'a str, &'a str),
-    /// The option for a file that gives names to objects.
+    /// The option `--names`, the file with the names of objects.
     Names,
 }
 
@@ -102,7 +102,7 @@ fn number_arg<'a>(
         .help(help)
 }
 
-// Returns an option with a number that may be given several times.
+// Returns an option with a number that may be repeated.
 fn numbers_arg<'a>(alloc: Global, name: &'a str, value: &'a str, help: &'a str) -> Arg<'a>
     ensures rule { rule_of result ≡ numbers_rule name.now }
     ensures local { result.global ≡ false }
@@ -110,7 +110,7 @@ fn numbers_arg<'a>(alloc: Global, name: &'a str, value: &'a str, help: &'a str) 
     number_arg(alloc, name, value, help, 0, u64::MAX).action(ArgAction::Append)
 }
 
-// Returns the option for a file that gives names to objects.
+// Returns the option `--names`, the file with the names of objects.
 fn names_arg<'a>(alloc: Global) -> Arg<'a>
     ensures rule { rule_of result ≡ names_rule }
     ensures local { result.global ≡ false }
@@ -158,7 +158,7 @@ impl<'a> Argument<'a> {
     }
 }
 
-// The image of a command that only reads it.
+// The image of a command that only reads.
 const READ: Argument<'static> = Argument::File(IMAGE, "The image, which isn't changed");
 
 // The flag for answers in JSON.
@@ -167,7 +167,7 @@ const AS_JSON: Argument<'static> = Argument::Flag(
     "Prints JSON, an object a line; a fault too, as {\"fault\": ..}",
 );
 
-// The flag that asks for the cause of a fault.
+// The flag `--verbose`, which writes the cause of a fault.
 const CAUSE: Argument<'static> = Argument::Flag(
     VERBOSE,
     "Also writes the file and the cause of a fault, as is done on a terminal",

@@ -13,8 +13,10 @@ use std::convert::AsStr;
 
 /// Reads a command line from its words. The first word is the name of the program.
 ///
-/// Returns `BadWords` with an error of clap if the words are wrong for the command or ask for help, `BadWords` with a
-/// `ValueValidation` if both files of an upgrade or a copy are the same, and `NoMemory` if memory runs out.
+/// Returns:
+/// - `BadWords` with clap's error: the words are wrong for the command, or ask for help;
+/// - `BadWords` with a `ValueValidation`: both files of an upgrade or a copy are the same;
+/// - `NoMemory`: memory ran out.
 #[tactic(auto, using(crate::proofs::Refused::refused))]
 pub fn command_line<'a, S: AsStr>(
     alloc: Global,

@@ -1,4 +1,4 @@
--- The order of a bank of a closed set stays in the set.
+-- An order on a bank of a closed set stays within the set.
 use Rattle.confinement.proofs.Names.{nat_tests, inl, inr, ℕ, nat_eq, true, false, List, [], length, refl, sym, ap, subst, arith, IsTrue, slice_index_or}
 use Rattle.confinement.proofs.Names.{range_with_len, false≢true, cases_eq, or_cases, or_right, eqb-true, eqb-false, Capability, Void, Bank, Geometry, Content}
 use Rattle.confinement.proofs.Names.{Object, Arguments, BankOrder, ResultCode, chain, is_under, allocated, are_free, bank_allocated, free_nodes, free_pages}
@@ -14,17 +14,17 @@ use Rattle.model.specs.declared.order.BankOrder.TheVariants as bank
 use Rattle.model.specs.declared.order.ResultCode.TheVariants as code
 use Rattle.confinement.proofs.TrustedEdits.{kept_refl, stays_refl, stays_rescind, stays_trans}
 
--- an outcome of an order whose objects, and given capability, stay within a set
+-- an order's outcome stays within a set: its objects do, and so does the capability that it gives
 abbrev pub OutcomeStays : Zone → List Object → OrderOutcome → Type 0
 OutcomeStays z os o = StaysWithin z os o.objects × Stays z o.capability
 
--- a content that has authority only over members
+-- all authority of this content stays in the set: its annex, the capabilities in its slots, and its space
 record IsFresh (z : Zone) (c : Content Capability) : Type 0 where
   annex : is_root c ≡ true → IsTrue (z.members (root_in c).annex)
   slots : (i : ℕ) → Stays z (slice_index_or (slots_in c) i Void)
   space : Stays z (root_in c).space
 
--- contents without capabilities
+-- a new page, node or bank has no capabilities
 fresh_page : (z : Zone) → IsFresh z new_page
 fresh_page z = record { annex = λ e. cc; slots = λ i. inl (inl tt); space = inl (inl tt) }
 
@@ -47,13 +47,13 @@ module _ (g : Geometry) (z : Zone) (os : List Object) (h : IsNow g os) (k : Encl
   refused_stays : (why : ResultCode) → OutcomeStays z os (refused os why)
   refused_stays why = (stays_refl z os k, inl (inl tt))
 
-  -- each object that a member bank owns is a member
+  -- an object that a member bank owns is a member
   owner_inside : (n : ℕ) → is_free (content_at os n) ≡ false → IsTrue (z.members (owner_at os n)) → IsTrue (z.members n)
   owner_inside n used is = k.closed.owned (owner_at os n) n is (tree.owners n (λ gone. false≢true (sym used ∙ gone))) used refl
 
-  -- new objects
+  -- ---- allocation
 
-  -- each object is unchanged, or a member whose content has authority only over members
+  -- a change stays within the set if each changed object is a member and its new authority stays in the set
   changed_stays : (us : List Object) → ((n : ℕ) → (object_at us n ≡ object_at os n) ⊎ (IsTrue (z.members n) × IsFresh z (content_at us n)))
       → StaysWithin z os us
   changed_stays us each = record {
@@ -94,16 +94,16 @@ module _ (g : Geometry) (z : Zone) (os : List Object) (h : IsNow g os) (k : Encl
     ];
   }
 
-  -- whether the number is free
+  -- the number is free
   abbrev IsUnused : ℕ → Type 0
   IsUnused n = (n < length os) × IsTrue (is_free (content_at os n))
 
-  -- each number in a list of free numbers is free
+  -- each number of a range that `are_free` lists is free
   unused_at : (from count : ℕ) → from + count ≤ length os → (ns : List ℕ) → are_free os (range_with_len from count) ≡ ns → (n : ℕ) →
       is_member ns n ≡ true → IsUnused n
   unused_at from count fits ns e n member = grind (arith, nat_tests, found_in)
 
-  -- making one new object
+  -- making one new object with authority only in the set stays within the set
   new_stays : (n b : ℕ) (c : Content Capability) → IsUnused n → IsFresh z c → StaysWithin z os (with_new os n b c)
   new_stays n b c unused fresh = changed_stays (with_new os n b c) (λ x. elim (cases_eq x n) [
     | inl e ↦ rw e (inr (k.free n unused.1, subst (λ (o : Object). IsFresh z o.content) (sym (at_new os n b c unused.0)) fresh))
@@ -118,7 +118,7 @@ module _ (g : Geometry) (z : Zone) (os : List Object) (h : IsNow g os) (k : Encl
       let unused : IsUnused n = unused_at from count fits (n ∷ ns) e n (member_head n n ns refl) in
       (new_stays n b c unused fresh, stays n (k.free n unused.1))
 
-  -- making a new process: a root and its annex
+  -- making a process, a root with its annex, stays within the set
   process_stays : (p a b : ℕ) → p ≢ a → IsUnused p → IsUnused a → StaysWithin z os (with_new (with_new os p b (new_root a)) a b new_annex)
   process_stays p a b apart root annex =
       let rooted = with_new os p b (new_root a) in
@@ -130,9 +130,9 @@ module _ (g : Geometry) (z : Zone) (os : List Object) (h : IsNow g os) (k : Encl
         | inr no_annex ↦ grind (arith, nat_tests, fresh_root, at_other)
       ])
 
-  -- giving up objects of a bank
+  -- ---- freeing the objects of a bank
 
-  -- a rescind of members stays within the set
+  -- rescinding members stays within the set
   gone_stays : (set : List ℕ) → ((n : ℕ) → is_member set n ≡ true → IsTrue (z.members n)) → StaysWithin z os (rescind set os)
   gone_stays set within = stays_rescind z os set k within
 
@@ -141,11 +141,11 @@ module _ (g : Geometry) (z : Zone) (os : List Object) (h : IsNow g os) (k : Encl
   freed_stays b (n ∷ ns) within = chosen (OutcomeStays z os) (owner_at os n == b) _ _ (λ _. (gone_stays (n ∷ ns) within, inl (inl tt)))
       (λ _. refused_stays code.NotFromThisBank)
 
-  -- the objects that a capability frees are members if the capability stays inside
+  -- if a capability stays inside, the objects that it frees are members
   freed_inside : (c : Capability) → NamesItsKind os c → Stays z c → (n : ℕ) → is_member (freed_by os c) n ≡ true → IsTrue (z.members n)
   freed_inside c names within n member = grind (arith, nat_tests)
 
-  -- a bank whose chain contains a member is a member
+  -- if the chain of a bank contains a member, the bank is a member
   above_inside : (b : ℕ) → IsTrue (z.members b) → (c : ℕ) → IsTrue (is_bank (content_at os c)) → is_member (chain os c) b ≡ true →
       IsTrue (z.members c)
   above_inside b is =
@@ -157,14 +157,14 @@ module _ (g : Geometry) (z : Zone) (os : List Object) (h : IsNow g os) (k : Encl
         | inr later ↦ owner_inside c (used_where is_bank refl (content_at os c) bank) (above later)
       ])
 
-  -- all objects under a member bank are members
+  -- all objects below a member bank are members
   under_inside : (b : ℕ) → IsTrue (z.members b) → (n : ℕ) → is_member (under os b) n ≡ true → IsTrue (z.members n)
   under_inside b is n e = elim (or_cases (n == b) (is_under os b (object_at os n)) (under_found os b n e).1) [
     | inl same ↦ ap z.members (eqb-true n b same) ∙ is
     | inr below ↦ grind (arith, nat_tests, owner_inside, above_inside, tree)
   ]
 
-  -- transferring the objects of a bank, with nothing else changed
+  -- transferring a bank's objects to its owner; b is a member bank other than bank 0
   module _ (b : ℕ) (kind : IsTrue (is_bank (content_at os b))) (on : b ≢ 0) (is : IsTrue (z.members b)) where
     transferred : (n : ℕ) → (object_at (inherited os b) n ≡ object_at os n) ⊎ IsTrue (z.members n)
     transferred n = grind (arith, nat_tests, inherited_object, tree, owner_inside)
@@ -182,7 +182,7 @@ module _ (g : Geometry) (z : Zone) (os : List Object) (h : IsNow g os) (k : Encl
       )
     ])
 
-  -- the orders of a bank
+  -- ---- the order of a bank
 
   module _ (b : ℕ) (args : Arguments) (kind : IsTrue (is_bank (content_at os b))) (is : IsTrue (z.members b)) where
     page_made_stays : OutcomeStays z os (on_bank g os b bank.NewPage args)
@@ -242,7 +242,7 @@ module _ (g : Geometry) (z : Zone) (os : List Object) (h : IsNow g os) (k : Encl
           inl (inl tt),
         ))
 
--- if the arguments of an order of a member bank stay in the set, so does the outcome
+-- an order on a member bank stays within the set if its arguments do
 pub bank_stays : (g : Geometry) (z : Zone) (os : List Object) (b : ℕ) (requested : BankOrder) (args : Arguments) → IsNow g os
     → IsTrue (is_bank (content_at os b)) → IsTrue (z.members b) → NamesItsKind os args.capability → Stays z args.capability → Encloses z os
     → StaysWithin z os (on_bank g os b requested args).objects × Stays z (on_bank g os b requested args).capability

@@ -9,7 +9,7 @@ use Rattle.std.proofs.Common.{◌≡◌, ◌+◌, ◌||◌, if◌then◌else◌,
 use Rattle.confinement.proofs.Zones.{Encloses, IsReceiver, MayChange, Stays, StaysWithin, Zone}
 use Rattle.model.specs.declared.object.Content.TheVariants as content
 
--- a content that may be put at a number: it is not a bank unless a bank was there, and free only at a member
+-- a content that may replace that of object n: it is free only if n is a member, and a bank only if n was one
 pub record MayStand (z : Zone) (os : List Object) (n : ℕ) (c : Content Capability) : Type 0 where
   pub free : is_free c ≡ true → IsTrue (z.members n)
   pub bank : is_bank c ≡ true → is_bank (content_at os n) ≡ true
@@ -18,7 +18,7 @@ pub record MayStand (z : Zone) (os : List Object) (n : ℕ) (c : Content Capabil
   pub slots : IsTrue (z.members n) → (i : ℕ) → Stays z (slice_index_or (slots_in c) i Void)
   pub space : IsTrue (z.members n) → Stays z (root_in c).space
 
--- making some capabilities void, in lists and contents
+-- ---- voiding capabilities, in lists and contents
 
 map_same : (cs : List Capability) → cs ≡ map (void_where (λ c. false)) cs
 map_same [] = refl
@@ -27,7 +27,7 @@ map_same (c ∷ cs) = ap (λ ds. c ∷ ds) (map_same cs)
 content_same : (c : Content Capability) → c ≡ map_content (void_where (λ c. false)) c
 content_same c = grind (arith, nat_tests, map_same)
 
--- a test that either of two tests makes true
+-- whether a capability passes either test
 abbrev either : (Capability → Bool) → (Capability → Bool) → Capability → Bool
 either first second c = first c || second c
 
@@ -43,7 +43,7 @@ content_twice : (first second : Capability → Bool) (c : Content Capability)
     → map_content (void_where second) (map_content (void_where first) c) ≡ map_content (void_where (either first second)) c
 content_twice first second c = grind (arith, nat_tests, map_twice, twice)
 
--- an unchanged object is kept
+-- an unchanged object counts as kept
 pub kept_refl : (inside : ℕ → Bool) (o : Object) → IsKept inside o o
 kept_refl inside o = (
   (λ c. false),
@@ -52,11 +52,11 @@ kept_refl inside o = (
       (content_same o.content),
 )
 
--- an object that is kept twice is kept
+-- an object that two changes keep is kept by both together
 kept_trans : (inside : ℕ → Bool) (o p q : Object) → IsKept inside o p → IsKept inside p q → IsKept inside o q
 kept_trans inside o p q a b = grind (arith, nat_tests, content_twice)
 
--- a list of objects stays within the set if nothing changes
+-- if nothing changes, everything stays within the set
 pub stays_refl : (z : Zone) (os : List Object) → Encloses z os → StaysWithin z os os
 stays_refl z os h = record { encloses = h; kept = λ n out apart. kept_refl z.members (object_at os n) }
 
@@ -67,7 +67,7 @@ stays_trans z os us vs a b = record {
   kept = λ n out apart. kept_trans z.members (object_at os n) (object_at us n) (object_at vs n) (a.kept n out apart) (b.kept n out apart);
 }
 
--- an object that a member bank owns is a member, also where objects may change
+-- an object that a member bank owns is one that may change
 owned_here : (z : Zone) (os : List Object) (n b : ℕ) → Encloses z os → IsTrue (z.members b) → IsTrue (is_bank (content_at os b)) →
     owner_at os n ≡ b → IsTrue (z.members n)
 owned_here z os n b h in_b bank own = go (is_free (content_at os n)) refl
@@ -85,7 +85,7 @@ owned_content z os n c h may b m in_b is =
     at_set (λ k (o : Object). is_free o.content ≡ false → o.owner ≡ b → IsTrue (z.members k)) os n m
     (record { owner = owner_at os n; content = c }) free (λ e own. owned_here z os n b h in_b was own) (h.closed.owned b m in_b was)
 
--- a number whose object may change isn't one of the kept numbers
+-- a number whose object may change is a member or a port
 changes : (z : Zone) (n : ℕ) → MayChange z n → z.members n ≡ false → z.ports n ≡ false → ⊥
 changes z n may out apart = grind (arith, nat_tests)
 
@@ -97,7 +97,7 @@ kept_content z os n c change m =
     (record { owner = owner_at os n; content = c }) free
     (λ out apart. absurd (changes z n change out apart)) (λ out apart. kept_refl z.members (object_at os m))
 
--- putting such a content where an object may change keeps all other objects
+-- replacing a content by one that may stand there stays within the set
 pub stays_content : (z : Zone) (os : List Object) (n : ℕ) (c : Content Capability) → Encloses z os → MayChange z n
     → MayStand z os n c → StaysWithin z os (with_content os n c)
 stays_content z os n c h change may = record {
@@ -121,7 +121,7 @@ stays_content z os n c h change may = record {
   kept = λ m out apart. kept_content z os n c change m out apart;
 }
 
--- the content at a number may be put back there
+-- the content of an object may stand where it is
 may_stay : (z : Zone) (os : List Object) (n : ℕ) → Encloses z os → MayStand z os n (content_at os n)
 may_stay z os n h = record {
   free = h.free n;
@@ -135,7 +135,7 @@ may_stay z os n h = record {
 word_may : (z : Zone) (os : List Object) (n i w : ℕ) (c : Content Capability) → MayStand z os n c → MayStand z os n (with_word_in c i w)
 word_may z os n i w c h = grind (arith, nat_tests)
 
--- setting a word of a member
+-- setting a word of a member stays within the set
 pub stays_word : (z : Zone) (os : List Object) (n i w : ℕ) → Encloses z os → IsTrue (z.members n) → StaysWithin z os (with_word os n i w)
 unfolding with_word
 stays_word z os n i w h in_n =
@@ -161,14 +161,14 @@ slot_may z os n i k (content.Annex slots) stays h = record {
 }
 slot_may z os n i k c stays h = h
 
--- setting a slot of an object that may change
+-- setting a slot of an object that may change stays within the set, if the capability stays inside
 pub stays_slot : (z : Zone) (os : List Object) (n i : ℕ) (c : Capability) → Encloses z os → MayChange z n → Stays z c
     → StaysWithin z os (with_slot os n i c)
 unfolding with_slot
 stays_slot z os n i c h change stays =
     stays_content z os n (with_slot_in (content_at os n) i c) h change (slot_may z os n i c (content_at os n) stays (may_stay z os n h))
 
--- setting slots of an object that may change
+-- setting several slots of an object that may change stays within the set, if the capabilities stay inside
 pub stays_slots : (z : Zone) (os : List Object) (n i : ℕ) (cs : List Capability) → Encloses z os → MayChange z n
     → ((j : ℕ) → Stays z (slice_index_or cs j Void)) → StaysWithin z os (with_slots_from os n i cs)
 stays_slots z os n i [] h change stays = stays_refl z os h
@@ -177,7 +177,7 @@ stays_slots z os n i (c ∷ cs) h change stays =
     let one = stays_slot z os n i c h change (stays 0) in
     stays_trans z os us (with_slots_from us n (i + 1) cs) one (stays_slots z us n (i + 1) cs one.encloses change (λ j. stays (suc j)))
 
--- a root with the same annex as the root that it replaces
+-- replacing a root by one with the same annex stays within the set
 pub stays_root : (z : Zone) (os : List Object) (p : ℕ) (r : Root Capability) → Encloses z os → MayChange z p → IsTrue (is_process os p)
     → r.annex ≡ annex_at os p → (IsTrue (z.members p) → Stays z r.space) → StaysWithin z os (with_root os p r)
 unfolding with_root
@@ -190,13 +190,13 @@ stays_root z os p r h change is same space = stays_content z os p (content.Root 
   space = space;
 })
 
--- changing the state of a member process
+-- changing the state of a member process stays within the set
 pub stays_state : (z : Zone) (os : List Object) (p : ℕ) (s : State) → Encloses z os → IsTrue (z.members p)
     → IsTrue (is_process os p) → StaysWithin z os (with_state os p s)
 unfolding with_state
 stays_state z os p s h in_p is = stays_root z os p (record (root_at os p) { state = s }) h (inl in_p) is refl (h.closed.spaces p)
 
--- making capabilities void
+-- ---- voiding capabilities
 
 stays_void : (z : Zone) (goes : Capability → Bool) (c : Capability) → Stays z c → Stays z (void_where goes c)
 stays_void z goes c stays = one_of (Stays z) (goes c) Void c (inl (inl tt)) stays
@@ -211,7 +211,7 @@ receives_without : (z : Zone) (goes : Capability → Bool) (p : ℕ) (o : Object
     IsReceiver z p (root_in (without goes o).content).annex
 receives_without z goes p o h is = grind (arith, nat_tests)
 
--- freeing members, and making capabilities void that name members
+-- freeing members, and voiding capabilities that name members, stays within the set
 pub stays_without : (z : Zone) (os us : List Object) (goes : Capability → Bool) (set : List ℕ) → Encloses z os
     → ((n : ℕ) → is_member set n ≡ true → IsTrue (z.members n)) → ((c : Capability) → goes c ≡ true → NamesInside z.members c)
     → ((n : ℕ) → object_at us n ≡ (if is_member set n then free else without goes (object_at os n))) → StaysWithin z os us
@@ -252,18 +252,18 @@ stays_without z os us goes set h members names at = record {
     was_bank : (b : ℕ) → IsTrue (is_bank (content_at us b)) → IsTrue (is_bank (content_at os b))
     was_bank b is = grind (arith, nat_tests, at_us, without_mapped)
 
--- consuming the resume capabilities of a member
+-- consuming the resume capabilities of a member stays within the set
 pub stays_consume : (z : Zone) (os : List Object) (p : ℕ) → Encloses z os → IsTrue (z.members p) → StaysWithin z os (consume p os)
 stays_consume z os p h in_p = stays_without z os (consume p os) (resumes p) [] h (λ n m. cc) names (object_consume p os)
   where
     names : (c : Capability) → resumes p c ≡ true → NamesInside z.members c
     names c e = grind (arith, nat_tests)
 
--- whether an optional number is a member
+-- the number is there, and is a member
 abbrev IsSomeInside : Zone → Option ℕ → Type 0
 IsSomeInside z o = elim o [ None ↦ ⊥ | Some n ↦ IsTrue (z.members n) ]
 
--- rescinding members
+-- rescinding members stays within the set
 pub stays_rescind : (z : Zone) (os : List Object) (set : List ℕ) → Encloses z os
     → ((n : ℕ) → is_member set n ≡ true → IsTrue (z.members n)) → StaysWithin z os (rescind set os)
 stays_rescind z os set h members =

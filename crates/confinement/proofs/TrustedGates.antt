@@ -1,4 +1,4 @@
--- Invocations by a process of a set that encloses its members.
+-- An invocation by a member of a closed set stays within the set.
 use Rattle.confinement.proofs.Names.{arith, nat_tests, inl, inr, ℕ, zero, suc, Some, List, [], map, refl, IsTrue, slice_index, slice_index_or, slice_set}
 use Rattle.confinement.proofs.Names.{and_parts, Capability, Void, Resume, Invocation, Message, Operation, Call, Geometry, Object, Root, State, Running, Effect}
 use Rattle.confinement.proofs.Names.{after_gate, after_order, deliver, invoke, on_kernel_object, ordered, replied, reply_of, sent_by, sent_to_gate}
@@ -11,9 +11,9 @@ use Rattle.confinement.proofs.TrustedEdits.{stays_consume, stays_refl, stays_roo
 use Rattle.confinement.proofs.TrustedBanks.{OutcomeStays}
 use Rattle.confinement.proofs.TrustedOrders.{order_stays, strong}
 
--- delivery
+-- ---- delivery
 
--- the annex of a process that receives may change where its root may
+-- if a process may receive messages, its root and annex may change
 annex_changes : (z : Zone) (os : List Object) (p : ℕ) → Encloses z os → IsTrue (is_process os p) → IsReceiver z p (annex_at os p)
     → MayChange z p × MayChange z (annex_at os p)
 annex_changes z os p h root (inl member) = (inl member, inl (h.closed.annexes p member root))
@@ -31,7 +31,7 @@ deliver_stays z os p m h receives root sent =
     stays_trans z os us (with_slots_from us old.annex 28 m.capabilities) first
     (stays_slots z us old.annex 28 m.capabilities first.encloses change.1 sent)
 
--- the capabilities that an invocation sends
+-- ---- the capabilities that a message carries
 
 map_stays : (z : Zone) (f : ℕ → Capability) (rs : List ℕ) (j : ℕ) → ((r : ℕ) → Stays z (f r))
     → Stays z (slice_index_or (map f rs) j Void)
@@ -39,7 +39,7 @@ map_stays z f [] j h = inl (inl tt)
 map_stays z f (r ∷ rs) zero h = h r
 map_stays z f (r ∷ rs) (suc j) h = map_stays z f rs j h
 
--- a process of a set that may invoke
+-- a running member of a closed set
 pub record IsInvoker (z : Zone) (os : List Object) (p : ℕ) : Type 0 where
   pub encloses : Encloses z os
   pub member : IsTrue (z.members p)
@@ -64,9 +64,9 @@ gate_sent_stays z os i j by = go i.operation
     go Call = at_set (λ m c. Stays z c) (sent_by os i) 3 j (Resume i.process) Void (inl (inr by.member)) (sent_stays z os i j by)
     go o = sent_stays z os i j by
 
--- the invoker's state
+-- ---- the invoker's state
 
--- objects in which the invoker went into another state
+-- objects after the invoker changed its state, within the set
 record IsReady (g : Geometry) (z : Zone) (os us : List Object) : Type 0 where
   pub stays : StaysWithin z os us
   pub after : IsAfter g os us
@@ -88,9 +88,9 @@ order_ready : (g : Geometry) (z : Zone) (os : List Object) (i : Invocation) → 
 order_ready g z os i h by =
     after_order_by (IsReady g z os) os i (none_ready g z os i.process h by) (λ s. state_ready g z os i.process s h by)
 
--- gates
+-- ---- start and resume capabilities
 
--- the receiver of a message through a start capability: a member, or a trusted process
+-- a process that is a member or trusted may receive messages
 receiver : (z : Zone) (os : List Object) (q : ℕ) → Encloses z os → IsTrue (is_process os q) → IsTrue (z.members q) ⊎ IsTrue (z.trusted q)
     → IsReceiver z q (annex_at os q)
 receiver z os q h root (inl member) = inl member
@@ -114,7 +114,7 @@ resume_stays g z os i q h by is root =
     let first = through_stays g z os i q 0 h by (inl is) root in
     stays_trans z os us (consume q us) first (stays_consume z us q first.encloses is)
 
--- kernel objects
+-- ---- kernel objects
 
 reply_stays : (z : Zone) (o : OrderOutcome) (j : ℕ) → Stays z o.capability →
     Stays z (slice_index_or (reply_of o).capabilities j Void)
@@ -127,7 +127,7 @@ replied_stays z i o h is given =
     deliver_stays z o.objects i.process (reply_of o) h (inl is)
     (and_parts (is_process o.objects i.process) (is_running (state_at o.objects i.process)) runs).0 (λ j. reply_stays z o j given))
 
--- a capability that may be held before the invoker's state changes may be held afterwards
+-- a capability that a process may hold before the invoker's state changes may be held afterwards
 held_ready : (g : Geometry) (z : Zone) (os us : List Object) (c : Capability) → IsReady g z os us → IsHeld os (Waits os) c →
     IsHeld us (Waits us) c
 held_ready g z os us c ready held = held_on os us (Waits os) (Waits us) c ready.after.frame ready.after.waits held
@@ -156,9 +156,9 @@ kernel_stays g z os i h by =
     (stays_trans z us o.objects (replied o.objects i o) requested.0
     (replied_stays z i o requested.0.encloses by.member requested.1))
 
--- invocations
+-- ---- invocations
 
--- a start capability that stays inside is one to a member or to a trusted process
+-- a start capability that stays inside names a member or a trusted process
 started : (z : Zone) (q : ℕ) → (⊥ ⊎ IsTrue (z.members q)) ⊎ IsTrue (z.trusted q) → IsTrue (z.members q) ⊎ IsTrue (z.trusted q)
 started z q is = grind (arith, nat_tests)
 

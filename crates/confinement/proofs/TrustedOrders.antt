@@ -1,4 +1,4 @@
--- Orders on objects of a set that encloses its members.
+-- An order on an object of a closed set stays within the set.
 use Rattle.confinement.proofs.Names.{nat_tests, inl, refl, ℕ, false, not, List, arith, IsTrue, nat_lt, Access, Capability, Void, Number, Page, Node}
 use Rattle.confinement.proofs.Names.{Space, Process, Bank, Discrim, Geometry, Object, State, Available, Running, Arguments, NodeOrder, PageOrder, ProcessOrder}
 use Rattle.confinement.proofs.Names.{on_bank, bank_order, fetched, is_space, node_order, on_node, on_page, on_process, order, page_order, process_order, stored}
@@ -12,7 +12,7 @@ use Rattle.model.specs.declared.order.ProcessOrder.TheVariants as process
 use Rattle.confinement.proofs.TrustedBanks.{OutcomeStays, bank_stays}
 use Rattle.confinement.proofs.TrustedEdits.{stays_consume, stays_refl, stays_root, stays_slot, stays_state, stays_trans, stays_word}
 
--- an outcome that leaves the objects unchanged and gives a capability that stays inside
+-- an outcome without changes stays within the set, if the capability that it gives stays inside
 still : (z : Zone) (os : List Object) (c : Capability) → Encloses z os → Stays z c
     → StaysWithin z os os × Stays z c
 still z os c h stays = (stays_refl z os h, stays)
@@ -23,9 +23,9 @@ void_stays z = inl (inl tt)
 refused_stays : (z : Zone) (os : List Object) → Encloses z os → StaysWithin z os os × Stays z Void
 refused_stays z os h = still z os Void h (void_stays z)
 
--- accesses
+-- ---- accesses
 
--- an object that may be written through a capability that stays inside is a member
+-- if a capability that stays inside gives write access to an object, the object is a member
 writes : (z : Zone) (o : ℕ) (a : Access) → ((a.0 ≡ 3) ⊎ IsTrue (z.members o)) ⊎ ⊥ → not (a.0 == 0) ≡ false → IsTrue (z.members o)
 writes z o a is e = grind (arith, nat_tests)
 
@@ -33,7 +33,7 @@ fetched_stays : (z : Zone) (o : ℕ) (a : Access) (c : Capability) → ((a.0 ≡
     (IsTrue (z.members o) → Stays z c) → Stays z (fetched a c)
 fetched_stays z o a c named held = grind (arith, nat_tests)
 
--- orders
+-- ---- orders
 
 page_stays : (z : Zone) (os : List Object) (o : ℕ) (a : Access) (requested : PageOrder) (args : Arguments) → Encloses z os
     → Stays z (Page o a) → OutcomeStays z os (on_page os o a requested args)
@@ -92,11 +92,11 @@ process_stays z os p process.SetSpace args h is root sent =
     (λ _. refused_stays z os h)
 process_stays z os p which args h is root sent = grind (arith, nat_tests, chosen, still, refused_stays)
 
--- a capability that can't be weak and stays inside names a member
+-- if a capability stays inside and its kind is never weak, it names a member
 pub strong : (z : Zone) (n : ℕ) → (⊥ ⊎ IsTrue (z.members n)) ⊎ ⊥ → IsTrue (z.members n)
 strong z n is = grind (arith, nat_tests)
 
--- an order on a capability that stays inside stays in the set
+-- an order by a capability that stays inside stays within the set
 pub order_stays : (g : Geometry) (z : Zone) (os : List Object) (c : Capability) (w : ℕ) (args : Arguments) → IsNow g os → Encloses z os
     → IsHeld os (Waits os) c → Stays z c → NamesItsKind os args.capability → Stays z args.capability
     → OutcomeStays z os (order g os c w args)

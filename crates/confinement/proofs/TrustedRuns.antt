@@ -1,4 +1,4 @@
--- Runs by processes of a closed set: each step stays within the set and the free numbers.
+-- Runs by members of a closed set: each step stays within the set with the free numbers.
 use Rattle.confinement.proofs.Names.{nat_tests, inl, inr, ℕ, suc, Bool, true, false, Option, None, Some, Result, Ok, Err, List, [], map, refl, sym, ap, subst}
 use Rattle.confinement.proofs.Names.{arith, IsTrue, nat_lt, bit_or, slice_index_or, and_parts, ltb-true, All-head, All-tail, le_or_l, le_or_r, Access, Answer}
 use Rattle.confinement.proofs.Names.{MemoryFault, ReadOnly, Refusal, Capability, Void, Page, Space, Command, Invocation, Geometry, Line, Content, Object}
@@ -18,7 +18,7 @@ use Rattle.model.specs.declared.object.Content.TheVariants as content
 use Rattle.confinement.proofs.TrustedGates.{invoked_stays}
 use Rattle.confinement.proofs.TrustedEdits.{stays_refl, stays_trans, stays_word}
 
--- whether a capability names a member
+-- whether a capability names a member of the set
 abbrev names_inside : (ℕ → Bool) → Capability → Bool
 names_inside inside c = elim (named c) [ None ↦ false | Some n ↦ inside n ]
 
@@ -39,7 +39,8 @@ content_alike f k (content.Root r) slots space = grind (arith, nat_tests)
 content_alike f k (content.Annex cs) slots space = ap content.Annex (map_alike f k cs slots)
 content_alike f k c slots space = refl
 
--- in a sound world no capability that is made void names a number that was free
+-- if an object outside was kept with the free numbers as members, it was kept without them: in a sound world no capability names a free
+-- number
 kept_inside : (g : Geometry) (os : List Object) (age : ℕ) (inside : ℕ → Bool) (n : ℕ) (new : Object) →
     IsSound g (record { objects = os; age = age }) → IsKept (with_free os inside) (object_at os n) new → IsKept inside (object_at os n) new
 kept_inside g os age inside n new sound k = (
@@ -56,9 +57,9 @@ kept_inside g os age inside n new sound k = (
     alike : (c : Capability) → NamesItsKind os c → void_where k.0 c ≡ void_where goes c
     alike c kind = grind (arith, nat_tests)
 
--- the pages that stores reach
+-- ---- the page that a store reaches
 
--- a page reached below a space, with the restrictions on the way to it
+-- `found` is the page `next` that was reached from a slot, with the restrictions `a` added
 record IsBelow (a : Access) (rest : Result (ℕ × Access) MemoryFault) (found : ℕ × Access) : Type 0 where
   next : ℕ × Access
   is : rest ≡ Ok next
@@ -87,12 +88,12 @@ along_inside z os h (Space o k a) (slot ∷ slots) found stays e full =
     subst (λ n. IsTrue (z.members n)) (sym b.same) (along_inside z os h c slots b.next stays_there b.is full_there)
 along_inside z os h c slots found stays e full = cc
 
--- a test that holds on the way to the page that is found
+-- if a tested step of a walk found a page, its continuation found it
 if_found : (b : Bool) (r : Result (ℕ × Access) MemoryFault) (why : MemoryFault) (found : ℕ × Access) →
     (if b then r else Err why) ≡ Ok found → r ≡ Ok found
 if_found b r why found e = grind (arith, nat_tests)
 
--- a walk to a writable page, from a capability that stays inside, ends at a member
+-- if a walk begins at a capability that stays inside and finds a writable page, the page is a member
 walk_inside : (z : Zone) (os : List Object) → IsClosedBut z.trusted os z.members → (c : Capability) (index : ℕ) (found : ℕ × Access)
     → Stays z c → walk os c index ≡ Ok found → found.1.0 ≡ 0 → IsTrue (z.members found.0)
 unfolding walk
@@ -112,19 +113,19 @@ writable_inside z os p address page h in_p e = cases (reached os p address) refl
     cases : (r : Result (ℕ × Access) MemoryFault) → reached os p address ≡ r → writable r ≡ Ok page → IsTrue (z.members page)
     cases r at e = grind (arith, nat_tests, full)
 
--- steps
+-- ---- steps of the machine
 
--- a machine that goes on from some objects while everything outside a set is kept
+-- a machine that is up with a sound world, and whose objects stayed within the set since they were `os`
 record IsWithin (g : Geometry) (z : Zone) (os : List Object) (s : Running) : Type 0 where
   sound : IsSound g s.now
   stays : StaysWithin z os s.now.objects
 
--- the same for any machine; a machine that is down has nothing to satisfy
+-- a machine that is up is as `IsWithin` says; nothing is required of one that is down
 abbrev MachineWithin : Geometry → Zone → List Object → Machine → Type 0
 MachineWithin g z os (Up s) = IsWithin g z os s
 MachineWithin g z os (Down saved) = Unit {0}
 
--- the effect of an invocation
+-- the outcome of an invocation with this effect; it stalls if there is none
 abbrev invoked : Running → Option Effect → Outcome
 invoked s found = elim found [
   | None ↦ outcome answer.Done s
@@ -144,7 +145,7 @@ written s address value found = elim found [
   | Err why ↦ outcome (answer.MemoryFault why) s
 ]
 
--- a world stays sound with another word in a page
+-- if a world is sound, it stays sound when a page gets another word
 word_sound : (g : Geometry) (os : List Object) (age n i w : ℕ) → IsSound g (record { objects = os; age = age }) → w < 2 ^ 64
     → IsSound g (record { objects = with_word os n i w; age = age })
 word_sound g os age n i w sound fits =
@@ -170,18 +171,18 @@ store_keeps g z os s p address value (Ok page) is in_p fits h =
     }
 store_keeps g z os s p address value (Err why) is in_p fits h = h
 
--- a turn whose line is such a command, or no command
+-- a turn whose line has a command by a member, or no command
 abbrev IsTurnBy : (ℕ → Bool) → Turn → Type 0
 IsTurnBy inside t = (l : Line) → Says t.line l → IsLineBy inside l
 
--- the answer to a command, by the refusal if there is one
+-- the answer is the refusal if there is one; else the command is carried out
 abbrev IsAnswer : Geometry → Running → Command → Answer → Machine → Option Refusal → Type 0
 IsAnswer g s c a after refused = elim refused [
   | Some why ↦ (a ≡ answer.Refused why) × (after ≡ Up s)
   | None ↦ (a ≡ (carried_out g s c).answer) × (after ≡ Up (carried_out g s c).after)
 ]
 
--- so a machine that is down stays so
+-- a machine that is down stays down under the commands of members
 down_keeps : (g : Geometry) (z : Zone) (os : List Object) (saved : List Saved) (c : Command) (a : Answer) (after : Machine)
     → IsBy z.members c → Step g (Down saved) c a after → MachineWithin g z os after
 down_keeps g z os saved c a after by is = grind (arith, nat_tests)
@@ -202,7 +203,7 @@ invoke_keeps g z os s i (Some e) is fits in_p runs young h = record {
       (invocation_stays g s.now i e z h.sound fits runs h.stays.encloses in_p is);
 }
 
--- a command that isn't refused
+-- a command that isn't refused keeps the machine within the set
 carried_keeps : (g : Geometry) (z : Zone) (os : List Object) (s : Running) (c : Command) → IsBy z.members c → Fits c →
     refusal_of g s c ≡ None → IsWithin g z os s → IsWithin g z os (carried_out g s c).after
 unfolding carried_out refusal_of
@@ -242,16 +243,16 @@ turns_keep g z os m (t ∷ ts) last by h run =
     turns_keep g z os t.after ts last (All-tail (IsTurnBy z.members) t ts by)
     (turn_keeps g z os t (All-head (IsTurnBy z.members) t ts by) (subst (λ m. MachineWithin g z os m) (sym run.0) h) run.1) run.2
 
--- sets with numbers where messages may be delivered
+-- ---- closed sets, and the numbers that may receive messages
 
--- zones in which messages may be received anywhere, or anywhere but at one number
+-- the set with its trusted processes; messages may be received anywhere
 abbrev anywhere : (ℕ → Bool) → (ℕ → Bool) → Zone
 anywhere trusted inside = record { members = inside; trusted = trusted; ports = λ m. true }
 
 abbrev apart_from : ℕ → (ℕ → Bool) → (ℕ → Bool) → Zone
 apart_from n trusted inside = record { members = inside; trusted = trusted; ports = λ m. not (m == n) }
 
--- a set that contains all free numbers
+-- the set contains every free number
 abbrev HasFree : List Object → (ℕ → Bool) → Type 0
 HasFree os inside = (n : ℕ) → is_free (content_at os n) ≡ true → IsTrue (inside n)
 
@@ -276,7 +277,7 @@ encloses_apart n os trusted inside closed free apart = record {
   );
 }
 
--- a closed set together with all free numbers is closed
+-- if a set is closed, so is the set with all free numbers added
 with_free_closed : (os : List Object) (trusted inside : ℕ → Bool) → IsClosedBut trusted os inside →
     IsClosedBut trusted os (with_free os inside)
 with_free_closed os trusted inside h = grind (arith, nat_tests)
@@ -284,7 +285,7 @@ with_free_closed os trusted inside h = grind (arith, nat_tests)
 has_free : (os : List Object) (inside : ℕ → Bool) → HasFree os (with_free os inside)
 has_free os inside n e = grind (arith, nat_tests)
 
--- a fact about both kinds of zones
+-- the parameters: a set that is closed in a sound world, and the objects after some steps
 module _ (g : Geometry) (os us : List Object) (age : ℕ) (trusted inside : ℕ → Bool) (sound : IsSound g (record { objects = os; age = age }))
     (closed : IsClosedBut trusted os inside) where
   both : IsClosedBut trusted os (with_free os inside)
@@ -303,7 +304,7 @@ module _ (g : Geometry) (os us : List Object) (age : ℕ) (trusted inside : ℕ 
 inside_free : (os : List Object) (inside : ℕ → Bool) (n : ℕ) → IsTrue (inside n) → IsTrue (with_free os inside n)
 inside_free os inside n is = grind (arith, nat_tests)
 
--- an invocation
+-- the law about an invocation
 pub invocation_confined : InvocationIsConfinedBut
 invocation_confined g w i e trusted inside sound fits runs closed is done =
     confined_by g w.objects e.objects w.age trusted inside sound closed (λ z same h.
@@ -315,7 +316,7 @@ run_within : (g : Geometry) (z : Zone) (s t : Running) (turns : List Turn) → I
 run_within g z s t turns sound h run by =
     turns_keep g z s.now.objects (Up s) turns (Up t) by (record { sound = sound; stays = stays_refl z s.now.objects h }) run
 
--- the authority bound
+-- the law about a run: the authority bound
 pub run_confined : RunIsConfinedBut
 run_confined g trusted inside s t turns sound closed run by =
     confined_by g s.now.objects t.now.objects s.now.age trusted inside sound closed (λ z same h.
@@ -329,7 +330,7 @@ run_sound g trusted inside s t turns sound closed run by =
     (run_within g (anywhere trusted all) s t turns sound
     (encloses_anywhere os trusted all (with_free_closed os trusted inside closed) (has_free os inside)) run by).sound
 
--- the set without the free numbers
+-- ---- removing the free numbers from the set again
 
 live_stays : (os : List Object) (trusted inside : ℕ → Bool) (c : Capability) → NamesItsKind os c → StaysBut trusted inside c
     → StaysBut trusted (λ n. inside n && not (is_free (content_at os n))) c
@@ -358,9 +359,9 @@ live_closed g w trusted inside sound h =
       spaces = λ p is. live_stays os trusted inside (root_at os p).space (sound.spaces p).0.1 (h.spaces p (live_member os inside p is));
     }
 
--- stretches
+-- ---- stretches of a run
 
--- the premises on a stretch of a run
+-- the turns of a stretch are by members; or others leave the world sound and the set closed
 abbrev IsAllowed : Geometry → (ℕ → Bool) → (ℕ → Bool) → Running → Stretch → Bool → Type 0
 IsAllowed g trusted inside s x b = elim b [
   | true ↦ AreBy (with_free s.now.objects inside) x.turns

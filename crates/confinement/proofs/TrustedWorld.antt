@@ -1,11 +1,11 @@
--- The world with a trusted process.
+-- The worked world with a trusted process.
 use Rattle.confinement.proofs.Names.{ℕ, zero, suc, false, refl, inl, inr, ⊎_elim, arith, All-from_recursion, IsTrue, slice_set, Void, Node}
 use Rattle.confinement.proofs.Names.{Start, full, all_slots, is_bank, is_free, annex_at, content_at, is_process, owner_at, root_at}
 use Rattle.confinement.proofs.Names.{slot_at, StaysBut, client, store, d0, rows, ClientIsClosedBut, IsRow, All, holds_set, holds_void}
 use Rattle.confinement.proofs.Names.{IsRight, machine, rows_hold}
 use Rattle.std.proofs.Common.{◌≡◌}
 
--- a property of each member
+-- what holds of 1, 2 and 7 holds of each member
 members : (P : ℕ → Type 0) → P 1 → P 2 → P 7 → (n : ℕ) → IsTrue (client n) → P n
 members P root annex node zero inside = cc
 members P root annex node (suc zero) inside = root

@@ -1,4 +1,4 @@
--- The names of other crates that the definitions here cite.
+-- The names of other crates that the definitions here import.
 pub use Rattle.model.specs.Capability.{full}
 pub use Rattle.model.specs.Closed.{IsClosed, IsClosedBy, StaysInside}
 pub use Rattle.model.specs.Invoke.{Effect}

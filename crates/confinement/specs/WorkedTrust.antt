@@ -1,4 +1,5 @@
--- A worked world with a trusted process: a set closed except for it, and how others break the bound if they act freely.
+-- A worked world: a set that is closed except for one trusted process, and how others break the bound if they act
+-- freely.
 use Rattle.confinement.specs.Names.{ℕ, Bool, List, [], IsClosed, replicate, slice_set, Void, Page, Node, Start}
 use Rattle.confinement.specs.Names.{all_slots, free, full, zero_words, World, fresh_root, of_prime_bank, prime_bank}
 use Rattle.confinement.specs.Names.{Row, at_world, row}
@@ -25,14 +26,15 @@ d0 = record {
   age = 0;
 }
 
--- the client: process 1 with its annex, and node 7; the store that it trusts: process 3
+-- the client's set: process 1, its annex 2, and node 7
 abbrev pub client : ℕ → Bool
 client n = n == 1 || n == 2 || n == 7
 
+-- the trusted processes: the store, process 3
 abbrev pub store : ℕ → Bool
 store n = n == 3
 
--- the client's set is closed except for the store; it isn't closed
+-- the client's set is closed but for the store, and isn't closed without this exception
 abbrev pub ClientIsClosedBut : Type 0
 ClientIsClosedBut = IsClosedBut store d0.objects client × (IsClosed d0.objects client → ⊥)
 
@@ -45,27 +47,27 @@ asks = row (at_world d0) (
     ) ∷
     [])
 
--- Process 1 changes page 16, which is outside its set, once the trusted process sent it.
+-- if process 3, which is trusted, sends page 16, process 1 can change it, though it is outside the set
 abbrev pub answered : Row
 answered = row (at_world d0) (
     ("call 1 1 0 0 0 0 0 0 0 0", "done") ∷ ("return 3 31 0 0 0 0 1 0 0 0", "done") ∷
     ("call 1 28 2 0 9 0 0 0 0 0", "done") ∷ ("show 16", "page 16 owner 0\nword 0 9\nend") ∷
     [])
 
--- Process 1 changes page 16 once process 5 sent it by a start capability.
+-- if process 5 sends page 16 through a start capability, process 1 can change it
 abbrev pub sent : Row
 sent = row (at_world d0) (
     ("return 1 1 0 0 0 0 0 0 0 0", "done") ∷ ("send 5 1 0 0 0 0 2 0 0 0", "done") ∷
     ("call 1 28 2 0 9 0 0 0 0 0", "done") ∷ ("show 16", "page 16 owner 0\nword 0 9\nend") ∷
     [])
 
--- Process 1 changes page 16 once process 5 stored it in a node that both hold.
+-- if process 5 stores page 16 in a node that both hold, process 1 can change it
 abbrev pub shared : Row
 shared = row (at_world d0) (
     ("call 5 3 2 0 0 0 2 0 0 0", "done") ∷ ("call 1 2 1 0 0 0 0 0 0 0", "done") ∷
     ("call 1 28 2 0 9 0 0 0 0 0", "done") ∷ ("show 16", "page 16 owner 0\nword 0 9\nend") ∷
     [])
 
--- the rows above
+-- all rows above
 unfoldable pub rows : List Row
 rows = asks ∷ answered ∷ sent ∷ shared ∷ []

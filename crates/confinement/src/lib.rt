@@ -1,4 +1,4 @@
-//! What processes can change if they have authority only over a set of numbers, but may start trusted processes.
+//! What processes can change if they have authority only over a set of objects, and may start trusted processes.
 #![tactic(auto)]
 
 pub mod laws;

@@ -1,11 +1,11 @@
--- A size that no image has isn't that of a description within the limits.
+-- If a size is outside the limits, the description breaks the rule for limits there.
 use Rattle.description.proofs.Names.{nat_tests, ℕ, zero, suc, List, [], length, map, take, Option, None, Some, slice_get, subst, arith, MatchOption, none-some}
 use Rattle.description.proofs.Names.{same_Some, Geometry, object_count, Cover, version_number, placed, MayBeLaid, Version, NumberRange, IsGeometry}
 use Rattle.description.proofs.Names.{IsWithinLimits, Description, Limit, BreaksGeometry, BreaksLimit, BreaksRanges, GoesOn, count_in, IsOpened}
 use Rattle.std.proofs.Common.{◌≡◌, ◌+◌, ◌≤◌, ◌∷◌, ◌^◌}
 use Rattle.description.specs.declared.flaw.Limit.TheVariants as limit
 
--- ranges that cover all numbers follow one another
+-- the parameter is a geometry; the counts of ranges that cover all numbers add up to the number of objects
 module _ (g : Geometry) where
   cover_count : (n : ℕ) (rs : List NumberRange) → Cover g n (map (placed 0) rs) → n + count_in rs ≡ object_count g
   cover_count n [] covers = omega (arith, covers)
@@ -56,7 +56,7 @@ ranges_broken d (limit.Range i n) geometry age layout broken = (geometry, age, l
 ranges_broken d (limit.RangesEnd n) geometry age layout broken = (geometry, age, layout, broken)
 ranges_broken d other geometry age layout broken = absurd broken
 
--- whether the ranges are valid, if all else is within the limits
+-- if a description keeps all limits but those of ranges, it is within the limits exactly if its ranges are valid
 pub ranges_decide : (d : Description) (rs : List NumberRange) (found : Option Limit) (v : Version) → IsGeometry d.geometry →
     rs ≡ d.ranges.items → d.layout ≡ version_number v → IsOpened v → d.age ≤ 2 ^ 62 → MatchOption found (MayBeLaid d.geometry rs)
     (λ l. BreaksRanges d.geometry rs l) → MatchOption found (IsWithinLimits d) (λ l. BreaksLimit d l)

@@ -1,4 +1,4 @@
--- A description has just one list of frames.
+-- All lists of frames that a description names are equal.
 use Rattle.description.proofs.Names.{nat_tests, ℕ, inl, inr, List, map, slice_index_or, sym, ap, arith, All, ext_get_or, All-append, All-contains, All-map}
 use Rattle.description.proofs.Names.{get_or_from_slice_get, Cap, Frame, blank_frame, frame_at, void_held, Description, NodeEntry, PageEntry, ProcessEntry}
 use Rattle.description.proofs.Names.{SlotEntry, WordEntry, HasNamedWords, HoldsNamed, IsDescribedAnnex, IsDescribed, IsDescribedNode, IsDescribedPage}
@@ -35,7 +35,7 @@ page_once p f g one other = one.2 ∙ ap (λ (words : List ℕ). first_frame p.o
     ∙ sym other.2
 
 module _ (d : Description) (fs gs : List Frame) (one : IsDescribed d fs) (other : IsDescribed d gs) where
-  -- the frames of a number are the same
+  -- the frames at number n are equal
   abbrev Same : ℕ → Type 0
   Same n = frame_at fs n ≡ frame_at gs n
 

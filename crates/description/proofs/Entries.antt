@@ -1,4 +1,4 @@
--- The objects that a description names.
+-- The objects of a description, as entries.
 use Rattle.description.proofs.Names.{nat_tests, arith, inl, inr, ℕ, List, map, sym, subst, Contains, All-contains, Contains-append_cases, Contains-append_left}
 use Rattle.description.proofs.Names.{Contains-append_right, Frame, Geometry, blank_frame, frame_at, object_count, Description, AreDistinct, HasNumbers}
 use Rattle.description.proofs.Names.{IsDescribedAnnex, IsDescribed, IsDescribedNode, IsDescribedPage, IsDescribedRoot, first_frame, node_numbers, page_numbers}
@@ -7,7 +7,7 @@ use Rattle.std.proofs.Common.{◌≡◌, ◌⊎◌, ◌<◌, ◌≤◌, ◌++◌
 use Rattle.model.specs.declared.object.Content.TheVariants as content
 use Rattle.description.proofs.Lists.{contains_either, contains_map, map_again, map_both, map_contains}
 
--- an object that is named by a description
+-- the description has this object
 abbrev pub IsOf : Description → Entry → Type 0
 IsOf d (OfBank b) = Contains d.banks.items b
 IsOf d (OfRoot p) = Contains d.processes.items p
@@ -15,7 +15,7 @@ IsOf d (OfAnnex p) = Contains d.processes.items p
 IsOf d (OfNode n) = Contains d.nodes.items n
 IsOf d (OfPage p) = Contains d.pages.items p
 
--- the parts of a description, as entries
+-- the banks of a description, as entries
 abbrev banks_of : Description → List Entry
 banks_of d = map OfBank d.banks.items
 
@@ -65,14 +65,14 @@ entries_of d e h = elim (Contains-append_cases (banks_of d ++ roots_of d ++ anne
   ]
 ]
 
--- the numbers of the entries are those in the description
+-- the numbers of the entries are those of the description
 pub numbers_are : (d : Description) → map number_of (entries d) ≡ node_numbers d ++ page_numbers d
 numbers_are d = grind (arith, nat_tests, map_both, map_again)
 
 pub entries_distinct : (d : Description) → HasNumbers d → AreDistinct (map number_of (entries d))
 entries_distinct d has = subst AreDistinct (sym (numbers_are d)) has.distinct
 
--- the number of each entry is one of its kind
+-- the number of the entry is in the range for its kind
 abbrev pub HasRange : Geometry → Entry → Type 0
 HasRange g (OfBank b) = b.number < g.nodes
 HasRange g (OfRoot p) = p.root < g.nodes
@@ -80,7 +80,7 @@ HasRange g (OfAnnex p) = p.annex < g.nodes
 HasRange g (OfNode n) = n.number < g.nodes
 HasRange g (OfPage p) = (g.nodes ≤ p.number) × (p.number < object_count g)
 
--- the lists of numbers
+-- the numbers of the banks
 abbrev bank_numbers : Description → List ℕ
 bank_numbers d = map (λ b. b.number) d.banks.items
 
@@ -110,7 +110,7 @@ in_range d (OfNode n) has h = All-contains (λ n. n < d.geometry.nodes) (node_nu
 in_range d (OfPage p) has h = All-contains (λ n. (d.geometry.nodes ≤ n) × (n < object_count d.geometry)) (page_numbers d) p.number has.pages
     (contains_map (λ q. q.number) p d.pages.items h)
 
--- a frame is that of an object
+-- the frame is that of this object
 abbrev pub IsFrameOf : Entry → Frame → Type 0
 IsFrameOf (OfBank b) f = f ≡ first_frame b.owner (content.Bank b.limit)
 IsFrameOf (OfRoot p) f = IsDescribedRoot p f
@@ -126,7 +126,7 @@ described_of d fs (OfAnnex p) is h = All-contains (λ p. IsDescribedAnnex p (fra
 described_of d fs (OfNode n) is h = All-contains (λ n. IsDescribedNode n (frame_at fs n.number)) d.nodes.items n is.nodes h
 described_of d fs (OfPage p) is h = All-contains (λ p. IsDescribedPage p (frame_at fs p.number)) d.pages.items p is.pages h
 
--- each number is that of an entry, or free
+-- at each number of the described frames there is the frame of an entry, or a free one
 pub described_cases : (d : Description) (fs : List Frame) (n : ℕ) → IsDescribed d fs
     → ((e : Entry) × IsOf d e × (number_of e ≡ n) × IsFrameOf e (frame_at fs n)) ⊎ (frame_at fs n ≡ blank_frame)
 described_cases d fs n is = elim (contains_either (map number_of (entries d)) n) [

@@ -1,4 +1,4 @@
--- What is wrong with the fields of a description: the search finds it, and the rule is broken there.
+-- The search for bad fields finds the first place where the rule for fields is broken.
 use Rattle.description.proofs.Names.{ℕ, zero, suc, List, [], length, map, Option, None, Some, slice_get, slice_index, slice_index_or, IsSomeAnd, refl, sym, ap}
 use Rattle.description.proofs.Names.{arith, All, All-cons, All-head, All-map, All-tail, none-some, same_Some, slice_get_within, AreDistinct, AreSlots, AreWords}
 use Rattle.description.proofs.Names.{HasFields, IsProcessEntry, IsSomeCapability, Description, NodeEntry, PageEntry, ProcessEntry, SlotEntry, WordEntry}
@@ -10,7 +10,7 @@ use Rattle.description.specs.declared.flaw.Part.TheVariants as part
 use Rattle.description.specs.declared.flaw.SlotFlaw.TheVariants as slot
 use Rattle.description.proofs.Lists.{all_got, contains_cases, contains_here, contains_none, contains_there}
 
--- one more number, which is another
+-- if the first i numbers differ from n and the next one does, the first i + 1 differ from n
 pub one_more_other : (ns : List ℕ) (i n : ℕ) → i < length ns → (Contains (take i ns) n → ⊥) → (slice_index ns i ≢ n) →
     Contains (take (i + 1) ns) n → ⊥
 one_more_other ns i n within none other there =
@@ -20,7 +20,7 @@ one_more_other ns i n within none other there =
       | inr last ↦ elim (contains_cases n (slice_index ns i) [] last) [ inl is ↦ other is | inr nowhere ↦ contains_none n nowhere ]
     ]
 
--- a number above all isn't among them
+-- a number above the greatest of a list isn't in the list
 pub none_above : (ns : List ℕ) (n most : ℕ) → All (λ m. m ≤ most) ns → most < n → Contains ns n → ⊥
 none_above ns n most all above there =
     let low : n ≤ most = subst (λ (m : ℕ). m ≤ most) there.2 (all there.0 n there.1) in
@@ -39,7 +39,7 @@ distinct_last (m ∷ ns) n distinct none = (
   distinct_last ns n distinct.1 (λ there. none (contains_there n m ns there)),
 )
 
--- one more number, which occurs for the first time
+-- if the first j numbers are distinct and the next isn't among them, the first j + 1 are distinct
 pub distinct_more : (ns : List ℕ) (j n : ℕ) → j < length ns → n ≡ slice_index ns j → (Contains (take j ns) n → ⊥) →
     AreDistinct (take j ns) → AreDistinct (take (j + 1) ns)
 distinct_more ns j n within is none distinct = rw (take_more ns j 0 within)
@@ -49,7 +49,7 @@ pub twice_at : (ns : List ℕ) (i j n : ℕ) → j < length ns → n ≡ slice_i
 twice_at ns i j n within is at =
     (at.0, n, slice_get-get_or ns i 0 (omega (arith, at.0, within)) ∙ ap Some at.1, slice_get-get_or ns j 0 within ∙ ap Some (sym is))
 
--- a property of all items of a mapped list holds of the images of the items
+-- if P holds of all items of a mapped list, it holds of the image of each item
 pub all_unmapped : {A B : Type 0} (P : B → Type 0) (f : A → B) (xs : List A) → All P (map f xs) → All (λ x. P (f x)) xs
 all_unmapped P f [] all = λ k d lt. absurd (omega arith)
 all_unmapped P f (x ∷ xs) all = All-cons (λ y. P (f y)) x xs (All-head P (f x) (map f xs) all)
@@ -70,7 +70,7 @@ are_words words indexed = record {
   distinct = indexed.1;
 }
 
--- an element that breaks what all keep
+-- if an item has a property that contradicts P, P doesn't hold of all items
 pub all_refuted : {A : Type 0} (P Q : A → Type 0) (xs : List A) (i : ℕ) → IsSomeAnd (slice_get xs i) Q → ((x : A) → P x → Q x → ⊥) →
     All P xs → ⊥
 all_refuted {A = A} P Q xs i broken against all = go (slice_get xs i) refl broken
@@ -135,7 +135,7 @@ never_there : {A : Type 0} (o : Option A) → IsSomeAnd o (λ x. ⊥) → ⊥
 never_there None is = is
 never_there (Some x) is = is
 
--- the first bad field of a process is that of a description
+-- the first bad field of a process breaks the rule for fields of the description
 pub process_broken : (d : Description) (which : Part) → IsFirst IsProcessEntry (λ p. BreaksProcess p which) d.processes.items
     (process_of which) → BreaksField d which
 unfolding BreaksProcess

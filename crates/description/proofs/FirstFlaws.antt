@@ -1,4 +1,4 @@
--- The first flaw of a table, from what a reader found.
+-- The first flaw of a table is where a reader stopped.
 use Rattle.description.proofs.Names.{nat_tests, ℕ, zero, suc, inl, inr, List, [], length, get_or, take, map, None, Some, refl, sym, subst, ap, arith, false}
 use Rattle.description.proofs.Names.{true≢false, IsTrue, IsErrAnd, MatchOption, Result, none-some, same_Some, Data, Items, item, no_items, Members, member}
 use Rattle.description.proofs.Names.{no_members, array, table, get_member, items_view, view, Value, AreItems, HasList, IsTable, has_only, Ok, Err, Key}
@@ -18,7 +18,7 @@ pub not_known : (keys : List (List ℕ)) (ms : Members) (key : List ℕ) → fir
 not_known keys no_members key is known = none-some key is
 not_known keys (member k d ms) key is known = grind (arith, nat_tests, not_known keys ms key)
 
--- Items.
+-- ---- items
 
 module _ (Good So : Data → Type 0) where
   pub first_as : (Better Other : Data → Type 0) → ((d : Data) → Good d → Better d) → ((d : Data) → So d → Other d) → (i : ℕ) (ds : Items) →
@@ -27,7 +27,7 @@ module _ (Good So : Data → Type 0) where
   first_as Better Other good so zero (item d ds) first = so d first
   first_as Better Other good so (suc i) (item d ds) first = (good d first.0, first_as Better Other good so i ds first.1)
 
-  -- the item of an index after some that are read
+  -- if the items before index i are good and that at i is bad, it is the first bad item
   pub first_item : {A : Type 0} (P : Data → A → Type 0) → ((d : Data) (x : A) → P d x → Good d) →
       (vs : List Value) (i : ℕ) (xs : List A) (v : Value) → i < length vs → get_or vs i v ≡ v → AreItems P (items_view (take i vs)) xs →
       So (view v) → IsFirstItem Good So i (items_view vs)
@@ -37,7 +37,7 @@ module _ (Good So : Data → Type 0) where
   first_item P good (w ∷ ws) (suc i) (x ∷ xs) v within at are so =
       (good (view w) x are.0, first_item P good ws i xs v (omega arith) at are.1 so)
 
--- Errors that are passed on.
+-- ---- errors that are passed on
 
 turned : (At Other : ShapePlace → Type 0) (e : Misread) → ((p : ShapePlace) → At p → Other p) → Misses At e → Misses Other e
 turned At Other (misread.Misshapen p) turn misses = turn p misses
@@ -48,7 +48,7 @@ pub passed : {B : Type 0} (At Other : ShapePlace → Type 0) (Q : B → Type 0) 
 passed At Other Q (Ok x) e same misses turn = absurd same
 passed At Other Q (Err y) e same misses turn = subst (Misses Other) (sym same) (turned At Other e turn misses)
 
--- a key that is none of the table's
+-- if a table has an unknown key, that is its first flaw
 pub stranger_in : (which : TableName) (ms : Members) (place : ShapePlace) → IsStranger which (map key_name (keys_of which)) ms place →
     IsIn which ms place
 stranger_in which ms place is = (is.0, unknown (keys_of which) ms place.flaw is.1)
@@ -59,13 +59,13 @@ stranger_in which ms place is = (is.0, unknown (keys_of which) ms place.flaw is.
     unknown keys ns (Item key i) is = absurd is
 
 module _ (which : TableName) (key : Key) (ms : Members) (before : FitsBefore (keys_of which) ms key) where
-  -- a value of another type
+  -- if the value at a key is of another type, and all before is good, that is the first flaw
   pub value_in : {A : Type 0} (P : A → Type 0) → is_list key ≡ false → (FitsAt key ms → (x : A) × P x) → (place : ShapePlace) →
       IsMisfit which key P place → IsIn which ms place
   value_in P single fits place is =
       rw is.0 (refl, (before, λ fit. let x = fits fit in is.1 x.0 x.1, λ list. absurd (true≢false (sym list ∙ single))))
 
-  -- a list
+  -- if the list at a key is bad, and all before is good, that is the first flaw
   list_flaw : {A : Type 0} (P : Data → A → Type 0) (So : Data → Type 0) → IsTrue (is_list key) →
       (FitsAt key ms → HasList P (key_name key) ms) → ((d : Data) → (x : A) × P d x → IsItem key d) →
       ((d : Data) → So d → IsFormless key d) → (d : Data) → get_member (key_name key) ms ≡ Some d → (flaw : Flaw) →
@@ -91,7 +91,7 @@ module _ (which : TableName) (key : Key) (ms : Members) (before : FitsBefore (ke
 pub in_whole : (ms : Members) (place : ShapePlace) → IsIn name.Whole ms place → BreaksShape ms place
 in_whole ms place is = subst (λ (t : TableName). BreaksAt ms t place.flaw) (sym is.0) is.1
 
--- a list of tables of the whole
+-- the parameters: a list of tables at a key of the whole description, with all keys before it good
 module _ (ms : Members) (key : Key) (before : FitsBefore (keys_of name.Whole) ms key) where
   pub tables_break : {A : Type 0} (P : Members → A → Type 0) (named : ℕ → TableName) → IsTrue (is_list key) →
       (FitsAt key ms → HasList (IsTable P) (key_name key) ms) → ((d : Data) → (x : A) × IsTable P d x → IsItem key d) →
@@ -127,7 +127,7 @@ module _ (ms : Members) (key : Key) (before : FitsBefore (keys_of name.Whole) ms
     ]
   ]
 
--- a table of a list that isn't read
+-- if a table of a list isn't read, and those before it are, the list is bad at that table
 pub first_bad : {A : Type 0} (P : Members → A → Type 0) (named : ℕ → TableName) (key : Key) (d : Data) (place : ShapePlace)
     (vs : List Value) (i : ℕ) (xs : List A) (v : Value) → d ≡ array (items_view vs) → i < length vs → get_or vs i v ≡ v →
     AreItems (IsTable P) (items_view (take i vs)) xs → IsBadTable named key i (view v) place → AreBadTables P named key d place
@@ -151,7 +151,7 @@ first_bad {A = A} P named key d place vs i xs v is within at are bad =
       ],
     )
 
--- the table of an object with a number and an owner
+-- the parameters: the table of an object with a number, an owner and one more key
 module _ (which : TableName) (other : Key) (ms : Members) (keys : keys_of which ≡ ObjectNumber ∷ ObjectOwner ∷ other ∷ []) where
   pub before_number : IsTrue (has_only (codes "number" ∷ codes "owner" ∷ key_name other ∷ []) ms) →
       FitsBefore (keys_of which) ms ObjectNumber
@@ -164,7 +164,7 @@ module _ (which : TableName) (other : Key) (ms : Members) (keys : keys_of which 
   pub before_other : (numbers : ℕ × ℕ) → HasNumberAndOwner (key_name other) ms numbers → FitsBefore (keys_of which) ms other
   before_other numbers has = rw keys (has.known, 2, refl, ((numbers.0, has.number), ((numbers.1, has.owner), tt)))
 
--- the fields of a process before its registers
+-- if the fields of a process are read, the keys before its registers are good
 pub before_registers : (i : ℕ) (ms : Members) (fields : ProcessFields) → HasProcessFields ms fields →
     FitsBefore (keys_of (name.Process i)) ms ProcessRegisters
 before_registers i ms fields has = (

@@ -1,4 +1,4 @@
--- Laid frames are those that are described, and can be kept.
+-- The frames that are laid are those that the description names, and they have encodings.
 use Rattle.description.proofs.Names.{nat_tests, inl, inr, ℕ, Option, None, Some, List, map, length, replicate, slice_index_or, unwrap_or, refl, sym, ap, subst}
 use Rattle.description.proofs.Names.{arith, All, Contains, length-replicate, All-contains, All-replicate, slice_get-get_or, Cap, Capability, Void, Frame}
 use Rattle.description.proofs.Names.{Geometry, Available, IsWellFormed, blank_frame, frame_at, void_held, AreKeepable, AreKeptSlots, Follows, IsCount, IsKept}
@@ -12,7 +12,7 @@ use Rattle.description.proofs.Entries.{IsFrameOf, IsOf, entries_distinct, entrie
 use Rattle.description.proofs.LaidFrames.{laid_both}
 use Rattle.description.proofs.Lists.{all_from, contains_either, each_at, each_holds, each_of, each_other, first_map, length_each, map_contains, same_at}
 
--- Slots and words.
+-- ---- slots and words
 
 abbrev void_slots : List Cap
 void_slots = replicate 32 void_held
@@ -45,7 +45,7 @@ holds_words es are = record {
       ∙ ap (λ v. first_named (λ w. w.index) (λ w. w.word) v es i) (same_at 512 i 0));
 }
 
--- slots without an entry are void, as register 0 is
+-- if no entry has index 0, slot 0 is void
 pub first_void : (es : List SlotEntry) → AreSlots 1 es → slice_index_or (slots_of es) 0 void_held ≡ void_held
 unfolding slots_of
 first_void es are = each_other (λ s. s.index) slot_held es _ 0 _ (λ h. let found = map_contains (λ s. s.index) 0 es h in
@@ -53,7 +53,7 @@ first_void es are = each_other (λ s. s.index) slot_held es _ 0 _ (λ h. let fou
     omega (arith, place.0, found.2))
     ∙ same_at 32 0 _
 
--- Capabilities.
+-- ---- capabilities
 
 node_fits : (g : Geometry) (n : ℕ) → IsGeometry g → n < g.nodes → n < 2 ^ 64
 node_fits g n is lt = omega (arith, lt, is.most_nodes)
@@ -84,7 +84,7 @@ slots_kept g first es is are targets = record {
       (λ k d lt. slot_kept g (slice_index_or es k d).capability is (are.held k d lt) (targets k d lt));
 }
 
--- The frame of an object.
+-- ---- the frame of an object
 
 kept_entry : (d : Description) (e : Entry) → IsGeometry d.geometry → HasNumbers d → HasFields d → AllHave (IsTarget d.geometry) d →
     IsOf d e → Fits e → IsKept d.geometry 0 (frame_of e)
@@ -143,7 +143,7 @@ kept_entry d (OfPage p) is numbers fields targets of fits = record {
 kind_entry : (d : Description) (e : Entry) → HasNumbers d → IsOf d e → IsOfKind d.geometry (number_of e) (frame_of e).content
 kind_entry d e numbers of = grind (arith, nat_tests, in_range)
 
--- an option that isn't `None` is `Some` of its value
+-- if an option isn't `None`, it is `Some` of its value
 there : {X : Type 0} → (o : Option X) (d : X) → o ≢ None → o ≡ Some (unwrap_or o d)
 there o d some = search arith
 
@@ -167,7 +167,7 @@ is_frame d (OfPage p) fields of = (
   refl,
 )
 
--- All frames.
+-- ---- all frames
 
 abbrev pub blanks : Description → List Frame
 blanks d = replicate (object_count d.geometry) blank_frame
@@ -226,7 +226,7 @@ laid_keepable d is numbers fields targets fits = record {
   ];
 }
 
--- The worlds on the way.
+-- ---- the worlds after each part
 
 pub all_within : {E : Type 0} → (d : Description) (entry : E → Entry) (es xs : List E) (n : ℕ) → HasNumbers d →
     ((e : E) → Contains es e → IsOf d (entry e)) → xs ≡ es → n ≡ object_count d.geometry → All (λ e. number_of (entry e) < n) xs

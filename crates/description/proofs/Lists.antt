@@ -1,4 +1,4 @@
--- Distinct numbers, and writes at them.
+-- Lists of distinct numbers, and writing values at them.
 use Rattle.description.proofs.Names.{ℕ, zero, suc, inl, inr, List, [], map, length, replicate, Some, slice_get, drop, slice_index_or, slice_set, refl, sym, ap}
 use Rattle.description.proofs.Names.{subst, arith, All, Contains, cases_eq, nat_tests, get_or-set_same, get_or-set_other, length-set, drop_all, drop_more}
 use Rattle.description.proofs.Names.{All-head, All-set, All-tail, Contains-get_or, AreDistinct, first_named, set_each, Contains-append_left}
@@ -28,7 +28,7 @@ contains_either (m ∷ ns) n = elim (cases_eq m n) [
   ]
 ]
 
--- a mapped list contains the images of what the list contains
+-- if a list contains x, the mapped list contains the image of x
 pub contains_map : {X Y : Type 0} → (f : X → Y) (x : X) (xs : List X) → Contains xs x → Contains (map f xs) (f x)
 contains_map f x [] h = search (arith, contains_none, contains_cases, contains_here, contains_there)
 contains_map f x (y ∷ xs) h = search (arith, contains_none, contains_cases, contains_here, contains_there, contains_map f x xs)
@@ -45,7 +45,7 @@ module _ {E V : Type 0} (index : E → ℕ) (value : E → V) where
       first_named index value default (e ∷ es) i ≡ first_named index value default es i
   first_beyond default e es i differ = grind (arith, nat_tests)
 
-  -- an index without an entry has the default
+  -- if no entry has this index, the value is the default
   pub first_none : (default : V) (es : List E) (i : ℕ) → (Contains (map index es) i → ⊥) → first_named index value default es i ≡ default
   first_none default [] i none = refl
   first_none default (e ∷ es) i none =
@@ -58,7 +58,7 @@ module _ {E V : Type 0} (index : E → ℕ) (value : E → V) where
         contains_there,
       )
 
-  -- if no index occurs twice, each entry gives its index its value
+  -- if no index occurs twice, the value at an entry's index is the entry's
   pub first_of : (default : V) (es : List E) (e : E) → AreDistinct (map index es) → Contains es e →
       first_named index value default es (index e) ≡ value e
   first_of default [] e distinct h = absurd (contains_none e h)
@@ -74,14 +74,14 @@ module _ {E V : Type 0} (index : E → ℕ) (value : E → V) where
   length_each [] xs = refl
   length_each (e ∷ es) xs = length_each es (slice_set xs (index e) (value e)) ∙ length-set xs (index e) (value e)
 
-  -- an index without an entry keeps its value
+  -- if no entry has this index, its value stays
   pub each_other : (es : List E) (xs : List V) (i : ℕ) (d : V) → (Contains (map index es) i → ⊥) →
       slice_index_or (set_each index value es xs) i d ≡ slice_index_or xs i d
   each_other [] xs i d none = refl
   each_other (e ∷ es) xs i d none = each_other es _ i d (λ h. none (contains_there i _ _ h))
       ∙ get_or-set_other xs _ i _ d (λ is. none (subst (Contains (map index (e ∷ es))) (sym is) (contains_here _ _)))
 
-  -- each index has the value of its entry, or else its old value
+  -- the value at an index is that of its entry, or else the old one
   pub each_at : (es : List E) (xs : List V) (i : ℕ) (d : V) → AreDistinct (map index es) → All (λ e. index e < length xs) es
       → slice_index_or (set_each index value es xs) i d ≡ first_named index value (slice_index_or xs i d) es i
   each_at [] xs i d distinct within = refl
@@ -104,18 +104,18 @@ module _ {E V : Type 0} (index : E → ℕ) (value : E → V) where
   each_append [] fs xs = refl
   each_append (e ∷ es) fs xs = each_append es fs (slice_set xs (index e) (value e))
 
--- mapping the values of the entries maps the value found
+-- mapping the entries' values maps the value found
 pub first_map : {E V W : Type 0} → (index : E → ℕ) (value : E → V) (f : V → W) (default : V) (es : List E) (i : ℕ)
     → first_named index (λ e. f (value e)) (f default) es i ≡ f (first_named index value default es i)
 first_map index value f default [] i = refl
 first_map index value f default (e ∷ es) i = grind (arith, nat_tests, first_map index value f default es i, first_there, first_beyond)
 
 module _ {E V : Type 0} (index : E → ℕ) (value : E → V) where
-  -- all is written
+  -- after the last entry all values are written
   pub each_done : (es : List E) (now all : List V) (i : ℕ) → length es ≤ i → set_each index value (drop i es) now ≡ all → now ≡ all
   each_done es now all i done was = sym (ap (λ fs. set_each index value fs now) (drop_all i es done)) ∙ was
 
-  -- a property of all old values, and of all written values, holds of all
+  -- if P holds of all old values and of all written ones, it holds of all values
   pub each_holds : (P : V → Type 0) (es : List E) (xs : List V) → All P xs → All (λ e. P (value e)) es → All P (set_each index value es xs)
   each_holds P [] xs old new = old
   each_holds P (e ∷ es) xs old new = each_holds P es _ (All-set P xs _ _ (All-head (λ f. P (value f)) e es new) old)
@@ -136,20 +136,20 @@ module _ {E : Type 0} (index : E → ℕ) where
     ]
   ]
 
--- one more value is written
+-- writing the first i entries and then the next writes the first i + 1
 pub each_wrote : {E V : Type 0} → (index : E → ℕ) (value : E → V) (es : List E) (now next all : List V) (i : ℕ) (d : E) (v : V) →
     i < length es → next ≡ slice_set now (index (slice_index_or es i d)) v → v ≡ value (slice_index_or es i d)
     → set_each index value (drop i es) now ≡ all → set_each index value (drop (i + 1) es) next ≡ all
 each_wrote index value es now next all i d v lt made is was =
     ap (set_each index value (drop (i + 1) es)) (made ∙ ap (slice_set now (index (slice_index_or es i d))) is) ∙ (search (arith, drop_more))
 
--- in the end the value of each entry is at its index
+-- after all writes, the value at each entry's index is the entry's
 pub each_of : {E V : Type 0} → (index : E → ℕ) (value : E → V) (es : List E) (xs : List V) (e : E) (d : V) → AreDistinct (map index es)
     → All (λ f. index f < length xs) es → Contains es e → slice_index_or (set_each index value es xs) (index e) d ≡ value e
 each_of index value es xs e d distinct within there = each_at index value es xs _ d distinct within
     ∙ first_of index value _ es e distinct there
 
--- a property of each member holds at each place
+-- if P holds of each member of a list, it holds at each index
 pub all_from : {X : Type 0} → (P : X → Type 0) (xs : List X) → ((x : X) → Contains xs x → P x) → All P xs
 all_from P xs each k d lt = each (slice_index_or xs k d) (Contains-get_or xs k d lt)
 
@@ -166,12 +166,12 @@ pub map_again : {X Y Z : Type 0} → (f : Y → Z) (g : X → Y) (xs : List X) �
 map_again f g [] = refl
 map_again f g (x ∷ xs) = ap (λ zs. f (g x) ∷ zs) (map_again f g xs)
 
--- in a list of equal items, each place has this item
+-- a list of copies of x has x at each index
 pub same_at : {X : Type 0} → (n i : ℕ) (x : X) → slice_index_or (replicate n x) i x ≡ x
 same_at (suc n) (suc i) x = same_at n i x
 same_at n i x = refl
 
--- parts of numbers that differ
+-- if a list of numbers is distinct, so is each part of it
 pub distinct_left : (ns ms : List ℕ) → AreDistinct (ns ++ ms) → AreDistinct ns
 distinct_left [] ms distinct = tt
 distinct_left (n ∷ ns) ms distinct = (λ h. distinct.0 (Contains-append_left ns ms n h), distinct_left ns ms distinct.1)

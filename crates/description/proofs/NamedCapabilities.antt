@@ -1,4 +1,4 @@
--- The capabilities that a description names, and those that its frames hold.
+-- The capabilities that a description names are those that its frames hold.
 use Rattle.description.proofs.Names.{ℕ, inl, inr, List, [], Option, None, Some, slice_get, take, unwrap_or, IsSomeAnd, refl, sym, ap, subst, arith, All}
 use Rattle.description.proofs.Names.{FirstLacks, IsFirst, LacksIt, NamesItsObject, OneOf, OneOfProcess, ProcessEntry, cases_eq, All-cons, All-contains}
 use Rattle.description.proofs.Names.{All-head, All-tail, get_or_from_slice_get, Cap, Capability, Void, Frame, frame_at, caps_in, fresh_cap, AreNamed, IsNamed}
@@ -13,7 +13,7 @@ use Rattle.description.proofs.FieldFlaws.{all_refuted}
 use Rattle.description.proofs.Lists.{all_from, all_got, first_beyond, first_of, first_there}
 use Rattle.description.proofs.NamedTargets.{never_raised, role_target}
 
--- a property of what is named, or of nothing
+-- if P holds of void and of the named capability, it holds of either
 or_void : (P : Capability → Type 0) (o : Option Capability) → P Void → IfNamed P o → P (unwrap_or o Void)
 or_void P o void is = search arith
 
@@ -95,7 +95,7 @@ module _ (d : Description) (fs : List Frame) (is : IsDescribed d fs) where
           (named_in n.number _ node.2));
     }
 
--- no capability lacks what all have
+-- if all capabilities have P, none lacks it
 pub lacks_refuted : (P : Capability → Type 0) (d : Description) (at : Held) → AllHave P d → OneLacks P d at → ⊥
 lacks_refuted P d (held.Space k) all lacks =
     all_refuted (AllOfProcess P) (λ p. p.space ≡ Some lacks.0) _ k lacks.1 (λ p have is. lacks.2 (of_some P _ _ is have.0)) all.processes
@@ -109,7 +109,7 @@ lacks_refuted P d (held.Slot k i) all lacks =
     (λ n have there. all_refuted (λ (s : SlotEntry). IfNamed P s.capability) (λ s. s.capability ≡ Some lacks.0) n.slots.items i there
     (λ s held is. lacks.2 (of_some P _ _ is held)) have) all.nodes
 
--- The first capability that lacks a property.
+-- ---- the first capability that lacks a property
 
 some_turned : {A : Type 0} (P Q : A → Type 0) → ((x : A) → P x → Q x) → (o : Option A) → IsSomeAnd o P → IsSomeAnd o Q
 some_turned P Q turn None is = is
@@ -122,7 +122,7 @@ first_turned : {A : Type 0} (P Q B C : A → Type 0) → ((x : A) → P x → Q 
     IsFirst P B xs i → IsFirst Q C xs i
 first_turned P Q B C good bad xs i first = (all_turned P Q good (take i xs) first.0, some_turned B C bad (slice_get xs i) first.1)
 
--- a capability that fails a property is present
+-- if a capability lacks P, there is a capability that does
 lacked : (P : Capability → Type 0) (o : Option Capability) → LacksIt P o → (c : Capability) × (o ≡ Some c) × (P c → ⊥)
 lacked P None lacks = absurd lacks
 lacked P (Some c) lacks = (c, refl, lacks)
@@ -154,7 +154,7 @@ some_both : {A : Type 0} (R : Type 0) (P Q : A → Type 0) → ((x : A) → P x 
 some_both R P Q split None is = absurd is
 some_both R P Q split (Some x) is = split x is
 
--- the first failing capability of the first process that has one
+-- the first process with a capability that lacks P has its first one at this place
 pub process_lacks : (P : Capability → Type 0) (d : Description) (k : ℕ) (at : Held) →
     IsFirst (AllOfProcess P) (λ p. OneOfProcess P k p at) d.processes.items k → FirstLacks P d at
 unfolding OneOfProcess
@@ -170,7 +170,7 @@ process_lacks P d k (held.Slot j i) first =
     absurd (some_both ⊥ (λ p. OneOfProcess P k p (held.Slot j i)) (λ p. Unit {0}) (λ p one. absurd one) (slice_get d.processes.items k)
     first.1).0
 
--- the same for another property that the same capabilities have
+-- the parameters: properties P and Q that agree on all these capabilities
 module _ (P Q : Capability → Type 0) (good : (c : Capability) → P c → Q c) (bad : (c : Capability) → (P c → ⊥) → Q c → ⊥) where
   named_turned : (o : Option Capability) → IfNamed P o → IfNamed Q o
   named_turned None is = is
@@ -205,7 +205,7 @@ module _ (P Q : Capability → Type 0) (good : (c : Capability) → P c → Q c)
         (λ n. in_turned n.slots.items) (λ n. one_turned n.slots.items i) d.nodes.items k first.1,
   )
 
--- a capability that names no number or no object of its kind names none in any frames of the description
+-- the first capability that names no number of its kind breaks the rule for capabilities
 pub kind_broken : (d : Description) (at : Held) → HasNumbers d → FirstLacks (IsTarget d.geometry) d at → BreaksTarget d at
 kind_broken d at numbers first =
     let lacks = lacks_at (IsTarget d.geometry) d at first in

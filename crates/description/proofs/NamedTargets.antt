@@ -1,4 +1,4 @@
--- In described frames no count was raised, and objects of a kind have numbers for that kind.
+-- In described frames every count is 0, and the number of each object is one of its kind.
 use Rattle.description.proofs.Names.{nat_tests, arith, inl, inr, ℕ, List, refl, sym, ap, subst, get_or-map, Cap, Capability, Frame, ObjectHeader, Geometry}
 use Rattle.description.proofs.Names.{Content, blank_frame, current_count, frame_at, header_at, headers, role_of, IsOfKind, object_count, Description}
 use Rattle.description.proofs.Names.{NamesItsRole, HasNumbers, IsDescribed, first_frame, Entry, number_of, IsTarget}
@@ -6,7 +6,7 @@ use Rattle.std.proofs.Common.{◌≡◌, ◌≢◌, ◌<◌, ◌≤◌, ◌∙�
 use Rattle.model.specs.declared.object.Role.TheVariants as role
 use Rattle.description.proofs.Entries.{HasRange, IsFrameOf, described_cases, in_range}
 
--- a frame of an object that was never rescinded, at a number of its kind
+-- the frame of an object that was never rescinded, at a number of its kind
 pub record IsFirst (g : Geometry) (n : ℕ) (f : Frame) : Type 0 where
   pub role : f.header.role ≡ role_of f.content
   pub allocations : f.header.allocations ≡ 0
@@ -32,7 +32,7 @@ first_at d fs n numbers is = elim (described_cases d fs n is) [
 header_in : (fs : List Frame) (n : ℕ) → header_at (headers fs) n ≡ (frame_at fs n).header
 header_in fs n = get_or-map (λ (f : Frame). f.header) fs n blank_frame
 
--- no count was ever raised
+-- every allocation count of described frames is 0
 no_allocations : (d : Description) (fs : List Frame) (n : ℕ) → HasNumbers d → IsDescribed d fs → 0 ≡ (header_at (headers fs) n).allocations
 no_allocations d fs n numbers is = sym (ap (λ (h : ObjectHeader). h.allocations) (header_in fs n)
     ∙ (first_at d fs n numbers is).allocations)
@@ -43,7 +43,7 @@ no_calls d fs n numbers is = sym (ap (λ (h : ObjectHeader). h.calls) (header_in
 pub never_raised : (d : Description) (fs : List Frame) (c : Capability) → HasNumbers d → IsDescribed d fs → 0 ≡ current_count (headers fs) c
 never_raised d fs c numbers is = grind (arith, nat_tests, no_allocations, no_calls)
 
--- The numbers of a kind.
+-- ---- the ranges of numbers for each kind
 
 of_node : (g : Geometry) (n : ℕ) (c : Content Cap) → IsOfKind g n c → role_of c ≢ role.Free → role_of c ≢ role.Page → n < g.nodes
 of_node g n c kind some other = search arith

@@ -1,4 +1,4 @@
--- The numbers of a description, by their places in the list of all.
+-- Which object has the number at a place of the list of all numbers.
 use Rattle.description.proofs.Names.{ℕ, zero, suc, List, [], length, map, Option, Some, option_map, slice_get, IsSomeAnd, refl, sym, ap, subst, arith}
 use Rattle.description.proofs.Names.{length-append, length-map, slice_get-map, object_count, Description, AreDistinct, HasNumbers, node_numbers, page_numbers}
 use Rattle.description.proofs.Names.{MatchOption, Misnumbered, Named, BreaksNumber, number_at, IsFirstOutside, IsFirstTwice, IsOutside, place_of, All, IsTrue}
@@ -31,7 +31,7 @@ module _ (d : Description) where
   abbrev plain : List ℕ
   plain = map (λ n. n.number) d.nodes.items
 
-  -- the annex or the node whose number is at a place of the list
+  -- the parameters: a place after those of banks and roots, for an annex or a node
   module _ (place root annex b p : ℕ) (is_b : b ≡ length d.banks.items) (is_p : p ≡ length d.processes.items) (low : b ≤ place)
       (is_root : root ≡ place - b)
       (more : p ≤ root)
@@ -65,11 +65,11 @@ module _ (d : Description) where
         behind (banks ++ roots ++ annexes) plain (annex - p) in
         sym mapped ∙ sym after ∙ ap (slice_get (banks ++ roots ++ annexes ++ plain)) at
 
-  -- the value of an option that isn't `None`
+  -- an option with a property isn't `None`
   found_in : {P : ℕ → Type 0} (o : Option ℕ) → IsSomeAnd o P → (n : ℕ) × (o ≡ Some n) × P n
   found_in o is = search arith
 
-  -- the number of a node, a bank or a process is out of range
+  -- if the number of a node, bank or process is out of range, and those before aren't, it is the first
   outside_at : (who : Named) → IsTrue (is_node who) → IsOutside 0 d.geometry.nodes (node_numbers d) (place_of d who) → IsFirstOutside d who
   outside_at (named.Page k) node out = absurd (false≢true node)
   outside_at who node out = out
@@ -110,12 +110,12 @@ module _ (d : Description) where
         rw (at_first, at_second) there,
       )
 
-  -- two places that were found
+  -- if two places were found, they are the first at which a number occurs twice
   pub found_twice : (ns : List ℕ) (found : Option (ℕ × ℕ)) (p : ℕ × ℕ) → found ≡ Some p →
       MatchOption found (AreDistinct ns) (λ q. IsFirstTwice ns q.0 q.1) → IsFirstTwice ns p.0 p.1
   found_twice ns found p is known = subst (λ o. MatchOption o (AreDistinct ns) (λ q. IsFirstTwice ns q.0 q.1)) is known
 
-  -- an out-of-range number breaks the rule
+  -- a number out of range breaks the rule for numbers
   node_refuted : (i : ℕ) → IsOutside 0 d.geometry.nodes (node_numbers d) i → HasNumbers d → ⊥
   node_refuted i out has = all_refuted (λ n. n < d.geometry.nodes) (λ n. (0 ≤ n) × (n < d.geometry.nodes) → ⊥) (node_numbers d) i out.1
       (λ n within never. never (omega arith, within)) has.nodes
@@ -132,7 +132,7 @@ module _ (d : Description) where
   number_refuted (misnumbered.Twice who other) broken has =
       twice_refuted (node_numbers d ++ page_numbers d) (place_of d who) (place_of d other) broken.4.1 has.distinct
 
-  -- all numbers are of their kinds and distinct
+  -- if all numbers are in range and distinct, the rule for numbers is kept
   pub has_numbers : (ns ps all : List ℕ) (end : ℕ) → ns ≡ node_numbers d → ps ≡ page_numbers d → all ≡ ns ++ ps →
       end ≡ object_count d.geometry → All (λ n. (0 ≤ n) × (n < d.geometry.nodes)) ns →
       All (λ n. (d.geometry.nodes ≤ n) × (n < object_count d.geometry)) ps → AreDistinct all → HasNumbers d

@@ -1,4 +1,4 @@
--- A value encodes at most one thing, so a table encodes at most one description.
+-- Each value encodes at most one thing, so each table encodes at most one description.
 use Rattle.description.proofs.Names.{nat_tests, inl, inr, ℕ, pos, Option, Some, None, List, [], codes, refl, sym, ap, subst, arith, bytes_eq, same_Some}
 use Rattle.description.proofs.Names.{capability_text, state_text, Capability, Number, Void, Geometry, State, Available, Running, Waiting, Data, integer, string}
 use Rattle.description.proofs.Names.{array, Items, no_items, item, Members, get_member, text_once, Each, IsSame, IsSameNode, IsSamePage, IsSameProcess}
@@ -21,7 +21,7 @@ same_first a b ds es e = cc
 same_rest : (a b : Data) (ds es : Items) → item a ds ≡ item b es → ds ≡ es
 same_rest a b ds es e = cc
 
--- a value encodes at most one thing
+-- if a value encodes two things, these are related by R
 abbrev Once : {A B : Type 0} → (B → A → Type 0) → (A → A → Type 0) → Type 0
 Once {A = A} {B = B} P R = (d : B) (x y : A) → P d x → P d y → R x y
 
@@ -44,7 +44,7 @@ wide_once d m n (inl one) (inr other) = absurd (integer_or_text m (capability_te
 wide_once d m n (inr one) (inl other) = absurd (integer_or_text n (capability_text (Number m)) (sym other.1 ∙ one.1.2))
 wide_once d m n (inr one) (inr other) = same_number m n (capability_once d (Some (Number m)) (Some (Number n)) one.1 other.1)
 
--- a number is written in one way only
+-- no number has two forms
 pub number_spelled_once : NumberIsSpelledOnce
 unfolding IsWideNumber
 number_spelled_once = grind (arith, nat_tests)

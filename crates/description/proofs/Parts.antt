@@ -1,4 +1,4 @@
--- If a value is a table, what is read from the value is read from this table.
+-- If a property holds of a value that is a table, it holds of the table.
 use Rattle.description.proofs.Names.{arith, subst, sym, Data, Members, table, same_Some, IsTable}
 use Rattle.std.proofs.Common.{◌≡◌, ◌∙◌}
 

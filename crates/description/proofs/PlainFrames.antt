@@ -1,4 +1,4 @@
--- Plain frames by number.
+-- The plain frames of objects, by number.
 use Rattle.description.proofs.Names.{get_or-map, frame_at, free, object_at, Object, plain_frame, plain_frames}
 use Rattle.std.specs.Prelude.{ℕ, List, ◌≡◌}
 

@@ -1,11 +1,11 @@
--- Which rule is the first to be broken.
+-- Which rule a description breaks first.
 use Rattle.description.proofs.Names.{ℕ, inl, inr, refl, sym, ap, subst, arith, cases_lt, Description, BuildFault, Shape, Limits, Field, Target, Owner, Small}
 use Rattle.description.proofs.Names.{Failed, NoMemory, fault_number, IsAccepted, IsFirstBroken, Rule, NoFault, OneFault}
 use Rattle.description.specs.declared.fault.BuildFault.TheVariants.{Number}
 use Rattle.std.proofs.Common.{◌≡◌, ◌+◌, ◌<◌, ◌≤◌, ◌∙◌}
 use Rattle.std.specs.Prelude.{◌==◌, if◌then◌else◌}
 
--- the fault of a number
+-- the fault with this number
 abbrev fault_at : ℕ → BuildFault
 fault_at n =
     if n == 1 then Shape else if n == 2 then Limits else if n == 3 then Number else if n == 4 then Field else
@@ -38,7 +38,7 @@ one_fault d sectors fault other one two = elim (cases_lt (fault_number fault) (f
 pub accepted_has_none : NoFault
 accepted_has_none d sectors fault accepted refused = refused.broken (accepted fault)
 
--- the rules of the faults below a number are kept
+-- all rules whose number is below `count` are kept
 abbrev pub AreKept : Description → ℕ → ℕ → Type 0
 AreKept d sectors count = (fault : BuildFault) → fault_number fault < count → Rule d sectors fault
 

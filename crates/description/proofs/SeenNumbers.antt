@@ -1,16 +1,16 @@
--- Numbers of a list, taken in order, with those before marked.
+-- Searching a list for a number that occurs twice: the numbers already seen are marked.
 use Rattle.description.proofs.Names.{ℕ, List, [], Bool, true, false, length, inl, inr, refl, subst, take, take_more, slice_index, slice_set, Contains}
 use Rattle.description.proofs.Names.{Contains-append_cases, get_or-set_other, get_or-set_same, is_marked, AreDistinct, true≢false, sym}
 use Rattle.std.proofs.Common.{◌≡◌, ◌+◌, ◌<◌, ◌∷◌, ◌∙◌}
 use Rattle.description.proofs.FieldFlaws.{distinct_more}
 use Rattle.description.proofs.Lists.{contains_cases, contains_none}
 
--- the numbers before a place are marked, and none of them occurs twice
+-- the first i numbers are marked and distinct
 pub record AreSeen (marks : List Bool) (ns : List ℕ) (i : ℕ) : Type 0 where
   pub distinct : AreDistinct (take i ns)
   pub marked : (n : ℕ) → Contains (take i ns) n → is_marked marks n ≡ true
 
--- one more number, which doesn't occur before
+-- if the next number isn't among the first i, marking it marks the first i + 1
 pub one_seen : (marks : List Bool) (ns : List ℕ) (i : ℕ) → i < length ns → slice_index ns i < length marks →
     (Contains (take i ns) (slice_index ns i) → ⊥) → AreSeen marks ns i → AreSeen (slice_set marks (slice_index ns i) true) ns (i + 1)
 one_seen marks ns i within inside none seen = record {
@@ -28,7 +28,7 @@ one_seen marks ns i within inside none seen = record {
       ];
 }
 
--- a number that isn't marked doesn't occur before
+-- if a number isn't marked, it isn't among the earlier ones
 pub unseen : (marks : List Bool) (before : List ℕ) (n : ℕ) → ((m : ℕ) → Contains before m → is_marked marks m ≡ true) →
     is_marked marks n ≡ false → Contains before n → ⊥
 unseen marks before n marked un there = true≢false (sym (marked n there) ∙ un)

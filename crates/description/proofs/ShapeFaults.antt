@@ -1,4 +1,4 @@
--- A table with a flaw isn't that of a description.
+-- If a table has a flaw, it is no description.
 use Rattle.description.proofs.Names.{ℕ, zero, suc, List, [], map, Some, slice_get, subst, false≢true, IsTrue, none-some, same_Some, Data, Items, item, no_items}
 use Rattle.description.proofs.Names.{Members, array, table, AreItems, HasList, IsList, IsTable, IsBank, IsDescription, IsNode, IsPage, IsProcess, IsRange}
 use Rattle.description.proofs.Names.{IsSlot, IsWord, has_only, Description, whole_ranges, Key, TableName, Flaw, ShapePlace, Unknown, Misfit, Item, Banks}
@@ -29,7 +29,7 @@ list_refuted P key So i ms against first has =
     let list : IsList P (array first.0) has.0 = rw first.1 at has.1 in
     item_refuted P (IsItem key) So against i first.0 has.0 first.2 (rw (← same_items first.0 list.0 list.1) at list.2)
 
--- an item that isn't valid for its key
+-- if an item isn't valid for its key, the list at that key can't be read
 item_of : (key : Key) (So : Data → Type 0) (i : ℕ) (ms : Members) → ((d : Data) → IsItem key d → So d → ⊥) → IsTrue (is_list key) →
     HasFirstItem key So i ms → FitsAt key ms → ⊥
 item_of Ranges So i ms against list first fits = list_refuted IsRange Ranges So i ms (λ d x is. against d (x, is)) first fits
@@ -51,7 +51,7 @@ formless_refuted NodeList d it none = none it.1.0 it.1.1
 formless_refuted PageList d it none = none it.1.0 it.1.1
 formless_refuted key d it none = none it
 
--- a table with all its keys, and no others, has no flaw
+-- if a table has only its keys, and all their values fit, it has no flaw
 flaw_refuted : (keys : List Key) (ms : Members) (flaw : Flaw) → IsFirstFlaw keys ms flaw → IsTrue (has_only (map key_name keys) ms) →
     FitAll ms keys → ⊥
 flaw_refuted keys ms (Unknown key) is known all = not_known (map key_name keys) ms key.now is known

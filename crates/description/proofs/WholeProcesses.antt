@@ -1,4 +1,4 @@
--- In described frames each process is a root and its annex.
+-- In described frames each process is a root with its annex.
 use Rattle.description.proofs.Names.{inl, inr, ℕ, List, Option, None, Some, refl, sym, ap, subst, Contains, Frame, Role, frame_at, Description, ProcessEntry}
 use Rattle.description.proofs.Names.{AreWholeProcesses, IsAnnexFor, IsRootOf, annex_in, owner_of, role_at, HasNumbers, IsDescribed, Entry, OfBank, OfRoot}
 use Rattle.description.proofs.Names.{OfAnnex, OfNode, OfPage, entries, number_of}
@@ -7,7 +7,7 @@ use Rattle.model.specs.declared.object.Role.TheVariants as role
 use Rattle.description.proofs.Entries.{IsFrameOf, IsOf, described_cases, described_of, entries_distinct, of_entries}
 use Rattle.description.proofs.Lists.{same_entry}
 
--- the process of a root, and that of an annex
+-- q is the process with root p and annex a
 pub record IsProcess (d : Description) (q : ProcessEntry) (p a : ℕ) : Type 0 where
   pub of : Contains d.processes.items q
   pub root : q.root ≡ p
@@ -48,7 +48,7 @@ annex_is d fs a is annex = elim (described_cases d fs a is) [
   | inr blank ↦ let other : role.Free ≡ role.Annex = sym (ap role_in blank) ∙ annex in absurd cc
 ]
 
--- the frames of a process
+-- the annex of a described process is an annex for its root
 has_annex : (d : Description) (fs : List Frame) (q : ProcessEntry) (p a : ℕ) → IsDescribed d fs → IsProcess d q p a → IsAnnexFor fs p a
 has_annex d fs q p a is q_is =
     let root = described_of d fs (OfRoot q) is q_is.of in

@@ -1,10 +1,10 @@
--- The order of the faults for which no image is built.
+-- In which order the faults of a description are reported.
 use Rattle.std.specs.Prelude.{ℕ}
 use Rattle.description.specs.declared.fault.BuildFault.{BuildFault}
 use Rattle.description.specs.declared.fault.BuildFault.TheVariants.{Shape, Limits, Number, Field, Target, Owner}
 use Rattle.description.specs.declared.fault.BuildFault.TheVariants.{Small, Failed, NoMemory}
 
--- the number of a fault; if several hold, the answer is the least
+-- the number of a fault; if several faults apply, the least is reported
 abbrev pub fault_number : BuildFault → ℕ
 fault_number Shape = 1
 fault_number Limits = 2

@@ -12,36 +12,36 @@ use Rattle.description.specs.declared.flaw.Part.TheVariants as part
 use Rattle.description.specs.declared.flaw.SlotFlaw.{SlotFlaw}
 use Rattle.description.specs.declared.flaw.SlotFlaw.TheVariants as slot
 
--- item i of a list is bad, and all items before it are good
+-- item i is bad, and all items before it are good
 abbrev pub IsFirst : {A : Type 0} → (A → Type 0) → (A → Type 0) → List A → ℕ → Type 0
 IsFirst Good Bad xs i = All Good (take i xs) × IsSomeAnd (slice_get xs i) Bad
 
--- item i of a list is the first number outside a range
+-- item i is the first number outside a range
 abbrev pub IsOutside : ℕ → ℕ → List ℕ → ℕ → Type 0
 IsOutside first end ns i = IsFirst (λ n. (first ≤ n) × (n < end)) (λ n. (first ≤ n) × (n < end) → ⊥) ns i
 
--- the same number is at the places i and j
+-- the numbers at places i and j are equal
 abbrev pub IsTwice : List ℕ → ℕ → ℕ → Type 0
 IsTwice ns i j = (i < j) × (n : ℕ) × (slice_get ns i ≡ Some n) × (slice_get ns j ≡ Some n)
 
--- j is the first place whose number occurs before it too, at place i
+-- j is the first place whose number occurs before, and i is where
 abbrev pub IsFirstTwice : List ℕ → ℕ → ℕ → Type 0
 IsFirstTwice ns i j = AreDistinct (take j ns) × IsTwice ns i j
 
--- the first index outside its range; if there is none, the first that occurs twice
+-- the first index out of range; if there is none, the first that occurs twice
 unfoldable pub BreaksIndexed : ℕ → ℕ → List ℕ → Indexed → Type 0
 BreaksIndexed first end indexes (indexed.OutOfRange i) = IsOutside first end indexes i
 BreaksIndexed first end indexes (indexed.Twice i j) =
     All (λ n. (first ≤ n) × (n < end)) indexes × IsFirstTwice indexes i j
 
--- a bad index; if all are good, the first text that names no capability
+-- the first bad index; if there is none, the first text that names no capability
 unfoldable pub BreaksSlots : ℕ → List SlotEntry → SlotFlaw → Type 0
 BreaksSlots first slots (slot.Index i) = BreaksIndexed first 32 (map (λ s. s.index) slots) i
 BreaksSlots first slots (slot.Text i) =
     (All (λ n. (first ≤ n) × (n < 32)) (map (λ s. s.index) slots) × AreDistinct (map (λ s. s.index) slots))
     × IsFirst (λ s. IsSomeCapability s.capability) (λ s. IsSomeCapability s.capability → ⊥) slots i
 
--- the first bad field of a process: its state, key, space and registers, in this order
+-- the first bad field of a process: its state, key, space or registers, in this order
 unfoldable pub BreaksProcess : ProcessEntry → Part → Type 0
 BreaksProcess p (part.State k) = p.state ≡ None
 BreaksProcess p (part.Key k) = (p.state ≢ None) × (2 ^ 16 ≤ p.key)
@@ -58,8 +58,7 @@ process_of (part.Space k) = k
 process_of (part.Registers k flaw) = k
 process_of _ = 0
 
--- the first bad field: of the first bad process; if no process is bad, of the first bad node; if no node is bad either,
--- of the first bad page
+-- the first bad field of the first bad process; if there is none, of the first bad node, else of the first bad page
 abbrev pub BreaksField : Description → Part → Type 0
 BreaksField d (part.Slots k flaw) = All IsProcessEntry d.processes.items
     × IsFirst (λ n. AreSlots 0 n.slots.items) (λ n. BreaksSlots 0 n.slots.items flaw) d.nodes.items k

@@ -1,5 +1,5 @@
--- A number has one form in TOML, a text names at most one capability, a table says at most one description, and a
--- description breaks at most one rule first.
+-- What the definitions of this crate determine: a number has one form, a text names at most one capability, and a
+-- table is read as at most one description, which has at most one first broken rule.
 use Rattle.description.specs.Names.{ℕ, List, [], IfSome, IsWellFormed, named, capability_text, Capability, Data}
 use Rattle.description.specs.Names.{Members}
 use Rattle.std.specs.Prelude.{◌≡◌, ◌^◌, ◌<◌, ◌∷◌}
@@ -11,14 +11,14 @@ use Rattle.description.specs.declared.entry.PageEntry.{PageEntry}
 use Rattle.description.specs.declared.entry.ProcessEntry.{ProcessEntry}
 use Rattle.description.specs.Rules.{IsAccepted, IsFirstBroken}
 
--- two lists have the same length, and R holds of each two items
+-- the lists are equally long, and R holds of the items at each index
 abbrev pub Each : {A : Type 0} → (A → A → Type 0) → List A → List A → Type 0
 Each R [] [] = Unit {0}
 Each R [] (y ∷ ys) = ⊥
 Each R (x ∷ xs) [] = ⊥
 Each R (x ∷ xs) (y ∷ ys) = R x y × Each R xs ys
 
--- entries that name the same, wherever their lists lie in memory
+-- the processes have equal fields, wherever their lists lie in memory
 pub record IsSameProcess (p q : ProcessEntry) : Type 0 where
   pub root : p.root ≡ q.root
   pub annex : p.annex ≡ q.annex
@@ -49,25 +49,25 @@ pub record IsSame (d e : Description) : Type 0 where
   pub nodes : Each IsSameNode d.nodes.items e.nodes.items
   pub pages : Each IsSamePage d.pages.items e.pages.items
 
--- a number has one form in TOML
+-- each number has only one form in TOML
 abbrev pub NumberIsSpelledOnce : Type 0
 NumberIsSpelledOnce = (n : ℕ) (d e : Data) → IsWideNumber d n → IsWideNumber e n → d ≡ e
 
--- no two capabilities within their bounds have the same text
+-- different capabilities within their bounds have different texts
 abbrev pub TextIsOfOne : Type 0
 TextIsOfOne = (c d : Capability) → IsWellFormed c × IfSome (named c) (λ n. n < 2 ^ 64) →
     IsWellFormed d × IfSome (named d) (λ n. n < 2 ^ 64) → capability_text c ≡ capability_text d → c ≡ d
 
--- no table says two descriptions
+-- a table is read as at most one description
 abbrev pub TableIsOfOne : Type 0
 TableIsOfOne = (ms : Members) (d e : Description) → IsDescription ms d → IsDescription ms e → IsSame d e
 
--- no two rules are the first that is broken
+-- at most one rule is the first that is broken
 abbrev pub OneFault : Type 0
 OneFault = (d : Description) (sectors : ℕ) (fault other : BuildFault) → IsFirstBroken d sectors fault →
     IsFirstBroken d sectors other → fault ≡ other
 
--- if all rules are kept, none is the first that is broken
+-- if no rule is broken, none is the first
 abbrev pub NoFault : Type 0
 NoFault = (d : Description) (sectors : ℕ) (fault : BuildFault) → IsAccepted d sectors → IsFirstBroken d sectors fault →
     ⊥

@@ -1,4 +1,4 @@
--- The names of other crates that the definitions here cite.
+-- The names of other crates that the definitions here import.
 pub use Rattle.capability.specs.Consistency.{AreBanked, AreNamed, AreWholeProcesses, NamesItsRole}
 pub use Rattle.capability.specs.Plain.{fresh_cap}
 pub use Rattle.home_ranges.specs.Laid.{MayBeLaid, placed, plan_from}

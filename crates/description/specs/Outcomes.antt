@@ -1,4 +1,4 @@
--- The results of functions that read a table.
+-- Results of functions that read a table, stated over any property of what is read.
 use Rattle.description.specs.Names.{ℕ, Result, Ok, Err, Option, Some, None, Data, Items, Members, array, table}
 use Rattle.description.specs.Names.{get_member, List}
 use Rattle.std.specs.Prelude.{◌≡◌, ◌⊎◌}
@@ -17,22 +17,22 @@ use Rattle.description.specs.declared.place.ShapePlace.{ShapePlace}
 use Rattle.description.specs.declared.place.TableName.{TableName}
 use Rattle.description.specs.declared.place.TableName.TheVariants as name
 
--- a value with the property P, or `None` if nothing has P
+-- the value has P; or there is none, because no value has P
 abbrev pub Finds : {A : Type 0} → (A → Type 0) → Option A → Type 0
 Finds P (Some x) = P x
 Finds {A = A} P None = (x : A) → P x → ⊥
 
--- a place with the property `At`, or memory ran out
+-- the error is a place with the property `At`, or lack of memory
 abbrev pub Misses : (ShapePlace → Type 0) → Misread → Type 0
 Misses At (Misshapen place) = At place
 Misses At NoMemory = Unit {0}
 
--- a value with the property P; or a place with the property `At`, or memory ran out
+-- the result is a value with P, or an error that `Misses` describes
 abbrev pub Reads : {A : Type 0} → (A → Type 0) → (ShapePlace → Type 0) → Result A Misread → Type 0
 Reads P At (Ok x) = P x
 Reads P At (Err e) = Misses At e
 
--- the value at this key of a table says nothing that has P; the place is this key
+-- no x that the value at this key may encode has P; the place is that key
 abbrev pub IsMisfit : {A : Type 0} → TableName → Key → (A → Type 0) → ShapePlace → Type 0
 IsMisfit {A = A} which key P place = (place ≡ misfit which key) × ((x : A) → P x → ⊥)
 
@@ -48,24 +48,25 @@ IsUnknown names ms _ = ⊥
 abbrev pub IsStranger : TableName → List (List ℕ) → Members → ShapePlace → Type 0
 IsStranger which names ms place = (place.table ≡ which) × IsUnknown names ms place.flaw
 
--- a flaw at a key: the value is no list; or its first item that isn't good has the property `So`
+-- the flaw at this key: its value is no list; or its first bad item has the property `So`
 abbrev pub IsBadList : (Data → Type 0) → (Data → Type 0) → Key → Data → Flaw → Type 0
 IsBadList Good So key d (Unknown k) = ⊥
 IsBadList Good So key d (Misfit k) = (k ≡ key) × ((ds : Items) → d ≡ array ds → ⊥)
 IsBadList Good So key d (Item k i) = (k ≡ key) × (ds : Items) × (d ≡ array ds) × IsFirstItem Good So i ds
 
--- the place of a flaw in a list of entries
+-- the place is the flaw of a list of entries
 abbrev pub AreBadEntries : {A : Type 0} → (Data → A → Type 0) → TableName → Key → Data → ShapePlace → Type 0
 AreBadEntries {A = A} P which key d place = (place.table ≡ which) ×
     IsBadList (λ e. (x : A) × P e x) (λ e. ((x : A) × P e x) → ⊥) key d place.flaw
 
--- a value is no table, or is the table with index i and has a flaw
+-- the value at index i is no table, or the place is the first flaw of that table
 abbrev pub IsBadTable : (ℕ → TableName) → Key → ℕ → Data → ShapePlace → Type 0
 IsBadTable named key i d place =
     ((place ≡ record { table = name.Whole; flaw = Item key i }) × ((ms : Members) → d ≡ table ms → ⊥))
     ⊎ ((place.table ≡ named i) × (ms : Members) × (d ≡ table ms) × IsFirstFlaw (keys_of (named i)) ms place.flaw)
 
--- the value at a key is no list of tables: no list; or its first bad item is no table, or is a table with a flaw
+-- the place is the flaw of a list of tables: the value is no list, its first bad item is no table, or that table has
+-- a flaw
 abbrev pub AreBadTables : {A : Type 0} → (Members → A → Type 0) → (ℕ → TableName) → Key → Data → ShapePlace → Type 0
 AreBadTables {A = A} P named key d place =
     ((place ≡ misfit name.Whole key) × ((ds : Items) → d ≡ array ds → ⊥)) ⊎ ((i : ℕ) × (ds : Items) × (d ≡ array ds) ×
@@ -74,16 +75,16 @@ AreBadTables {A = A} P named key d place =
     ⊎ ((place.table ≡ named i) × IsFirstItem (λ e. (x : A) × IsTable P e x)
     (λ e. (ms : Members) × (e ≡ table ms) × IsFirstFlaw (keys_of (named i)) ms place.flaw) i ds)))
 
--- the value at a key is bad, at this place
+-- the table has a value at this key, and the value is bad at this place
 abbrev pub AtKey : Key → (Data → ShapePlace → Type 0) → Members → ShapePlace → Type 0
 AtKey key Bad ms place = (d : Data) × (get_member (key_name key) ms ≡ Some d) × Bad d place
 
--- the fault for a table that isn't read
+-- the fault if a table can't be read
 abbrev pub misread_fault : Misread → BuildFault
 misread_fault (Misshapen place) = fault.Shape
 misread_fault NoMemory = fault.NoMemory
 
--- the fault for a description that names no frames
+-- the fault if a description names no frames
 abbrev pub world_fault : WorldFault → BuildFault
 world_fault (world.Number n) = fault.Number
 world_fault (world.Field p) = fault.Field

@@ -1,4 +1,4 @@
--- What a TOML table says, read as a description.
+-- How a TOML table is read as a description.
 use Rattle.description.specs.Names.{ℕ, pos, Bool, true, false, Option, None, Some, List, [], length, codes, IfSome}
 use Rattle.description.specs.Names.{IsTrue, IsSomeAnd, MatchOption, list_any, NumberRange, IsWellFormed, named}
 use Rattle.description.specs.Names.{capability_text, state_text, Capability, Void, Geometry, State, Data, integer}
@@ -14,23 +14,25 @@ use Rattle.description.specs.declared.entry.SlotEntry.{SlotEntry}
 use Rattle.description.specs.declared.entry.WordEntry.{WordEntry}
 use Rattle.description.specs.declared.object.ProcessFields.{ProcessFields}
 
--- Values
+-- ---- values
 
--- a text, and the capability that it names, or `None` if it names none; numbers of objects have 64 bits
+-- the value is the text of this capability, whose numbers have 64 bits; or, for `None`, a text that names no
+-- capability
 abbrev pub IsCapability : Data → Option Capability → Type 0
 IsCapability d (Some c) = IsWellFormed c × IfSome (named c) (λ n. n < 2 ^ 64) × (d ≡ string (capability_text c))
 IsCapability d None = (text : List ℕ) × (d ≡ string text) ×
     ((c : Capability) → IsWellFormed c → IfSome (named c) (λ n. n < 2 ^ 64) → capability_text c ≢ text)
 
--- a number as an integer of TOML, below 2^63
+-- the value is this number, as a TOML integer below 2^63
 abbrev pub IsNumber : Data → ℕ → Type 0
 IsNumber d n = (n < 2 ^ 63) × (d ≡ integer (pos n))
 
--- a number of 64 bits, as words and limits are: from 2^63 on it is the text of its capability
+-- the value is this number of 64 bits, such as a word or a limit: an integer, or from 2^63 on the text of a number
+-- capability
 unfoldable pub IsWideNumber : Data → ℕ → Type 0
 IsWideNumber d n = IsNumber d n ⊎ ((2 ^ 63 ≤ n) × IsCapability d (Some (Number n)))
 
--- a text, and the state that it names, or `None` if it names none
+-- the value is the text of this state; or, for `None`, a text that names no state
 abbrev pub IsState : Data → Option State → Type 0
 IsState d (Some s) = d ≡ string (state_text s)
 IsState d None = (text : List ℕ) × (d ≡ string text) × ((s : State) → state_text s ≢ text)
@@ -39,13 +41,14 @@ IsState d None = (text : List ℕ) × (d ≡ string text) × ((s : State) → st
 abbrev pub IsPair : {A B : Type 0} → (Data → A → Type 0) → (Data → B → Type 0) → Data → A → B → Type 0
 IsPair P Q d x y = (a : Data) × (b : Data) × (d ≡ array (item a (item b no_items))) × P a x × Q b y
 
--- a list with one value for each of these
+-- the values are read as these items, one by one
 abbrev pub AreItems : {A : Type 0} → (Data → A → Type 0) → Items → List A → Type 0
 AreItems P no_items [] = Unit {0}
 AreItems P no_items (x ∷ xs) = ⊥
 AreItems P (item d ds) [] = ⊥
 AreItems P (item d ds) (x ∷ xs) = P d x × AreItems P ds xs
 
+-- the value is a list that is read as these items
 abbrev pub IsList : {A : Type 0} → (Data → A → Type 0) → Data → List A → Type 0
 IsList P d xs = (ds : Items) × (d ≡ array ds) × AreItems P ds xs
 
@@ -56,7 +59,7 @@ AreFour d xs = (length xs ≡ 4) × IsList IsWideNumber d xs
 abbrev pub IsTable : {A : Type 0} → (Members → A → Type 0) → Data → A → Type 0
 IsTable P d x = (ms : Members) × (d ≡ table ms) × P ms x
 
--- Keys
+-- ---- keys
 
 -- whether a table has no keys but these
 abbrev pub has_only : List (List ℕ) → Members → Bool
@@ -68,19 +71,19 @@ abbrev pub has_key : List ℕ → Members → Bool
 has_key key no_members = false
 has_key key (member k d ms) = same_key key k || has_key key ms
 
--- the table has this key, and its value says x
+-- the table has this key, and its value is read as x
 abbrev pub At : {A : Type 0} → List ℕ → (Data → A → Type 0) → Members → A → Type 0
 At key P ms x = IsSomeAnd (get_member key ms) (λ d. P d x)
 
--- the value at this key says x; if the table lacks the key, x is the default
+-- the value at this key is read as x; if the table lacks the key, x is the default
 abbrev pub AtOr : {A : Type 0} → A → List ℕ → (Data → A → Type 0) → Members → A → Type 0
 AtOr default key P ms x = MatchOption (get_member key ms) (x ≡ default) (λ d. P d x)
 
--- the value at this key, if the table has it, is a list of entries
+-- if the table has this key, its value is a list of entries
 abbrev pub HasList : {A : Type 0} → (Data → A → Type 0) → List ℕ → Members → Type 0
 HasList {A = A} P key ms = (xs : List A) × AtOr [] key (IsList P) ms xs
 
--- Entries
+-- ---- entries
 
 abbrev pub IsSlot : Data → SlotEntry → Type 0
 IsSlot d e = IsPair IsNumber IsCapability d e.index e.capability
@@ -97,7 +100,7 @@ pub record IsBank (ms : Members) (bank : BankEntry) : Type 0 where
   pub owner : At (codes "owner") IsNumber ms bank.owner
   pub limit : At (codes "limit") IsWideNumber ms bank.limit
 
--- the fields of a process, except its registers
+-- the fields of a process other than its registers
 pub record HasProcessFields (ms : Members) (fields : ProcessFields) : Type 0 where
   pub known : IsTrue (has_only
       (codes "root" ∷ codes "annex" ∷ codes "owner" ∷ codes "state" ∷ codes "key" ∷ codes "words" ∷ codes "space" ∷
@@ -123,7 +126,7 @@ pub record IsProcess (ms : Members) (process : ProcessEntry) : Type 0 where
   pub space : AtOr (Some Void) (codes "space") IsCapability ms process.space
   pub registers : AtOr [] (codes "registers") (IsList IsSlot) ms process.registers.items
 
--- a table with the keys `number` and `owner`, at most one further key, `other`, and no more
+-- the table has the keys `number` and `owner`, and no others except perhaps `other`
 pub record HasNumberAndOwner (other : List ℕ) (ms : Members) (numbers : ℕ × ℕ) : Type 0 where
   pub known : IsTrue (has_only (codes "number" ∷ codes "owner" ∷ other ∷ []) ms)
   pub number : At (codes "number") IsNumber ms numbers.0
@@ -146,11 +149,11 @@ pub record IsGeometry (ms : Members) (g : Geometry) : Type 0 where
   pub pages : At (codes "pages") IsNumber ms g.pages
   pub log : At (codes "log") IsNumber ms g.log
 
--- one range of all nodes, and one of all pages
+-- two ranges: all nodes, and all pages
 abbrev pub whole_ranges : Geometry → List NumberRange
 whole_ranges g = record { first = 0; count = g.nodes } ∷ record { first = g.nodes; count = g.pages } ∷ []
 
--- a table says this description
+-- the table is read as this description
 pub record IsDescription (ms : Members) (d : Description) : Type 0 where
   pub known : IsTrue (has_only
       (codes "nodes" ∷ codes "pages" ∷ codes "log" ∷ codes "layout" ∷ codes "age" ∷ codes "ranges" ∷ codes "bank" ∷

@@ -1,4 +1,4 @@
--- Where a table hasn't the shape of a description.
+-- Where a table differs from the form of a description.
 use Rattle.description.specs.Names.{ℕ, zero, suc, Bool, true, false, List, [], Option, None, Some, map, codes, IsTrue}
 use Rattle.description.specs.Names.{list_any, NumberRange, Capability, Void, State, Data, Items, item, no_items}
 use Rattle.description.specs.Names.{Members, member, no_members, array, table, get_member, same_key, slice_get, take}
@@ -57,7 +57,7 @@ keys_of (name.Process i) = ProcessRoot ∷ ProcessAnnex ∷ ObjectOwner ∷ Proc
 keys_of (name.Node i) = ObjectNumber ∷ ObjectOwner ∷ NodeSlots ∷ []
 keys_of (name.Page i) = ObjectNumber ∷ ObjectOwner ∷ PageWords ∷ []
 
--- the value at a key has the key's type; or the key is missing, and may be
+-- the value at the key has the key's type; or the key is missing, and has a default
 abbrev pub FitsAt : Key → Members → Type 0
 FitsAt Nodes ms = (n : ℕ) × At (codes "nodes") IsNumber ms n
 FitsAt Pages ms = (n : ℕ) × At (codes "pages") IsNumber ms n
@@ -82,7 +82,7 @@ FitsAt ProcessRegisters ms = HasList IsSlot (codes "registers") ms
 FitsAt NodeSlots ms = HasList IsSlot (codes "slots") ms
 FitsAt PageWords ms = HasList IsWord (codes "words") ms
 
--- an item of the list at a key has the type of this list's items
+-- the value may be an item of the list at this key
 abbrev pub IsItem : Key → Data → Type 0
 IsItem Ranges d = (r : NumberRange) × IsRange d r
 IsItem Banks d = (b : BankEntry) × IsTable IsBank d b
@@ -94,7 +94,7 @@ IsItem NodeSlots d = (s : SlotEntry) × IsSlot d s
 IsItem PageWords d = (w : WordEntry) × IsWord d w
 IsItem _ d = ⊥
 
--- an item isn't of the form of the list's items; in a list of objects these are tables
+-- the value hasn't the form of an item of this list: no table in a list of objects, no valid item in any other list
 abbrev pub IsFormless : Key → Data → Type 0
 IsFormless Banks d = (ms : Members) → d ≡ table ms → ⊥
 IsFormless Processes d = (ms : Members) → d ≡ table ms → ⊥
@@ -102,7 +102,7 @@ IsFormless NodeList d = (ms : Members) → d ≡ table ms → ⊥
 IsFormless PageList d = (ms : Members) → d ≡ table ms → ⊥
 IsFormless key d = IsItem key d → ⊥
 
--- whether the value at a key is a list
+-- whether the value at this key must be a list
 abbrev pub is_list : Key → Bool
 is_list Ranges = true
 is_list Banks = true
@@ -114,9 +114,9 @@ is_list NodeSlots = true
 is_list PageWords = true
 is_list _ = false
 
--- The first flaw.
+-- ---- the first flaw
 
--- the first key of a table that is none of these
+-- the first key of a table that isn't one of these
 abbrev pub first_unknown : List (List ℕ) → Members → Option (List ℕ)
 first_unknown keys no_members = None
 first_unknown keys (member k d ms) = if list_any (same_key k) keys then first_unknown keys ms else Some k
@@ -126,40 +126,40 @@ abbrev pub FitAll : Members → List Key → Type 0
 FitAll ms [] = Unit {0}
 FitAll ms (key ∷ keys) = FitsAt key ms × FitAll ms keys
 
--- a table has no keys but these, and the values at all of them before this one fit
+-- the table has no keys but these, and the values at those before this one fit
 abbrev pub FitsBefore : List Key → Members → Key → Type 0
 FitsBefore keys ms key = IsTrue (has_only (map key_name keys) ms) ×
     (n : ℕ) × (slice_get keys n ≡ Some key) × FitAll ms (take n keys)
 
--- item i has the property `So`, and all items before it are good
+-- item i has the property `So`, and every item before it is good
 abbrev pub IsFirstItem : (Data → Type 0) → (Data → Type 0) → ℕ → Items → Type 0
 IsFirstItem Good So i no_items = ⊥
 IsFirstItem Good So zero (item d ds) = So d
 IsFirstItem Good So (suc i) (item d ds) = Good d × IsFirstItem Good So i ds
 
--- the list at a key has this first item
+-- in the list at a key, item i has the property `So`, and every item before it is good
 abbrev pub HasFirstItem : Key → (Data → Type 0) → ℕ → Members → Type 0
 HasFirstItem key So i ms =
     (ds : Items) × (get_member (key_name key) ms ≡ Some (array ds)) × IsFirstItem (IsItem key) So i ds
 
--- the value at a key should be a list, and isn't
+-- the value at this key must be a list, and isn't one
 abbrev pub IsUnlisted : Key → Members → Type 0
 IsUnlisted key ms = IsTrue (is_list key) → (ds : Items) → get_member (key_name key) ms ≡ Some (array ds) → ⊥
 
--- the first flaw of a table with these keys: a key that is none of them; a key whose value doesn't fit; or an item of
--- another form in a list
+-- the first flaw of a table with these keys: an unknown key; else the first key whose value doesn't fit; if that is a
+-- list, its first malformed item
 abbrev pub IsFirstFlaw : List Key → Members → Flaw → Type 0
 IsFirstFlaw keys ms (Unknown key) = first_unknown (map key_name keys) ms ≡ Some key.now
 IsFirstFlaw keys ms (Misfit key) = FitsBefore keys ms key × (FitsAt key ms → ⊥) × IsUnlisted key ms
 IsFirstFlaw keys ms (Item key i) = FitsBefore keys ms key × IsTrue (is_list key) ×
     HasFirstItem key (IsFormless key) i ms
 
--- the first flaw of table i in the list at a key
+-- the first flaw of table i of the list at a key
 abbrev pub IsFirstInside : Key → ℕ → List Key → Members → Flaw → Type 0
 IsFirstInside key i keys ms flaw = FitsBefore (keys_of name.Whole) ms key ×
     HasFirstItem key (λ d. (t : Members) × (d ≡ table t) × IsFirstFlaw keys t flaw) i ms
 
--- the first flaw of all, given with the table that has it
+-- this is the first flaw of the whole description, and `TableName` the table that has it
 abbrev pub BreaksAt : Members → TableName → Flaw → Type 0
 BreaksAt ms name.Whole flaw = IsFirstFlaw (keys_of name.Whole) ms flaw
 BreaksAt ms (name.Bank i) flaw = IsFirstInside Banks i (keys_of (name.Bank i)) ms flaw
@@ -167,9 +167,10 @@ BreaksAt ms (name.Process i) flaw = IsFirstInside Processes i (keys_of (name.Pro
 BreaksAt ms (name.Node i) flaw = IsFirstInside NodeList i (keys_of (name.Node i)) ms flaw
 BreaksAt ms (name.Page i) flaw = IsFirstInside PageList i (keys_of (name.Page i)) ms flaw
 
+-- the place is the first flaw of the whole description
 abbrev pub BreaksShape : Members → ShapePlace → Type 0
 BreaksShape ms place = BreaksAt ms place.table place.flaw
 
--- the place of a key whose value doesn't fit
+-- the place of a key whose value is missing or doesn't fit
 abbrev pub misfit : TableName → Key → ShapePlace
 misfit which key = record { table = which; flaw = Misfit key }

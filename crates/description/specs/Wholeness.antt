@@ -1,9 +1,9 @@
--- A law of described frames.
+-- Described frames are whole processes.
 use Rattle.description.specs.Names.{List, Frame, AreWholeProcesses}
 use Rattle.description.specs.declared.entry.Description.{Description}
 use Rattle.description.specs.Described.{HasFields, HasNumbers, IsDescribed}
 
--- each process that is named has its annex, and there is no other annex
+-- in described frames each root has its annex, and each annex its root
 abbrev pub DescribedIsWhole : Type 0
 DescribedIsWhole = (d : Description) (fs : List Frame) → HasNumbers d → HasFields d → IsDescribed d fs →
     AreWholeProcesses fs

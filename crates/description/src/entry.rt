@@ -3,12 +3,12 @@
 use home_ranges::NumberRange;
 use model::{Capability, Geometry, State};
 
-/// A slot or a register, with its capability.
+/// A slot or register, with its capability.
 #[derive(Clone, Copy)]
 pub struct SlotEntry {
     /// The index of the slot or the register.
     pub index: u64,
-    /// The capability that it holds, or `None` if the text isn't that of a capability.
+    /// The capability in it, or `None` if the text isn't a capability's.
     pub capability: Option<Capability>,
 }
 
@@ -36,11 +36,11 @@ pub struct ProcessEntry {
     pub annex: u64,
     /// The number of the bank that owns the root and the annex.
     pub owner: u64,
-    /// The state of the process, or `None` if the text isn't that of a state.
+    /// The state of the process, or `None` if the text isn't a state's.
     pub state: Option<State>,
     pub key: u64,
     pub words: [u64; 4],
-    /// The address space, or `None` if the text isn't that of a capability.
+    /// The address space, or `None` if the text isn't a capability's.
     pub space: Option<Capability>,
     pub registers: Vec<SlotEntry>,
 }
@@ -61,14 +61,15 @@ pub struct PageEntry {
     pub words: Vec<WordEntry>,
 }
 
-/// All that an image is to hold. Objects, slots and words without an entry are free, void or 0.
+/// The content of an image. Numbers without an entry are free, slots without one void, words
+/// without one 0.
 #[derive(Drop)]
 pub struct Description {
     pub geometry: Geometry,
-    /// The number of the layout version that the image is to have.
+    /// The number of the image's layout version.
     pub layout: u64,
     pub age: u64,
-    /// The home ranges, in the order in which they are to lie.
+    /// The home ranges, in the order in which they lie in the image.
     pub ranges: Vec<NumberRange>,
     pub banks: Vec<BankEntry>,
     pub processes: Vec<ProcessEntry>,

@@ -1,4 +1,4 @@
-// The reasons why no image is built.
+// Why no image is built.
 ghost use Rattle.std.specs.Prelude.{◌≡◌};
 ghost use Rattle.description.specs.Faults.{fault_number};
 
@@ -8,8 +8,8 @@ use device::Failed;
 use std::alloc::{AllocError, AllocFailed};
 use thiserror::Error;
 
-/// A reason why no image is built from a table: the least of those that hold. A function that does a part of the work
-/// returns only the faults of that part.
+/// Why no image is built from a table. If several faults apply, the least is returned. A function that does part of
+/// the work returns only that part's faults.
 #[derive(Clone, Copy, Debug, Error)]
 pub enum BuildFault {
     #[error("the table hasn't the shape of a description")]
@@ -33,7 +33,7 @@ pub enum BuildFault {
 }
 
 impl BuildFault {
-    /// Returns the number of the fault: its variant's place, from 1.
+    /// Returns the fault's number: the place of its variant, from 1.
     pub fn number(self) -> u64
         ensures { result ≡ fault_number self }
     {

@@ -1,4 +1,4 @@
-// Finding the field of an object that is malformed or occurs twice.
+// Finding the first malformed field, or the first index that occurs twice.
 ghost use Rattle.std.specs.Prelude.{◌≡◌, ◌↔◌, map, IsTrue, MatchOption};
 ghost use Rattle.std.specs.List.{All};
 ghost use Rattle.description.specs.Described.{AreSlots, AreWords, HasFields, IsProcessEntry, IsSomeCapability};
@@ -11,10 +11,10 @@ use crate::indexed::find_indexed;
 use crate::{Description, NodeEntry, PageEntry, ProcessEntry, SlotEntry, WordEntry};
 use model::{Capability, SLOTS, WORDS};
 
-// The keys of start capabilities are below this: they have 16 bits.
+// Keys of start capabilities have 16 bits, so they are below this.
 const KEYS: u64 = 1 << 16;
 
-/// Whether a text was that of a well-formed capability.
+/// Whether the text was that of a well-formed capability.
 pub fn is_capability(capability: Option<Capability>) -> bool
     ensures { IsTrue result ↔ IsSomeCapability capability }
 {
@@ -24,7 +24,7 @@ pub fn is_capability(capability: Option<Capability>) -> bool
     }
 }
 
-// Whether a text was that of a well-formed capability that may be an address space.
+// Whether the text was that of a well-formed capability that may be an address space.
 fn is_space(space: Option<Capability>) -> bool
     ensures { IsTrue result ↔ IsSpaceEntry space }
 {
@@ -34,7 +34,7 @@ fn is_space(space: Option<Capability>) -> bool
     }
 }
 
-// Returns the index of the first slot whose text isn't that of a capability, or `None`.
+// Returns the index of the first slot whose text isn't a capability's, or `None`.
 fn first_text(slots: &[SlotEntry]) -> Option<usize>
     ensures { MatchOption result
         (All (λ s. IsSomeCapability s.capability) slots.now)
@@ -48,7 +48,7 @@ fn first_text(slots: &[SlotEntry]) -> Option<usize>
     None
 }
 
-// Returns the first flaw of a list of slots, or `None`. Indexes of slots begin at `first`.
+// Returns the first flaw of a list of slots, or `None`. Their indexes are from `first` to 31.
 #[tactic(auto, unfolding(crate::specs::FieldFlaws::BreaksSlots))]
 fn bad_slots(first: u64, slots: &[SlotEntry]) -> Option<SlotFlaw>
     ensures { MatchOption result (AreSlots first slots.now) (λ flaw. BreaksSlots first slots.now flaw) }
@@ -105,7 +105,7 @@ fn bad_processes(processes: &[ProcessEntry]) -> Option<Part>
     None
 }
 
-// Returns the index of the first node with a flaw in its slots, and this flaw, or `None`.
+// Returns the index of the first node whose slots have a flaw, with the flaw, or `None`.
 fn bad_nodes(nodes: &[NodeEntry]) -> Option<(usize, SlotFlaw)>
     ensures { MatchOption result (All (λ n. AreSlots 0 n.slots.items) nodes.now)
         (λ bad. IsFirst (λ n. AreSlots 0 n.slots.items) (λ n. BreaksSlots 0 n.slots.items bad.1) nodes.now bad.0) }
@@ -118,7 +118,7 @@ fn bad_nodes(nodes: &[NodeEntry]) -> Option<(usize, SlotFlaw)>
     None
 }
 
-// Returns the index of the first page with a flaw in its words, and this flaw, or `None`.
+// Returns the index of the first page whose words have a flaw, with the flaw, or `None`.
 fn bad_pages(pages: &[PageEntry]) -> Option<(usize, Indexed)>
     ensures { MatchOption result (All (λ p. AreWords p.words.items) pages.now)
         (λ bad. IsFirst (λ p. AreWords p.words.items)
@@ -132,9 +132,9 @@ fn bad_pages(pages: &[PageEntry]) -> Option<(usize, Indexed)>
     None
 }
 
-/// Returns the first field of an object that is malformed or occurs twice, or `None`. Processes come first, then
-/// nodes, then pages. In a process the order is state, key, space, registers. In a list an index out of its range
-/// comes first, then one that occurs twice, then a text that isn't that of a capability.
+/// Returns the first field that is malformed or occurs twice, or `None`. Processes come first, then nodes, then
+/// pages. In a process the order is state, key, space, registers. In a list an index out of range comes first,
+/// then one that occurs twice, then a text that isn't a capability's.
 pub(crate) fn misfilled(description: &Description) -> Option<Part>
     ensures { MatchOption result (HasFields description.now) (λ part. BreaksField description.now part) }
 {

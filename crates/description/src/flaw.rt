@@ -1,4 +1,4 @@
-// Places in a description, and their flaws.
+// Places in a description, and what is wrong there.
 ghost use Rattle.std.specs.Prelude.{◌≡◌};
 
 use std::alloc::{AllocError, AllocFailed};
@@ -16,11 +16,11 @@ pub enum Indexed {
 #[derive(Clone, Copy)]
 pub enum SlotFlaw {
     Index(Indexed),
-    /// The text of this entry isn't that of a capability.
+    /// The text of this entry isn't a capability's.
     Text(usize),
 }
 
-/// A field of an object, with the place of the object in its list.
+/// A field of an object. The first number is the object's index in its list.
 #[derive(Clone, Copy)]
 pub enum Part {
     State(usize),
@@ -31,7 +31,7 @@ pub enum Part {
     Words(usize, Indexed),
 }
 
-/// A size that no image may have.
+/// A limit of images that a description breaks.
 #[derive(Clone, Copy)]
 pub enum Limit {
     Nodes,
@@ -42,13 +42,13 @@ pub enum Limit {
     /// The range at this index is wrong: it doesn't begin at the number `next`, is empty, has both nodes and pages,
     /// or goes beyond the last number.
     Range { index: usize, next: u64 },
-    /// The ranges end at this number, before the last one.
+    /// The ranges end at the number `next`, before the last one.
     RangesEnd { next: u64 },
     Age,
     Layout,
 }
 
-/// A number in a description, with the place of its object in the list of such objects.
+/// An object with a number, by its index in the list of such objects.
 #[derive(Clone, Copy)]
 pub enum Named {
     Bank(usize),
@@ -61,13 +61,14 @@ pub enum Named {
 /// A flaw in the numbers of objects.
 #[derive(Clone, Copy)]
 pub enum Misnumbered {
-    /// A number isn't one of a node, or of a page.
+    /// The object's number is outside the range for its kind.
     OutOfRange(Named),
     /// Two objects have the same number.
     Twice(Named, Named),
 }
 
-/// A capability of a process or a node, by the places of the object and of the entry in their lists.
+/// A capability of a process or node, by the object's index in its list and the entry's index in the
+/// object.
 #[derive(Clone, Copy)]
 pub enum Held {
     Space(usize),
@@ -75,7 +76,7 @@ pub enum Held {
     Slot(usize, usize),
 }
 
-/// Why a description has no world: where it breaks the first of these rules that it breaks.
+/// Why a description has no world: the first of these rules that it breaks, and where.
 #[derive(Clone, Copy)]
 pub enum WorldFault {
     Number(Misnumbered),

@@ -1,4 +1,4 @@
-// In lists of numbers, or of entries with an index: finding a number outside a range, or one that occurs twice.
+// Finding a number, or an entry's index, that is out of range or occurs twice.
 ghost use Rattle.std.specs.Prelude.{◌≡◌, ◌↔◌, ℕ, ◌<◌, ◌≤◌, List, length, map, slice_index, take, IsTrue};
 ghost use Rattle.std.specs.Prelude.{MatchOption};
 ghost use Rattle.std.specs.List.{All, Contains};
@@ -10,7 +10,7 @@ use crate::{SlotEntry, WordEntry};
 
 /// A list of numbers.
 pub trait Numbers: Copy {
-    /// The numbers.
+    /// The numbers, in order.
     ghost numbers: { Self → List ℕ };
 
     /// Returns how many numbers there are.
@@ -68,7 +68,7 @@ fn is_within(first: u64, end: u64, number: u64) -> bool
     first <= number && number < end
 }
 
-/// The index of the first number outside `first..end`, or `None`.
+/// Returns the index of the first number outside `first..end`, or `None`.
 pub(crate) fn find_outside<N: Numbers>(first: u64, end: u64, numbers: N) -> Option<usize>
     ensures { MatchOption result
         (All (λ n. (first ≤ n) × (n < end)) (N.numbers numbers))
@@ -82,7 +82,7 @@ pub(crate) fn find_outside<N: Numbers>(first: u64, end: u64, numbers: N) -> Opti
     None
 }
 
-/// The first place before `end` at which a number occurs, or `None`.
+/// Returns the first place before `end` that has this number, or `None`.
 pub(crate) fn find_before<N: Numbers>(numbers: N, end: usize, number: u64) -> Option<usize>
     requires { end ≤ length (N.numbers numbers) }
     ensures { MatchOption result
@@ -97,7 +97,8 @@ pub(crate) fn find_before<N: Numbers>(numbers: N, end: usize, number: u64) -> Op
     None
 }
 
-// The same, where no number before the place is above `most`.
+// Returns the first place before `end` that has this number, or `None`; no number before `end` is
+// above `most`.
 #[tactic(auto, using(crate::proofs::FieldFlaws::none_above))]
 fn find_low<N: Numbers>(numbers: N, end: usize, number: u64, most: u64) -> Option<usize>
     requires within { end ≤ length (N.numbers numbers) }
@@ -113,7 +114,7 @@ fn find_low<N: Numbers>(numbers: N, end: usize, number: u64, most: u64) -> Optio
     }
 }
 
-// A number that neither of two is above.
+// Returns the greater of two numbers.
 fn greater(one: u64, other: u64) -> u64
     ensures one { one ≤ result }
     ensures other { other ≤ result }
@@ -121,8 +122,8 @@ fn greater(one: u64, other: u64) -> u64
     if one < other { other } else { one }
 }
 
-/// The places of one number: the first place whose number came before, and where it did. Nothing if no number
-/// comes twice. Most lists rise, and one that rises is read once.
+/// Returns two places with the same number, or `None` if all numbers differ. The second is the first place
+/// whose number occurred before, and the first is where. A list that rises, as most do, is read only once.
 pub(crate) fn find_twice<N: Numbers>(numbers: N) -> Option<(usize, usize)>
     ensures { MatchOption result (AreDistinct (N.numbers numbers))
         (λ p. IsFirstTwice (N.numbers numbers) p.0 p.1) }
@@ -138,8 +139,8 @@ pub(crate) fn find_twice<N: Numbers>(numbers: N) -> Option<(usize, usize)>
     None
 }
 
-// Returns the first flaw in the indexes of these entries: one outside `first..end`, else one that occurs twice, else
-// `None`.
+// Returns the first flaw in the indexes of these entries, or `None`: an index outside `first..end` comes first, then
+// one that occurs twice.
 #[tactic(auto, unfolding(crate::specs::FieldFlaws::BreaksIndexed))]
 pub(crate) fn find_indexed<N: Numbers>(first: u64, end: u64, entries: N) -> Option<Indexed>
     ensures { MatchOption result

@@ -1,4 +1,4 @@
-// The world that a description describes.
+// The world that a description names.
 ghost use Rattle.std.specs.Prelude.{◌≡◌, vec_len, IfErr, IfOk, OnOk};
 ghost use Rattle.layout.specs.Superblock.{IsGeometry};
 ghost use Rattle.model.specs.Frame.{frames_in};
@@ -17,7 +17,8 @@ use crate::world::World;
 use crate::{Description, WorldFault};
 use std::alloc::{AllocError, Global};
 
-// Returns the first flaw in the fields or, if there is none, in the capabilities of a description.
+// Returns the first flaw in the fields of a description; if there is none, the first in its
+// capabilities.
 fn check_objects(description: &Description) -> Result<(), WorldFault>
     requires { HasNumbers description.now }
     ensures fields { OnOk result (HasFields description.now) }
@@ -75,12 +76,14 @@ fn lay_described(alloc: Global, description: &Description) -> Result<World, Allo
     Ok(world)
 }
 
-/// Lays out the world of a description: the objects that it names, at their numbers, and all other numbers free. No
-/// object of this world was ever rescinded.
+/// Returns the world of a description: its objects at their numbers, and all other numbers free. All counts are 0.
 ///
-/// Fails with `Number` if a number isn't one of its kind or occurs twice; else with `Field` if a field is malformed,
-/// or a slot, register or word occurs twice; else with `Target` if a capability names a number that no object of its
-/// kind can have. Each says where this is so first. Fails with `NoMemory` if memory runs out, whatever else applies.
+/// Fails with the first that applies, and its first place:
+/// - `Number`: a number is out of range for its kind, or occurs twice;
+/// - `Field`: a field is malformed, or a slot, register or word occurs twice;
+/// - `Target`: a capability names a number that no object of its kind can have.
+///
+/// Fails with `NoMemory` if memory runs out, whatever else applies.
 pub fn lay_world(alloc: Global, description: &Description) -> Result<World, WorldFault>
     requires { IsGeometry description.now.geometry }
     ensures described { IfOk result (λ w.

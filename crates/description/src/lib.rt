@@ -1,5 +1,4 @@
-//! Descriptions of images: reading one from a TOML table, the frame of each number, and which rule a description
-//! breaks first.
+//! Descriptions of images: reading one from a TOML table, its frames, and the first rule that it breaks.
 #![tactic(auto)]
 
 mod entry;

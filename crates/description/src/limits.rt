@@ -1,4 +1,4 @@
-// Finding a size in a description that no image may have.
+// Finding the first limit of images that a description breaks.
 ghost use Rattle.std.specs.Prelude.{◌≡◌, ◌+◌, ◌<◌, ◌≤◌, ◌↔◌, ◌^◌, length, map, IsTrue, MatchOption};
 ghost use Rattle.layout.specs.Superblock.{Cover, IsGeometry, IsNext};
 ghost use Rattle.home_ranges.specs.Laid.{MayBeLaid, placed};
@@ -11,7 +11,7 @@ use home_ranges::NumberRange;
 use layout::{MAX_LOG, MAX_NODES, MAX_PAGES, MAX_RANGES, MIN_LOG, MIN_NODES, Version};
 use model::{Geometry, MAX_AGE};
 
-// Returns the first number that is outside its limits, of nodes, pages and slots in a log half; or `None`.
+// Returns the first of the counts of nodes, pages and log slots that is outside its limits, or `None`.
 fn bad_count(geometry: Geometry) -> Option<Limit>
     ensures { MatchOption result (IsGeometry geometry) (λ limit. BreaksGeometry geometry limit) }
 {
@@ -27,7 +27,8 @@ fn bad_count(geometry: Geometry) -> Option<Limit>
     None
 }
 
-// Whether a range begins at `next`, isn't empty, has only nodes or only pages, and doesn't go beyond the last number.
+// Whether a range begins at `next`, isn't empty, has only nodes or only pages, and ends within the numbers of
+// objects.
 fn goes_on(geometry: Geometry, range: NumberRange, next: u64) -> bool
     requires geometry { IsGeometry geometry }
     requires within { next ≤ object_count geometry }
@@ -39,8 +40,8 @@ fn goes_on(geometry: Geometry, range: NumberRange, next: u64) -> bool
     range.first == next && range.count > 0 && is_of_one_kind && is_within
 }
 
-// Returns the first range that doesn't begin where the one before it ends; else where the ranges end, if that is
-// before the last number.
+// Returns the first range that doesn't begin where the one before it ends. If there is none, returns where the
+// ranges end, if that is too early.
 fn bad_range(geometry: Geometry, ranges: &[NumberRange]) -> Option<Limit>
     requires geometry { IsGeometry geometry }
     requires count { HasRanges ranges.now }
@@ -60,8 +61,8 @@ fn bad_range(geometry: Geometry, ranges: &[NumberRange]) -> Option<Limit>
     None
 }
 
-// Returns the first flaw of the ranges: their count, the first range that doesn't follow the one before, or their
-// end.
+// Returns the first flaw of the ranges, or `None`: their count, then a range that doesn't follow the one before
+// it, then an end that is too early.
 fn bad_ranges(geometry: Geometry, ranges: &[NumberRange]) -> Option<Limit>
     requires { IsGeometry geometry }
     ensures { MatchOption result (MayBeLaid geometry ranges.now)
@@ -86,8 +87,8 @@ fn bad_layout(description: &Description) -> Option<Limit>
     }
 }
 
-/// Returns the first size of a description that no image may have, or `None`. The order is nodes, pages, log, age,
-/// layout, ranges.
+/// Returns the first limit that the description breaks, or `None`. The order is nodes, pages, log, age, layout,
+/// ranges.
 #[tactic(auto, using(crate::proofs::BrokenLimits::count_broken))]
 pub fn beyond_limits(description: &Description) -> Option<Limit>
     ensures { MatchOption result (IsWithinLimits description.now)

@@ -18,20 +18,20 @@ use toml::{Table, Value};
 
 /// A type that is read from a value in a list.
 pub(crate) trait FromValue: Drop {
-    /// Whether a value encodes this.
+    /// The value encodes this item.
     ghost IsSaid: { Data → Self → Type 0 };
 
-    /// Reads a value. Returns `None` if it doesn't encode one of this type.
+    /// Reads a value. Returns `None` if it encodes no item of this type.
     fn from_value(value: &Value) -> Option<Self>
         ensures { Finds (IsSaid (view value.now)) result };
 }
 
 /// A type that is read from a table in a list.
 pub(crate) trait FromTable: Drop {
-    /// Whether a table encodes this.
+    /// The table encodes this object.
     ghost IsRead: { Members → Self → Type 0 };
 
-    /// The name of the table at an index of the list.
+    /// The name of the table at an index of its list.
     ghost named: { ℕ → TableName };
 
     /// Reads the table at an index. Fails with its first flaw, or if memory runs out.
@@ -73,7 +73,7 @@ pub(crate) fn entries_of<'a, T: FromValue>(
     Ok(list)
 }
 
-// Reads the entries of the list at a key; there are none if the key is missing.
+// Reads the entries in the list at a key. If the key is missing, there are none.
 pub(crate) fn entries<'a, T: FromValue>(
     alloc: Global,
     table: &Table,
@@ -126,7 +126,7 @@ fn objects_of<'a, T: FromTable>(
     Ok(list)
 }
 
-// Reads the objects in the list at a key of the whole table; there are none if the key is missing.
+// Reads the objects in the list at a key of the whole table. If the key is missing, there are none.
 pub(crate) fn objects<'a, T: FromTable>(
     alloc: Global,
     table: &'a Table,
@@ -141,7 +141,7 @@ pub(crate) fn objects<'a, T: FromTable>(
     }
 }
 
-// Returns the four values in a list of four, or `None`.
+// Returns the four values of a list, or `None` if the value isn't a list of four.
 fn quad_of(value: &Value) -> Option<(&Value, &Value, &Value, &Value)>
     ensures { MatchOption result
         ((words : List ℕ) → AreFour (view value.now) words → ⊥)
@@ -155,7 +155,7 @@ fn quad_of(value: &Value) -> Option<(&Value, &Value, &Value, &Value)>
     }
 }
 
-// Returns the four words in a list of four, or `None`.
+// Returns the four words of a list, or `None` if the value isn't a list of four words.
 fn four_of(value: &Value) -> Option<[u64; 4]>
     ensures { Finds (AreFour (view value.now)) result }
 {
@@ -167,7 +167,7 @@ fn four_of(value: &Value) -> Option<[u64; 4]>
     Some([first, second, third, fourth])
 }
 
-// Reads the four words at a key; they are zeros if the key is missing.
+// Reads the four words at a key, or returns zeros if the key is missing.
 pub(crate) fn four_or_zeros<'a>(
     table: &Table,
     name: TableName,
@@ -185,7 +185,7 @@ pub(crate) fn four_or_zeros<'a>(
     }
 }
 
-/// A slot: a list with an index and the text of a capability.
+/// A list of two: the index of a slot, and the text of a capability.
 impl FromValue for SlotEntry {
     ghost IsSaid = { IsSlot };
 
@@ -197,7 +197,7 @@ impl FromValue for SlotEntry {
     }
 }
 
-/// A word: a list with an index and a number of 64 bits.
+/// A list of two: the index of a word, and a number of 64 bits.
 impl FromValue for WordEntry {
     ghost IsSaid = { IsWord };
 
@@ -209,7 +209,7 @@ impl FromValue for WordEntry {
     }
 }
 
-/// A range: a list with its first number and how many numbers it has.
+/// A list of two: the first number of a range, and how many numbers it has.
 impl FromValue for NumberRange {
     ghost IsSaid = { IsRange };
 

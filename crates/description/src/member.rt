@@ -32,7 +32,7 @@ fn unknown_key<'a>(table: &'a Table, known: &[&str]) -> Option<&'a str>
     None
 }
 
-// Fails if a table has another key than `known`.
+// Fails if a table has a key that isn't one of `known`.
 pub(crate) fn check_keys<'a>(
     table: &'a Table,
     name: TableName,
@@ -113,7 +113,7 @@ pub(crate) fn number_or<'a>(
     }
 }
 
-// Reads the state at a key. It is `None` if the text isn't that of a state.
+// Reads the state at a key. The state is `None` if the text isn't a state's.
 pub(crate) fn state<'a>(
     table: &Table,
     name: TableName,
@@ -131,7 +131,7 @@ pub(crate) fn state<'a>(
     }
 }
 
-// Reads the capability at a key. It is void if the key is missing, and `None` if the text isn't that of a capability.
+// Reads the capability at a key. It is void if the key is missing, and `None` if the text isn't a capability's.
 #[tactic(auto, using(crate::proofs::Keyed::defaulted))]
 pub(crate) fn capability_or_void<'a>(
     table: &Table,

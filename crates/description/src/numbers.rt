@@ -1,4 +1,4 @@
-// Finding a number in a description that isn't one of its kind or occurs twice.
+// Finding the first number of an object that is out of range or occurs twice.
 ghost use Rattle.std.specs.Prelude.{◌≡◌, ◌++◌, ◌<◌, ◌≤◌, ℕ, length, slice_get, slice_index, take, true, IfOk, IsTrue};
 ghost use Rattle.std.specs.Prelude.{MatchOption};
 ghost use Rattle.std.specs.List.{All, Contains};
@@ -75,7 +75,8 @@ fn named_at(description: &Description, nodes: usize, place: usize) -> Named
     }
 }
 
-// Returns the first bank, root, annex or node whose number isn't one of a node, or `None`.
+// Returns the first bank, root, annex or node whose number is outside the range of nodes, or
+// `None`.
 fn node_out_of_range(description: &Description, numbers: &[u64]) -> Option<Misnumbered>
     requires { numbers.now ≡ node_numbers description.now }
     ensures { MatchOption result
@@ -88,7 +89,7 @@ fn node_out_of_range(description: &Description, numbers: &[u64]) -> Option<Misnu
     }
 }
 
-// Returns the first page whose number isn't one of a page, or `None`.
+// Returns the first page whose number is outside the range of pages, or `None`.
 fn page_out_of_range(description: &Description, numbers: &[u64]) -> Option<Misnumbered>
     requires geometry { IsGeometry description.now.geometry }
     requires nodes { All (λ n. (0 ≤ n) × (n < description.now.geometry.nodes)) (node_numbers description.now) }
@@ -104,8 +105,8 @@ fn page_out_of_range(description: &Description, numbers: &[u64]) -> Option<Misnu
     }
 }
 
-// Returns the first place before `place` with the same number, or `None`. `seen` has all numbers that occur before
-// `place`.
+// Returns the first place before `place` with the same number, or `None`. `seen` has the numbers at all places
+// before `place`.
 fn find_seen(numbers: &[u64], seen: &NumberSet, place: usize) -> Option<usize>
     requires place { place < length numbers.now }
     requires seen { (n : ℕ) → Contains (take place numbers.now) n → is_marked seen.now n ≡ true }
@@ -122,7 +123,7 @@ fn find_seen(numbers: &[u64], seen: &NumberSet, place: usize) -> Option<usize>
     }
 }
 
-// Returns the first two places with the same number, or `None`. All numbers must be below `count`.
+// Returns the first two places with the same number, or `None`. All numbers are below `count`.
 fn first_twice(
     alloc: Global,
     numbers: &[u64],
@@ -142,7 +143,7 @@ fn first_twice(
     Ok(None)
 }
 
-// Returns the two objects at these places, if there are such places.
+// Returns the two objects whose numbers are at these places, or `None` if `found` is.
 fn named_twice(
     description: &Description,
     nodes: usize,
@@ -166,8 +167,8 @@ fn named_twice(
     }
 }
 
-/// Returns the first number of a description that isn't one of its kind; if there is none, the first that occurs
-/// twice. The order is banks, roots, annexes, nodes and pages. Fails only if memory runs out.
+/// Returns the first number that is out of range for its kind, or `None`. If there is none, returns the first
+/// that occurs twice. The order is banks, roots, annexes, nodes, pages. Fails only if memory runs out.
 pub(crate) fn misnumbered(
     alloc: Global,
     description: &Description,

@@ -15,7 +15,8 @@ use model::{Capability, State};
 use std::alloc::Global;
 use toml::Table;
 
-// Reads the number and the owner of an object. Its table may have only these two keys and `other`.
+// Reads the number and the owner of an object. Its table may have these two keys, `other`, and no
+// more.
 fn read_numbers<'a>(
     table: &'a Table,
     name: TableName,
@@ -31,7 +32,7 @@ fn read_numbers<'a>(
     Ok((first, owner))
 }
 
-// The fields of a process, except its registers.
+// The fields of a process other than its registers.
 #[derive(Clone, Copy)]
 struct ProcessFields {
     root: u64,
@@ -43,7 +44,7 @@ struct ProcessFields {
     space: Option<Capability>,
 }
 
-// Reads the table of a process, except its registers.
+// Reads the fields of a process other than its registers.
 fn read_fields<'a>(table: &'a Table, index: usize) -> Result<ProcessFields, Misread<'a>>
     ensures { Reads (HasProcessFields (table_view table.entry.now))
         (IsIn (Process index) (table_view table.entry.now)) result }

@@ -11,21 +11,21 @@ use crate::{BankEntry, NodeEntry, PageEntry, ProcessEntry, SlotEntry, WordEntry}
 use model::{Cap, Capability, Content, Root, Slots, State, Words};
 use std::alloc::{AllocError, Global};
 
-// Returns a capability with count 0, the count of every object in a new image.
+// Returns a capability with count 0, which every object of a new image has.
 fn fresh_cap(what: Capability) -> Cap
     ensures { result ≡ fresh_cap what }
 {
     Cap { what, count: 0 }
 }
 
-// Returns the stored capability of a slot.
+// Returns a slot's capability with count 0.
 fn slot_held(slot: &SlotEntry) -> Cap
     ensures { result ≡ slot_held slot.now }
 {
     fresh_cap(slot.capability.unwrap_or(Capability::Void))
 }
 
-// Returns slots with these entries; the others are void. Fails only if memory runs out.
+// Returns 32 slots with these entries; the others are void. Fails only if memory runs out.
 #[tactic(auto, using(crate::proofs::Lists::each_wrote))]
 fn slots_of(alloc: Global, entries: &[SlotEntry]) -> Result<Slots<Cap>, AllocError>
     requires { All (λ s. s.index < 32) entries.now }
@@ -38,7 +38,7 @@ fn slots_of(alloc: Global, entries: &[SlotEntry]) -> Result<Slots<Cap>, AllocErr
     Ok(slots)
 }
 
-// Returns words with these entries; the others are 0. Fails only if memory runs out.
+// Returns 512 words with these entries; the others are 0. Fails only if memory runs out.
 fn words_of(alloc: Global, entries: &[WordEntry]) -> Result<Words, AllocError>
     requires { All (λ w. w.index < 512) entries.now }
     ensures words { IfOk result (λ words. words ≡ words_of entries.now) }
@@ -51,7 +51,7 @@ fn words_of(alloc: Global, entries: &[WordEntry]) -> Result<Words, AllocError>
     Ok(words)
 }
 
-// A fact for the prover: the words of a root have 64 bits each. The function does nothing; its contract is the fact.
+// Does nothing; the contract says that the words of a root have 64 bits, which the prover needs.
 fn are_root_words(words: &[u64])
     requires { length words.now ≡ 4 }
     ensures { AreKeptWords 4 words.now }

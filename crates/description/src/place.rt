@@ -1,4 +1,4 @@
-// Places where a table hasn't the form of a description.
+// Where a table differs from the form of a description.
 ghost use Rattle.std.specs.Prelude.{◌≡◌, codes};
 ghost use Rattle.description.specs.Shapes.{key_name, misfit};
 ghost use Rattle.description.specs.declared.place.Misread.TheVariants.{Misshapen};
@@ -85,17 +85,17 @@ pub enum Flaw<'a> {
     Item(Key, usize),
 }
 
-/// A table, and a flaw in it.
+/// A table, with a flaw in it.
 #[derive(Clone, Copy)]
 pub struct ShapePlace<'a> {
     pub table: TableName,
     pub flaw: Flaw<'a>,
 }
 
-/// Why no description could be read from a table.
+/// Why a table can't be read as a description.
 #[derive(Clone, Copy)]
 pub enum Misread<'a> {
-    /// The table hasn't the form of a description; this is the first place where it differs.
+    /// This is the first place where the table differs from the form of a description.
     Misshapen(ShapePlace<'a>),
     /// Memory ran out.
     NoMemory,

@@ -42,7 +42,7 @@ fn whole_ranges(geometry: Geometry) -> [NumberRange; 2]
     [nodes, pages]
 }
 
-// Reads the ranges; if there are none in the table, returns those of all nodes and of all pages.
+// Reads the ranges. If the table has none, returns one of all nodes and one of all pages.
 fn read_ranges<'a>(
     alloc: Global,
     table: &Table,
@@ -94,11 +94,11 @@ fn read_description<'a>(alloc: Global, table: &'a Table) -> Result<Description, 
 }
 
 impl Description {
-    /// Reads the description in a table. Fails with the first place where the table hasn't the form of a description,
-    /// or if memory runs out.
+    /// Reads the description in a table. Fails with the first flaw of the table, or if memory runs out.
     ///
-    /// The first place is found in this order: an unknown key; then the first key whose value is missing or has the
-    /// wrong type; if that is a list, its first malformed item; in the table of an object the same order again.
+    /// An unknown key comes first. Then the keys are read in order, and the first is reported whose value is missing
+    /// or has the wrong type; if the value is a list, its first malformed item. In an object's table the order is the
+    /// same.
     pub fn read<'a>(alloc: Global, table: &'a Table) -> Result<Description, Misread<'a>>
         ensures { Reads (IsDescription (table_view table.entry.now)) (BreaksShape (table_view table.entry.now)) result }
     {

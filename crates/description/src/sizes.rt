@@ -4,7 +4,7 @@ ghost use Rattle.description.specs.Sizes.{grown_geometry};
 
 use model::Geometry;
 
-/// The sizes that an image is to have. `None` keeps the image's own.
+/// The requested sizes of an image. `None` keeps the image's own.
 #[derive(Clone, Copy)]
 pub struct Sizes {
     /// The number of nodes.
@@ -15,7 +15,7 @@ pub struct Sizes {
     pub log: Option<u64>,
 }
 
-/// Why a description can't be renumbered for other sizes.
+/// Why a description can't be renumbered for new sizes.
 #[derive(Clone, Copy)]
 pub enum GrowthFault {
     /// No image may have these sizes.
@@ -28,7 +28,7 @@ pub enum GrowthFault {
     NoMemory,
 }
 
-// Returns a size, or the image's own if it is `None`.
+// Returns the requested size, or the image's own if none is requested.
 fn size_or(size: Option<u64>, own: u64) -> u64
     ensures { result ≡ unwrap_or size own }
 {
@@ -39,7 +39,7 @@ fn size_or(size: Option<u64>, own: u64) -> u64
 }
 
 impl Sizes {
-    /// Returns the sizes of an image with these changes.
+    /// Returns the sizes of an image after this request.
     pub fn over(self, own: Geometry) -> Geometry
         ensures { result ≡ grown_geometry own self }
     {

@@ -1,4 +1,4 @@
-// Finding a capability in a description that names no object of its kind.
+// Finding the first capability that fails a test.
 ghost use Rattle.std.specs.Prelude.{◌≡◌, ◌↔◌, false, IsTrue, MatchOption};
 ghost use Rattle.std.specs.List.{All};
 ghost use Rattle.model.specs.declared.capability.Capability.{Capability};
@@ -20,7 +20,7 @@ pub trait Naming {
         ensures { IsTrue result ↔ Passes self.now capability };
 }
 
-/// The test whether a capability names a number of its kind.
+/// The test whether a capability's number is one of its kind.
 #[derive(Drop)]
 pub(crate) struct OfItsKind {
     geometry: Geometry,
@@ -50,7 +50,7 @@ impl Naming for OfItsKind {
     }
 }
 
-// Whether a capability passes, or is absent.
+// Whether there is no capability, or it passes.
 fn may_pass<N: Naming>(naming: &N, capability: Option<Capability>) -> bool
     ensures passes { IsTrue result → IfNamed (N.Passes naming.now) capability }
     ensures fails { result ≡ false → LacksIt (N.Passes naming.now) capability }
@@ -74,8 +74,8 @@ fn first_failing<N: Naming>(naming: &N, slots: &[SlotEntry]) -> Option<usize>
     None
 }
 
-// Returns the first capability of a process that fails the test, or `None`: first its address space, then its
-// registers.
+// Returns the first capability of a process that fails the test, or `None`. The address space comes first,
+// then the registers.
 #[tactic(auto, unfolding(crate::specs::Broken::OneOfProcess))]
 fn failing_in_process<N: Naming>(naming: &N, k: usize, process: &ProcessEntry) -> Option<Held>
     ensures { MatchOption result (AllOfProcess (N.Passes naming.now) process.now)
@@ -90,7 +90,7 @@ fn failing_in_process<N: Naming>(naming: &N, k: usize, process: &ProcessEntry) -
     }
 }
 
-// Returns the index of the first process with a capability that fails the test, and the place of this capability, or
+// Returns the index of the first process with a capability that fails the test, with the capability's place, or
 // `None`.
 fn failing_in_processes<N: Naming>(naming: &N, processes: &[ProcessEntry]) -> Option<(usize, Held)>
     ensures { MatchOption result (All (AllOfProcess (N.Passes naming.now)) processes.now)
@@ -105,7 +105,7 @@ fn failing_in_processes<N: Naming>(naming: &N, processes: &[ProcessEntry]) -> Op
     None
 }
 
-// Returns the first slot of a node whose capability fails the test, or `None`.
+// Returns the first slot of the nodes whose capability fails the test, or `None`.
 fn failing_in_nodes<N: Naming>(naming: &N, nodes: &[NodeEntry]) -> Option<Held>
     ensures { MatchOption result (All (λ n. AllIn (N.Passes naming.now) n.slots.items) nodes.now)
         (λ at. OneOfNodes (N.Passes naming.now) nodes.now at) }
@@ -118,8 +118,7 @@ fn failing_in_nodes<N: Naming>(naming: &N, nodes: &[NodeEntry]) -> Option<Held>
     None
 }
 
-/// Returns the first capability of a description that fails the test, or `None`: first those of processes, then those
-/// of nodes.
+/// Returns the first capability of a description that fails the test, or `None`. Processes come first, then nodes.
 pub fn failing<N: Naming>(naming: &N, description: &Description) -> Option<Held>
     ensures { MatchOption result (AllHave (N.Passes naming.now) description.now)
         (λ at. FirstLacks (N.Passes naming.now) description.now at) }

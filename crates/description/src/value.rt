@@ -10,7 +10,8 @@ use script::{capability_of, state_of};
 use toml::value::Array;
 use toml::{Table, Value};
 
-// Returns the number of a number capability if it is 2^63 or above, so that TOML has no such integer; else `None`.
+// Returns the number of a number capability if it is 2^63 or above, else `None`. TOML has no integers as large as
+// that.
 fn large_number(capability: Option<Capability>) -> Option<u64>
     ensures found { IfSome result (λ n. (2 ^ 63 ≤ n) × (capability ≡ Some (Capability.Number n))) }
     ensures none { IfNone result
@@ -22,7 +23,7 @@ fn large_number(capability: Option<Capability>) -> Option<u64>
     }
 }
 
-// Returns the number of 2^63 or above in the text of a number capability, or `None`.
+// Returns the number of 2^63 or above that a value is the text of, or `None`.
 #[tactic(auto, using(crate::proofs::Types::text_said))]
 fn number_in_text(value: &Value) -> Option<u64>
     requires { as_integer (view value.now) ≡ None }
@@ -32,7 +33,7 @@ fn number_in_text(value: &Value) -> Option<u64>
     large_number(capability)
 }
 
-// Returns the number in a value, or `None` if it isn't an integer or is negative.
+// Returns a value as a number, or `None` if it isn't an integer or is negative.
 #[tactic(auto, using(crate::proofs::Types::natural))]
 pub(crate) fn number_of(value: &Value) -> Option<u64>
     ensures { Finds (IsNumber (view value.now)) result }
@@ -48,7 +49,7 @@ pub(crate) fn number_of(value: &Value) -> Option<u64>
     }
 }
 
-// Returns the number of 64 bits in a value, or `None`. From 2^63 on it is written as a text.
+// Returns a value as a number of 64 bits, or `None`. A number of 2^63 or above is a text.
 #[tactic(auto, using(crate::proofs::Types::wide_read))]
 pub(crate) fn wide_number_of(value: &Value) -> Option<u64>
     ensures { Finds (IsWideNumber (view value.now)) result }
@@ -60,8 +61,7 @@ pub(crate) fn wide_number_of(value: &Value) -> Option<u64>
     }
 }
 
-// Returns `None` if the value isn't a text; else the capability with this text, or `None` in its place if it is that of
-// none.
+// Returns the capability in a text, `Some(None)` if the text is no capability's, or `None` if the value isn't a text.
 #[tactic(auto, using(crate::proofs::Types::capability_reported))]
 pub(crate) fn capability_at(value: &Value) -> Option<Option<Capability>>
     ensures { Finds (IsCapability (view value.now)) result }
@@ -72,8 +72,7 @@ pub(crate) fn capability_at(value: &Value) -> Option<Option<Capability>>
     }
 }
 
-// Returns `None` if the value isn't a text; else the state with this text, or `None` in its place if it is that of
-// none.
+// Returns the state in a text, `Some(None)` if the text is no state's, or `None` if the value isn't a text.
 #[tactic(auto, using(crate::proofs::Types::state_reported))]
 pub(crate) fn state_at(value: &Value) -> Option<Option<State>>
     ensures { Finds (IsState (view value.now)) result }
@@ -84,7 +83,7 @@ pub(crate) fn state_at(value: &Value) -> Option<Option<State>>
     }
 }
 
-// Returns the values of a list, or `None` for another value.
+// Returns the items of a list, or `None` if the value isn't a list.
 pub(crate) fn array_of(value: &Value) -> Option<&Array>
     ensures { MatchOption result
         ((ds : Items) → view value.now ≡ array ds → ⊥)
@@ -93,7 +92,7 @@ pub(crate) fn array_of(value: &Value) -> Option<&Array>
     value.as_array()
 }
 
-// Returns the members of a table, or `None` for another value.
+// Returns the members of a table, or `None` if the value isn't a table.
 pub(crate) fn table_of(value: &Value) -> Option<&Table>
     ensures { MatchOption result
         ((ms : Members) → view value.now ≡ table ms → ⊥)
@@ -102,7 +101,7 @@ pub(crate) fn table_of(value: &Value) -> Option<&Table>
     value.as_table()
 }
 
-// Returns the two values in a list of two, or `None`.
+// Returns the two values of a list, or `None` if the value isn't a list of two.
 pub(crate) fn pair_of(value: &Value) -> Option<(&Value, &Value)>
     ensures { MatchOption result
         ((a b : Data) → view value.now ≡ array (item a (item b no_items)) → ⊥)

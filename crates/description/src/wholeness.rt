@@ -1,8 +1,8 @@
-//! A law of described frames: the contract of a function that does nothing.
+//! A law of described frames: the contract of an empty function.
 
 ghost use Rattle.description.specs.Wholeness.{DescribedIsWhole};
 
-/// In described frames each process has a root and an annex.
+/// In described frames each process has its root and its annex.
 pub fn described_is_whole()
     ensures { DescribedIsWhole }
 {}

@@ -1,4 +1,4 @@
-// The frames of all numbers, as headers and contents.
+// The frames of all objects, as headers and contents.
 ghost use Rattle.std.specs.Prelude.{◌≡◌, ◌<◌, replicate, vec_len, IfOk};
 ghost use Rattle.model.specs.Frame.{blank_frame};
 ghost use Rattle.description.specs.Described.{first_frame};
@@ -7,7 +7,7 @@ ghost use Rattle.description.specs.Laid.{frames_of, HasCount, IsPut};
 use model::{Cap, Content, ObjectHeader, Role};
 use std::alloc::{AllocError, Global};
 
-/// The header and the content of each number.
+/// For each number, the header and the content of its object.
 #[derive(Drop)]
 pub struct World {
     pub headers: Vec<ObjectHeader>,
@@ -34,7 +34,7 @@ impl World {
         Ok(World { headers, contents })
     }
 
-    // Puts an object of a bank at a number. The object was never rescinded.
+    // Puts an object with this owner and content at a number. Its counts are 0.
     #[tactic(auto, using(crate::proofs::Worlds::put_there))]
     pub(crate) fn put(&mut self, number: u64, owner: u64, content: Content<Cap>)
         requires within { number < vec_len self.old.headers }

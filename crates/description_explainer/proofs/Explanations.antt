@@ -1,4 +1,4 @@
--- What is reported about a description holds.
+-- Each rule and place that is reported about a description is right.
 use Rattle.description_explainer.proofs.Names.{ℕ, List, subst, Frame, Unbanked, AreNamed, NamesItsRole, IsUnbanked, unbanked_refuted, Description, HasFields}
 use Rattle.description_explainer.proofs.Names.{HasNumbers, IsDescribed, IsTarget, described_once, IsFirstBroken, IsWithinLimits, Refuses, field_broken}
 use Rattle.description_explainer.proofs.Names.{limits_broken, number_broken, owner_broken, target_broken, Held, Limit, Misnumbered, Part, BreaksField}
@@ -51,7 +51,7 @@ module _ (d : Description) where
                 rule.2),
           )
 
--- the rule for which a description names no world
+-- the parameters: a description within the limits, and the first rule of worlds that it breaks
 module _ (d : Description) (limits : IsWithinLimits d) (why : WorldFault) (broken : BreaksWorld d why) where
   broken_as : (is : WorldFault) → why ≡ is → BreaksWorld d is
   broken_as is same = subst (λ (w : WorldFault). BreaksWorld d w) same broken
@@ -69,7 +69,7 @@ module _ (d : Description) (limits : IsWithinLimits d) (why : WorldFault) (broke
       let at : HasNumbers d × HasFields d × FirstLacks (IsTarget d.geometry) d held = broken_as (fault.Target held) is in
       explains_kind d limits at.0 at.1 held at.2
 
--- the result of the search of all capabilities, in described frames
+-- the parameters: the described frames, in which all capabilities were searched
 module _ (d : Description) (fs gs : List Frame) (same : gs ≡ fs) (is : IsDescribed d fs) where
   pub unnamed_none : (found : Option Held) → MatchOption found (AllHave (NamesItsRole gs) d) (λ at. FirstLacks (NamesItsRole gs) d at) →
       IfNone found (AreNamed fs)
@@ -83,13 +83,13 @@ module _ (d : Description) (fs gs : List Frame) (same : gs ≡ fs) (is : IsDescr
   unnamed_some limits numbers fields kinds (Some at) lacks = explains_role d limits numbers fields fs is kinds at
       (subst (λ (hs : List Frame). FirstLacks (NamesItsRole hs) d at) same lacks)
 
--- a table is refused for the reason for which its description is
+-- if this is the first rule that a description breaks, its table is refused with that rule's fault
 pub refused_rule : (ms : Members) (d : Description) (sectors : ℕ) (r : Rule) → IsDescription ms d → IsFirstBroken d sectors (rule_fault r) →
     Refuses ms sectors (rule_fault r)
 refused_rule ms d sectors (rule.Limit l) is first = (d, is, first)
 refused_rule ms d sectors other is first = (d, is, first)
 
--- a table from which no description can be read is refused at the place of its first flaw
+-- if a table can't be read, it is refused at the place of its first flaw
 pub misshapen_explained : (ms : Members) (why : Misread) (shape : ShapePlace) → why ≡ misread.Misshapen shape →
     Misses (BreaksShape ms) why → Explains ms (Some (place.Shape shape))
 misshapen_explained ms why shape is misses =

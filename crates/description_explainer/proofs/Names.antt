@@ -1,4 +1,4 @@
--- The names that the proofs here cite: of other crates, and of the definitions of this one.
+-- The names that the proofs here import: from other crates, and from the definitions of this one.
 pub use Rattle.capability.specs.Consistency.{AreNamed, IsNamed, NamesItsRole}
 pub use Rattle.capability.specs.Plain.{fresh_cap}
 pub use Rattle.description.proofs.DescribedOnce.{described_once}

@@ -1,4 +1,4 @@
--- Texts that have just one line.
+-- Which texts have only one line.
 use Rattle.description_explainer.proofs.Names.{none-some, same_Some, nat_tests, ℕ, zero, suc, Bool, false, List, [], Option, None, Some, refl, ap}
 use Rattle.description_explainer.proofs.Names.{arith, All-cons, All-head, All-tail, IfSome, codes, decimal, list_any, IsOneLine, Description, Key}
 use Rattle.description_explainer.proofs.Names.{Flaw, TableName, Part, Unbanked, Held, Limit, Misnumbered, Named, Place, Rule, IsFlawText, IsPlaceText}
@@ -19,7 +19,7 @@ use Rattle.description.specs.declared.flaw.Named.TheVariants as named
 use Rattle.description_explainer.specs.declared.place.Place.TheVariants as place
 use Rattle.description_explainer.specs.declared.place.Rule.TheVariants as rule
 
--- a byte of a text ends a line
+-- whether a text has a newline
 abbrev pub breaks : List ℕ → Bool
 breaks text = list_any (λ b. b == 10) text
 
@@ -31,7 +31,7 @@ pub both : (xs ys : List ℕ) → breaks xs ≡ false → breaks ys ≡ false �
 both [] ys one other = other
 both (x ∷ xs) ys one other = grind (arith, nat_tests, both xs ys)
 
--- Numbers.
+-- ---- numbers
 
 glyph_line : (d : ℕ) (acc : List ℕ) → breaks acc ≡ false → breaks (digit_glyph false d ∷ acc) ≡ false
 glyph_line d acc none = grind (arith, nat_tests)
@@ -47,7 +47,7 @@ digits_line base n = glyphs_line 64 base n [] refl
 pub decimal_line : (n : ℕ) → breaks (decimal n) ≡ false
 decimal_line n = digits_line 10 n
 
--- Texts in quotes.
+-- ---- texts in quotes
 
 letter_line : (c : ℕ) → breaks (debug_escape_letter c 34 ∷ []) ≡ false
 letter_line c = grind (arith, nat_tests)
@@ -66,7 +66,7 @@ escapes_line : (text : List ℕ) → breaks (flat_map (debug_escape 34) text) �
 escapes_line [] = refl
 escapes_line (c ∷ cs) = both (debug_escape 34 c) (flat_map (debug_escape 34) cs) (escape_line c) (escapes_line cs)
 
--- a text in quotes that has a line's end is none that is known
+-- nothing is known of a quoted text that has a newline, so any other text may replace it
 pub quoted_line : (key shown : List ℕ) → (breaks shown ≡ false → ⊥) → IfSome (debug_str key) (λ s. shown ≡ s) → (other : List ℕ) →
     IfSome (debug_str key) (λ s. other ≡ s)
 quoted_line key shown broken is other = go (debug_str key) refl is
@@ -81,7 +81,7 @@ quoted_line key shown broken is other = go (debug_str key) refl is
 pub quotes_line : IsOneLine (codes "\"\"")
 quotes_line = one_line (codes "\"\"") refl
 
--- Places.
+-- ---- places
 
 item_line : (list : List ℕ) (i : ℕ) (after : List ℕ) → breaks list ≡ false → breaks after ≡ false → breaks (item_text list i after) ≡ false
 item_line list i after one other =
@@ -128,7 +128,7 @@ misnumbered_line : (m : Misnumbered) → breaks (misnumbered_text m) ≡ false
 misnumbered_line (misnumbered.OutOfRange who) = named_line who
 misnumbered_line (misnumbered.Twice who other) = named_line other
 
--- a word and a number
+-- a word without a newline and a number have no newline
 counted_line : (word : List ℕ) (n : ℕ) → breaks word ≡ false → breaks (word ++ decimal n) ≡ false
 counted_line word n one = both word (decimal n) one (decimal_line n)
 
@@ -185,7 +185,7 @@ place_line : (p : Place) (text : List ℕ) → IsPlaceText p text → breaks tex
 place_line (place.Shape s) text is = rw is.2 (both (table_text s.table) is.0 (table_line s.table) (flaw_line s.flaw is.0 is.1))
 place_line (place.Rule d r) text is = rw is (rule_line d r)
 
--- the line of a place, of words on one line, and of a number, is one line
+-- if place and words have no newline, neither has the explanation
 pub explanation_line : (p : Place) (at what : List ℕ) (n : ℕ) → IsPlaceText p at → breaks what ≡ false →
     IsOneLine (at ++ (what ++ (codes " (bad description " ++ (decimal n ++ codes ")"))))
 explanation_line p at what n is one =

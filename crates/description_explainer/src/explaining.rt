@@ -1,4 +1,4 @@
-// Finding the first rule for which `build` refuses a table, and where it is broken.
+// Finding the first rule that a table breaks, and where.
 ghost use Rattle.std.specs.Prelude.{◌≡◌, Some, IfNone, IfOk, IfSome};
 ghost use Rattle.toml.specs.Data.{Members};
 ghost use Rattle.toml.specs.View.{table_view};
@@ -26,7 +26,7 @@ use recovery::{Noted, find_unbanked, read_notes};
 use std::alloc::{AllocError, Global};
 use toml::Table;
 
-// Returns the rule for owners, if described frames break it.
+// Returns the rule for owners if described frames break it, else `None`.
 fn explain_banks(
     alloc: Global,
     description: &Description,
@@ -57,7 +57,7 @@ fn find_unnamed(description: &Description, frames: &Plain, notes: &[Option<Noted
     failing(&OfItsRole::new(frames, notes), description)
 }
 
-// Returns the rule that described frames break, if they break one.
+// Returns the first rule that described frames break, or `None`.
 fn explain_frames(
     alloc: Global,
     description: &Description,
@@ -79,7 +79,7 @@ fn explain_frames(
     }
 }
 
-// Returns the rule that keeps a description from having a world.
+// Returns the rule that a description without a world breaks. Fails if memory ran out instead.
 fn rule_of(why: WorldFault) -> Result<Option<Rule>, AllocError>
     ensures { (d : Description) → IsWithinLimits d → BreaksWorld d why
         → IfOk result (λ found. ExplainsDescription d found) }
@@ -92,7 +92,7 @@ fn rule_of(why: WorldFault) -> Result<Option<Rule>, AllocError>
     }
 }
 
-// Returns the rule that a description within the limits breaks, if it breaks one.
+// Returns the first rule that a description within the limits breaks, or `None`.
 fn explain_world(alloc: Global, description: &Description) -> Result<Option<Rule>, AllocError>
     requires { IsWithinLimits description.now }
     ensures { IfOk result (λ found. ExplainsDescription description.now found) }
@@ -107,7 +107,7 @@ fn explain_world(alloc: Global, description: &Description) -> Result<Option<Rule
     }
 }
 
-// Returns the first rule that a description breaks, if it breaks one.
+// Returns the first rule that a description breaks, or `None`.
 #[tactic(auto, using(crate::proofs::Explanations::explains_limit))]
 fn explain_rules(alloc: Global, description: &Description) -> Result<Option<Rule>, AllocError>
     ensures { IfOk result (λ found. ExplainsDescription description.now found) }
@@ -118,7 +118,7 @@ fn explain_rules(alloc: Global, description: &Description) -> Result<Option<Rule
     }
 }
 
-// Returns the place where a description breaks a rule, with the description, if it breaks one.
+// Returns the place where the description breaks this rule, or `None` if it breaks none.
 fn place_of<'a>(description: Description, found: Option<Rule>) -> Option<Place<'a>>
     requires { ExplainsDescription description found }
     ensures { (table : Members) → IsDescription table description → Explains table result }
@@ -129,7 +129,7 @@ fn place_of<'a>(description: Description, found: Option<Rule>) -> Option<Place<'
     }
 }
 
-// Returns the place for which no description could be read from a table.
+// Returns the place where a table can't be read. Fails if memory ran out instead.
 fn unread<'a>(why: Misread<'a>) -> Result<Option<Place<'a>>, AllocError>
     ensures { (table : Members) → Misses (BreaksShape table) why.entry → IfOk result (Explains table) }
 {
@@ -139,8 +139,8 @@ fn unread<'a>(why: Misread<'a>) -> Result<Option<Place<'a>>, AllocError>
     }
 }
 
-/// Returns where a table breaks the first rule for which `build` refuses it, or `None` if `build` accepts it on a
-/// device that is large enough. Fails only if memory runs out.
+/// Returns the first rule that makes `build` refuse a table, and where the table breaks it. Returns `None` if
+/// `build` accepts the table on a device that is large enough. Fails only if memory runs out.
 pub fn explain<'a>(alloc: Global, table: &'a Table) -> Result<Option<Place<'a>>, AllocError>
     ensures { IfOk result (Explains (table_view table.entry.now)) }
 {

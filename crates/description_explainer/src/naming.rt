@@ -1,4 +1,4 @@
-// Writing the names of a description's objects. Each function that writes fails only if memory runs out.
+// Writing the text of a description's objects. Each function that writes fails only if memory runs out.
 ghost use Rattle.std.specs.Prelude.{◌≡◌, ◌==◌, ◌++◌, ◌||◌, OnOk, position, string_bytes};
 ghost use Rattle.std.specs.List.{list_any};
 ghost use Rattle.description_explainer.specs.Text.{listed_number, node_text, object_text, page_text, part_text};
@@ -35,7 +35,7 @@ pub(crate) fn listed_number(description: &Description, named: Named) -> u64
     }
 }
 
-// Writes the name of a process. `k` is its index in the list of processes. The next two do the same for a node and a
+// Writes the text of the process at index `k` of its list. The next two functions write that of a node and of a
 // page.
 pub(crate) fn put_process(
     text: &mut String,
@@ -73,7 +73,7 @@ pub(crate) fn put_page(
     write!(text, "page {number}")
 }
 
-// Whether a number is a bank's. The next function does the same for nodes.
+// Whether a bank has this number. The next function does the same for nodes.
 fn is_bank(banks: &[BankEntry], number: u64) -> bool
     ensures { result ≡ list_any (λ b. b.number == number) banks.now }
 {
@@ -93,7 +93,7 @@ fn process_with(processes: &[ProcessEntry], number: u64) -> Option<usize>
     processes.iter().position(|process| process.root == number || process.annex == number)
 }
 
-// Writes the name of an object that isn't a bank.
+// Writes the text of the object with this number, which isn't a bank.
 fn put_part(text: &mut String, description: &Description, number: u64) -> Result<(), AllocError>
     ensures { OnOk result (string_bytes text.new
         ≡ string_bytes text.old ++ part_text description.now number
@@ -111,7 +111,7 @@ fn put_part(text: &mut String, description: &Description, number: u64) -> Result
     }
 }
 
-// Writes the name of the object with a number. An annex gets the name of its process.
+// Writes the text of the object with this number. An annex has the text of its process.
 pub(crate) fn put_object(
     text: &mut String,
     description: &Description,

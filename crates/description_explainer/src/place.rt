@@ -1,11 +1,11 @@
-// The place where a description breaks a rule.
+// Where a description breaks a rule.
 ghost use Rattle.std.specs.Prelude.{◌≡◌};
 ghost use Rattle.description_explainer.specs.Places.{fault_of, rule_fault};
 
 use description::{BuildFault, Description, Held, Limit, Misnumbered, Part, ShapePlace};
 use recovery::Unbanked;
 
-/// Where a description breaks one of the rules after the first, which is that of its form.
+/// The rule that a description breaks, and its first place. The rule for its form is in `Place`.
 #[derive(Clone, Copy)]
 pub enum Rule {
     Limit(Limit),
@@ -16,7 +16,7 @@ pub enum Rule {
 }
 
 impl Rule {
-    /// Returns the fault with which `build` refuses such a description.
+    /// Returns the fault that `build` returns if this is the first broken rule.
     pub fn fault(self) -> BuildFault
         ensures { result ≡ rule_fault self }
     {
@@ -30,17 +30,17 @@ impl Rule {
     }
 }
 
-/// Where a table breaks the first rule that it breaks.
+/// The first broken rule of a table, and its first place.
 #[derive(Drop)]
 pub enum Place<'a> {
-    /// The table isn't that of a description.
+    /// The table isn't that of a description: its first flaw.
     Shape(ShapePlace<'a>),
-    /// The table's description breaks another rule.
+    /// The table's description breaks this rule.
     Rule(Description, Rule),
 }
 
 impl Place<'_> {
-    /// Returns the fault with which `build` refuses such a table.
+    /// Returns the fault that `build` returns for this table.
     pub fn fault(&self) -> BuildFault
         ensures { result ≡ fault_of self.now }
     {

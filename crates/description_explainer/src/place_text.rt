@@ -17,14 +17,15 @@ use description::{
 use recovery::Unbanked;
 use std::alloc::{AllocError, Global};
 
-// Writes the name of an item of a list.
+// Writes an item of a list: `bank[0]`.
 fn put_item(text: &mut String, list: &str, i: usize) -> Result<(), AllocError>
     ensures { OnOk result (string_bytes text.new ≡ string_bytes text.old ++ item_text list.now i []) }
 {
     write!(text, "{list}[{i}]")
 }
 
-/// Returns the key of the list that has a table, and the table's index there; `None` for the whole table.
+/// Returns the key of the list that has a table, and the table's index in it. Returns `None` for the
+/// whole table.
 pub(crate) fn list_of(name: TableName) -> Option<(&'static str, usize)>
     ensures { MatchOption result (table_text name ≡ [])
         (λ p. table_text name ≡ item_text p.0.now p.1 (codes ", ")) }
@@ -38,7 +39,7 @@ pub(crate) fn list_of(name: TableName) -> Option<(&'static str, usize)>
     }
 }
 
-// Writes the text before a key of a table: the name of the table.
+// Writes the table before one of its keys.
 fn put_table(text: &mut String, name: TableName) -> Result<(), AllocError>
     ensures { OnOk result (string_bytes text.new ≡ string_bytes text.old ++ table_text name) }
 {
@@ -55,7 +56,7 @@ fn debugged(alloc: Global, key: &str) -> Result<String, AllocError>
     format!(in alloc; "{key:?}")
 }
 
-// Returns a key in quotes, on one line. No contract of std says how `{:?}` writes a text that isn't ASCII, so a
+// Returns a key in quotes, on one line. No contract of std says how `{:?}` writes text that isn't ASCII, so a
 // result with a newline is replaced.
 fn quoted(alloc: Global, key: &str) -> Result<String, AllocError>
     ensures { IfOk result (λ shown. IfSome (debug_str key.now) (λ s. string_bytes shown ≡ s)
@@ -68,7 +69,7 @@ fn quoted(alloc: Global, key: &str) -> Result<String, AllocError>
     Ok(shown)
 }
 
-// Writes the key of a flaw, or the item of the list at this key.
+// Writes the key of a flaw, or the item of the list at the key.
 fn put_flaw(alloc: Global, text: &mut String, flaw: Flaw<'_>) -> Result<(), AllocError>
     ensures { OnOk result ((at : List ℕ) × IsFlawText flaw.entry at
         × (string_bytes text.new ≡ string_bytes text.old ++ at)) }
@@ -106,7 +107,8 @@ fn put_limit(text: &mut String, limit: Limit) -> Result<(), AllocError>
     }
 }
 
-/// Returns the key of the list that has an object, the object's index there, and the key of its number.
+/// Returns the key of the list that has an object, the object's index in it, and the key of the
+/// object's number.
 pub(crate) fn parts_of(named: Named) -> (&'static str, usize, &'static str)
     ensures { named_text named ≡ item_text result.0.now result.1 (codes ", " ++ result.2.now) }
 {
@@ -136,7 +138,7 @@ fn put_misnumbered(text: &mut String, place: Misnumbered) -> Result<(), AllocErr
     }
 }
 
-/// Returns the index of the faulty entry: of two with the same index, the second.
+/// Returns the index of the wrong entry: of two with the same index, that of the second.
 pub(crate) fn indexed_entry(flaw: Indexed) -> usize
     ensures { result ≡ indexed_entry flaw }
 {

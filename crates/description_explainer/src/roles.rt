@@ -12,7 +12,7 @@ use model::Capability;
 use recovery::{Noted, names_its_role};
 use std::marker::Model;
 
-/// The test whether a capability names an object of its kind; that of a resume capability must be a waiting process.
+/// The test whether a capability names an object of its kind, and a resume capability a waiting process.
 #[derive(Drop)]
 pub(crate) struct OfItsRole<'a> {
     frames: &'a Plain,

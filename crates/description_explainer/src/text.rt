@@ -60,7 +60,7 @@ fn keys_in(table: TableName) -> &'static str {
     }
 }
 
-// Returns the value at an index of a list, or `None`.
+// Returns the item at an index of a list, or `None`.
 fn item_at(list: &Value, i: usize) -> Option<&Value> {
     list.as_array()?.get(i)
 }
@@ -78,8 +78,8 @@ fn value_at<'a>(whole: &'a Table, name: TableName, key: &str) -> Option<&'a Valu
     member(table_at(whole, name)?, key)
 }
 
-// Returns the text at a key of a table, or an empty text. The next two do the same for the second item of an entry in
-// a list.
+// Returns the text at a key of a table, or an empty text. The next two functions return the second item of an entry
+// in a list.
 fn text_at<'a>(whole: &'a Table, name: TableName, key: &str) -> &'a str {
     match value_at(whole, name, key) {
         Some(value) => value.as_str().unwrap_or(""),
@@ -95,7 +95,7 @@ fn entry_text<'a>(whole: &'a Table, name: TableName, key: &str, i: usize) -> &'a
     entry_at(whole, name, key, i).unwrap_or("")
 }
 
-// Writes what value a key has.
+// Writes which value was found.
 fn put_found(text: &mut String, value: &Value) -> Result<(), AllocError> {
     match value.as_integer() {
         Some(number) => write!(text, "found {number}"),
@@ -136,7 +136,7 @@ fn put_shape(text: &mut String, whole: &Table, place: ShapePlace<'_>) -> Result<
     }
 }
 
-// Writes why a range doesn't begin at a number, or is malformed.
+// Writes what is wrong with a range that should begin at `next`.
 fn put_range(
     text: &mut String,
     geometry: Geometry,
@@ -228,7 +228,7 @@ fn put_number(
     }
 }
 
-// Writes that a text isn't that of a capability, and which texts are.
+// Writes that a text isn't a capability's, and which texts are.
 fn put_no_capability(text: &mut String, found: &str) -> Result<(), AllocError> {
     write!(
         text,
@@ -237,7 +237,7 @@ fn put_no_capability(text: &mut String, found: &str) -> Result<(), AllocError> {
     )
 }
 
-// A list of entries with indexes: its table and key, the word for its entries, and the least and greatest index.
+// A list of entries with indexes: its table and key, the word for an entry, and the least and greatest index.
 #[derive(Clone, Copy)]
 struct Entries {
     table: TableName,
@@ -278,7 +278,7 @@ impl Entries {
         }
     }
 
-    // Writes the flaw in the index of an entry.
+    // Writes what is wrong with the index of an entry.
     fn put_indexed(self, text: &mut String, index: u64, flaw: Indexed) -> Result<(), AllocError> {
         let Entries {
             key,
@@ -297,7 +297,7 @@ impl Entries {
         }
     }
 
-    // Writes the flaw in an entry of a list of words.
+    // Writes what is wrong with an entry in a list of words.
     fn put_word(
         self,
         text: &mut String,
@@ -308,7 +308,7 @@ impl Entries {
         self.put_indexed(text, index, flaw)
     }
 
-    // Writes the flaw in an entry of a list of slots or registers.
+    // Writes what is wrong with an entry in a list of slots or registers.
     fn put_slot(
         self,
         text: &mut String,
@@ -329,7 +329,7 @@ impl Entries {
     }
 }
 
-// Writes the flaw in the address space of a process.
+// Writes what is wrong with the address space of a process.
 fn put_space(
     text: &mut String,
     whole: &Table,
@@ -344,7 +344,7 @@ fn put_space(
     }
 }
 
-// Writes the flaw in a field of a process.
+// Writes what is wrong with a field of a process.
 fn put_process_field(
     text: &mut String,
     whole: &Table,
@@ -389,7 +389,7 @@ fn put_field(
     }
 }
 
-// Writes which object is missing that a capability names.
+// Writes that the object which a capability names is missing.
 fn put_absent(text: &mut String, capability: Capability) -> Result<(), AllocError> {
     match capability {
         Capability::Page { object, .. } => write!(text, "there is no page {object}"),
@@ -421,7 +421,7 @@ fn held_at(description: &Description, held: Held) -> Option<Capability> {
     }
 }
 
-// Returns the text of this capability in the table.
+// Returns the text of the capability at this place of the table.
 fn held_text(whole: &Table, held: Held) -> &str {
     match held {
         Held::Space(k) => text_at(whole, TableName::Process(k), "space"),
@@ -472,7 +472,7 @@ fn put_rule(
     }
 }
 
-// Writes the flaw at a place.
+// Writes what is wrong at a place.
 fn put_fault(text: &mut String, table: &Table, place: &Place<'_>) -> Result<(), AllocError> {
     match place {
         Place::Shape(shape) => put_shape(text, table, *shape),
@@ -480,14 +480,14 @@ fn put_fault(text: &mut String, table: &Table, place: &Place<'_>) -> Result<(), 
     }
 }
 
-// Returns the text of the flaw at a place.
+// Returns the text that says what is wrong at a place.
 fn what_at(alloc: Global, table: &Table, place: &Place<'_>) -> Result<String, AllocError> {
     let mut what = String::new(alloc);
     put_fault(&mut what, table, place)?;
     Ok(what)
 }
 
-// Returns the line with a place, the flaw there, and the number of the fault.
+// Returns the line of an explanation: a place, what is wrong there, and the number of the fault.
 fn line(alloc: Global, at: &str, what: &str, number: u64) -> Result<String, AllocError>
     ensures { IfOk result (λ text. string_bytes text
         ≡ at.now ++ (what.now ++ (codes " (bad description " ++ (decimal number ++ codes ")")))) }
@@ -495,7 +495,7 @@ fn line(alloc: Global, at: &str, what: &str, number: u64) -> Result<String, Allo
     format!(in alloc; "{at}{what} (bad description {number})")
 }
 
-/// Returns the words if they have no newline, else an empty text.
+/// Returns the words, or an empty text if they have a newline.
 pub fn on_one_line(words: &str) -> &str
     ensures { IsOneLine result.now }
 {
@@ -506,8 +506,8 @@ pub fn on_one_line(words: &str) -> &str
     }
 }
 
-/// Returns the line that names a place in the table of a description, says what is wrong there, and ends with the
-/// number of the fault that `build` returns. Fails only if memory runs out.
+/// Returns the line of an explanation. It names a place in a description's table, says what is wrong there, and
+/// ends with the number of the fault that `build` returns. Fails only if memory runs out.
 pub fn explanation(alloc: Global, table: &Table, place: &Place<'_>) -> Result<String, AllocError>
     ensures { IfOk result (λ text. IsExplanation place.now (string_bytes text)) }
 {

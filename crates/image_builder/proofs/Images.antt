@@ -1,4 +1,4 @@
--- What is written is an image of a description.
+-- A built image is an image of its description.
 use Rattle.image_builder.proofs.Names.{List, ap, inl, inr, subst, ⊎_elim, Members, Cap, Frame, ObjectHeader, Content, frames_in, IsSoundFrames, Disk, Image}
 use Rattle.image_builder.proofs.Names.{Elsewhere, LeavesOnly, OnlyNow, leaves_weaker, started, Encodes, Plan, Holds, IsLeftWriting, first_saved, first_state}
 use Rattle.image_builder.proofs.Names.{kept_holds_the_same, none_is_held, IsDescription, Description, Builds, IsLeftOf, IsLeftBuilding, IsSoundDescription}
@@ -25,7 +25,7 @@ module _ (d : Description) (hs : List ObjectHeader) (cs : List (Content Cap)) (l
       elsewhere = subst (λ (q : Plan). Elsewhere 0 q.total old.seen new.seen) is elsewhere;
     }
 
-    -- what a crash leaves during the build
+    -- a crash during the build leaves what it could leave before, or the whole image
     left_by : (p : Plan) → p ≡ plan_for d → (c : Image) → IsLeftWriting old (first_saved p.geometry d.age (frames_in hs cs)) c →
         IsLeftBuilding d old c
     left_by p is c (inl (before, left, kept)) saved holds = inl (
@@ -50,7 +50,7 @@ module _ (d : Description) (hs : List ObjectHeader) (cs : List (Content Cap)) (l
         (λ c. IsLeftBuilding d old c)
         (λ c left. left_by p is c left) run
 
--- ---- where nothing was written
+-- ---- faults before any write
 
 pub nothing_written : (d : Description) (disk : Disk) → OnlyNow disk → LeavesOnly disk disk (λ c. IsLeftBuilding d disk c)
 nothing_written d disk only_now = started disk (λ c. IsLeftBuilding d disk c) only_now (λ c left saved holds. inl (c, left, holds))
@@ -58,7 +58,7 @@ nothing_written d disk only_now = started disk (λ c. IsLeftBuilding d disk c) o
 pub nothing_written_of : (ms : Members) (disk : Disk) → OnlyNow disk → LeavesOnly disk disk (λ c. IsLeftOf ms disk c)
 nothing_written_of ms disk only_now = started disk (λ c. IsLeftOf ms disk c) only_now (λ c left saved holds. inl (c, left, holds))
 
--- what is left of building a description is left of building its table
+-- if a crash may leave an image while a description is built, it may leave it while the description's table is built
 pub left_of : (ms : Members) (d : Description) {old new : Disk} → IsDescription ms d → LeavesOnly old new (λ c. IsLeftBuilding d old c) →
     LeavesOnly old new (λ c. IsLeftOf ms old c)
 left_of ms d {old} {new} is run =

@@ -1,4 +1,4 @@
--- Directories whose slots are in order.
+-- Directories whose slots are 0, 1, 2, .. in order.
 use Rattle.image_builder.proofs.Names.{ℕ, zero, suc, List, length, get_or, drop, refl, sym, ap, append_assoc, arith, slice_index_or, append-nil, drop_all}
 use Rattle.image_builder.proofs.Names.{drop_more, Geometry, Entry, IsDirectory, entry_at, numbered}
 use Rattle.std.proofs.Common.{[], ◌≡◌, ◌+◌, ◌<◌, ◌≤◌, ◌∷◌, ◌++◌, ◌∙◌}
@@ -20,7 +20,7 @@ unfolding numbered
 length_numbered at [] = refl
 length_numbered at (e ∷ es) = ap suc (length_numbered (at + 1) es)
 
--- the entry at an index has the index as its slot
+-- entry i of a renumbered directory has slot `at` + i
 entry_numbered : (at : ℕ) (es : List Entry) (d : Entry) (i : ℕ) → i < length es →
     slice_index_or (numbered at es) i d ≡ record { object = (entry_at es i).object; slot = at + i }
 unfolding numbered
@@ -56,7 +56,7 @@ directory_numbered g es is few most = record {
       omega (arith, before, same, first, second);
 }
 
--- ---- one after the other
+-- ---- renumbering entry after entry
 
 pub numbered_more : (es found : List Entry) (i : ℕ) → i < length es → found ++ numbered i (drop i es) ≡ numbered 0 es
     → (found ++ record { object = (get_or es i none).object; slot = i } ∷ []) ++ numbered (i + 1) (drop (i + 1) es) ≡ numbered 0 es

@@ -1,4 +1,4 @@
--- Descriptions that are refused whatever the device, and with which fault.
+-- Which descriptions are refused on every device, and with which fault.
 use Rattle.image_builder.proofs.Names.{ℕ, List, ap, refl, subst, sym, arith, IfErr, OnOk, Result, Ok, Err, Members, Disk, Cap, Frame, ObjectHeader, Content}
 use Rattle.image_builder.proofs.Names.{frames_in, sound_banked, sound_named, BadImage, BadCapability, BadProcess, BadBank, AreBanked, AreNamed}
 use Rattle.image_builder.proofs.Names.{AreWholeProcesses, IsInconsistent, Description, IsDescription, HasFields, HasNumbers, IsDescribed, BuildFault, Shape}
@@ -9,7 +9,7 @@ use Rattle.image_builder.proofs.Names.{small_broken, target_broken}
 use Rattle.std.proofs.Common.{◌≡◌, ◌≢◌, ◌<◌}
 use Rattle.description.specs.declared.place.Misread.TheVariants as misread
 
--- a lesser fault isn't that of the device
+-- a fault below 8 isn't `Failed`
 unfailed : (fault : BuildFault) → fault_number fault < 8 → fault ≢ Failed
 unfailed fault lesser is = omega (arith, lesser, ap fault_number is)
 
@@ -32,7 +32,7 @@ module _ (d : Description) (limits : IsWithinLimits d) where
     refused = λ sectors. target_broken d sectors limits reported.0 reported.1 (λ rule. reported.2 rule.0 rule.1 rule.2);
   }
 
-  -- the fault for which no world is laid
+  -- a description without a world is refused on every device
   pub world_refused : (fault : BuildFault) → IsWorldFault d fault → IsRefusedEarly d fault
   world_refused Number reported = number_refused reported
   world_refused Field reported = field_refused reported
@@ -45,7 +45,7 @@ module _ (d : Description) (limits : IsWithinLimits d) where
   world_refused Failed reported = absurd reported
 
   module _ (hs : List ObjectHeader) (cs : List (Content Cap)) (laid : AreLaid d hs cs) where
-    -- all frames that a description describes are these
+    -- if P holds of described frames, it holds of those that were laid, because they are equal
     as_laid : (P : List Frame → Type 0) (fs : List Frame) → IsDescribed d fs → P fs → P (frames_in hs cs)
     as_laid P fs described p = subst P (described_once d fs (frames_in hs cs) described laid.described) p
 
@@ -59,7 +59,7 @@ module _ (d : Description) (limits : IsWithinLimits d) where
           (λ rule. bad (as_laid AreBanked rule.0 rule.1 rule.2));
     }
 
-    -- the fault for a reason, which a process never is
+    -- if the described frames are inconsistent, the description is refused on every device; processes are never the reason
     pub reason_refused : AreWholeProcesses (frames_in hs cs) → (why : BadImage) (fault : BuildFault) →
         IsInconsistent (frames_in hs cs) why → (why ≡ BadCapability → fault ≡ Target) → (why ≡ BadBank → fault ≡ Owner) →
         IsRefusedEarly d fault
@@ -83,7 +83,7 @@ module _ (d : Description) (limits : IsWithinLimits d) where
     pub accepted : Rule d sectors Small → IsAccepted d sectors
     accepted small = all_kept d sectors limits s.numbers s.fields target_kept owner_kept small
 
--- a table is refused for the reason for which its description is
+-- if a description is refused, its table is refused with the same fault
 refuses : (ms : Members) (d : Description) (sectors : ℕ) (fault : BuildFault) → IsDescription ms d → IsRefused d sectors fault →
     Refuses ms sectors fault
 refuses ms d sectors Shape is refused = absurd (refused.broken tt)
@@ -96,7 +96,7 @@ refuses ms d sectors Small is refused = (d, is, refused)
 refuses ms d sectors Failed is refused = (d, is, refused)
 refuses ms d sectors NoMemory is refused = tt
 
--- the last call decides the result
+-- if the description is accepted, only a failed device can refuse it
 pub failed_refused : {T : Type 0} (d : Description) (sectors : ℕ) (r : Result T BuildFault) → IsAccepted d sectors →
     IfErr r (λ fault. fault ≡ Failed) → IfErr r (λ fault. IsRefused d sectors fault)
 failed_refused d sectors (Ok x) all reported = reported
@@ -112,17 +112,17 @@ pub built_from : {T : Type 0} (ms : Members) (d : Description) (old new : Disk) 
 built_from ms d old new (Ok x) is built = (d, is, built)
 built_from ms d old new (Err fault) is built = built
 
--- a table that isn't read has no size
+-- if a table can't be read, the size of its image is unknown
 pub unread_refused : (ms : Members) (why : Misread) → Misses (BreaksShape ms) why → TellsNoSize ms (misread_fault why)
 unread_refused ms (misread.Misshapen place) broken = shape_refuted ms place broken
 unread_refused ms misread.NoMemory broken = tt
 
--- a description outside the limits has no size
+-- if a description is outside the limits, the size of its image is unknown
 pub size_refused : (ms : Members) (d : Description) (fault : BuildFault) → IsDescription ms d → fault ≡ Limits → (IsWithinLimits d → ⊥) →
     TellsNoSize ms fault
 size_refused ms d fault is limits broken = subst (λ (f : BuildFault). TellsNoSize ms f) (sym limits) (d, is, broken)
 
--- before the limits only the form is checked
+-- a description keeps each rule before that of the limits
 below_limits : (d : Description) (sectors : ℕ) (lesser : BuildFault) → fault_number lesser < 2 → Rule d sectors lesser
 below_limits d sectors Shape below = tt
 below_limits d sectors Limits below = absurd (omega (arith, below))
@@ -134,7 +134,7 @@ below_limits d sectors Small below = absurd (omega (arith, below))
 below_limits d sectors Failed below = tt
 below_limits d sectors NoMemory below = tt
 
--- a table without a size is refused on every device
+-- if the size of a table's image is unknown, the table is refused on every device
 pub size_refuses : (ms : Members) (sectors : ℕ) (why : BuildFault) → TellsNoSize ms why → Refuses ms sectors why
 size_refuses ms sectors Shape reported = reported
 size_refuses ms sectors Limits reported = (reported.0, reported.1, record { kept = below_limits reported.0 sectors; broken = reported.2 })

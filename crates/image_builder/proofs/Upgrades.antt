@@ -1,4 +1,4 @@
--- The saved state of a device, written to another.
+-- Writing the saved state of a device to another device.
 use Rattle.image_builder.proofs.Names.{ℕ, List, length, ap, inl, inr, refl, subst, sym, arith, Result, Ok, Err, IfErr, IsErrOf, OnOk, Frame, Disk, Image}
 use Rattle.image_builder.proofs.Names.{Agrees, Elsewhere, LeavesOnly, agrees_is, OnlyNow, leaves_weaker, started, Entry, IsDirectory, Encodes, Plan, OpenFault}
 use Rattle.image_builder.proofs.Names.{OnlyReads, kept_of, new_plan, IsLeftWriting, state_of, kept_holds_the_same, none_is_held, IsSoundSaved, NewLayout}
@@ -22,7 +22,7 @@ module _ (image : Image) (size : ℕ) (s : SavedState) (is : Encodes image size 
   pub directory_count : length (numbered 0 s.directory) ≡ s.header.entries
   directory_count = length_numbered 0 s.directory ∙ is.directory.count
 
--- the new image has the same state, except its places
+-- the new image has the same state, at its new places
 pub same_state : (l : NewLayout) (s : SavedState) (p : Plan) (generation entries age : ℕ) (es : List Entry) (fs : List Frame) →
     p ≡ new_plan l s.plan → generation ≡ s.header.generation → entries ≡ s.header.entries → age ≡ s.header.age
     → es ≡ numbered 0 s.directory → fs ≡ s.frames → state_of p (record {
@@ -48,7 +48,7 @@ same_state l s p generation entries age es fs plan_is generation_is entries_is a
     ∙ ap (λ (xs : List Entry). state_of (new_plan l s.plan) (record s.header { sequence = 0 }) xs fs) directory_is
     ∙ ap (λ (xs : List Frame). state_of (new_plan l s.plan) (record s.header { sequence = 0 }) (numbered 0 s.directory) xs) frames_is
 
--- ---- what is reported of it
+-- ---- results
 
 pub counted : (l : NewLayout) (result : Result ℕ UpgradeFault) (old before new : Disk) (s : SavedState) → Encodes old.seen old.sectors s →
     IsSoundSaved s.plan.geometry (kept_of s) → IfOk result (λ total. total ≡ (new_plan l s.plan).total)
@@ -61,7 +61,7 @@ counted l (Ok total) old before new s was sound reported encodes crash zeros els
     (record { state = s; was = was; sound = sound; encodes = encodes; crash = crash; zeros = zeros; elsewhere = elsewhere }, reported)
 counted l (Err fault) old before new s was sound reported encodes crash zeros elsewhere = tt
 
--- the reason why nothing was written
+-- if nothing was written, the fault says why
 pub not_upgraded : {D : Type 0} (l : NewLayout) (result : Result ℕ UpgradeFault) (disk : D → Disk) (old : D) (sectors : ℕ) (s : SavedState)
     → Encodes (disk old).seen (disk old).sectors s → IsSoundSaved s.plan.geometry (kept_of s)
     → (IsErrOf result fault.Small → sectors < (new_plan l s.plan).total) → IfErr result
@@ -72,9 +72,9 @@ not_upgraded l (Err fault.Small) disk old sectors s was sound small opened = (s,
 not_upgraded l (Err fault.Failed) disk old sectors s was sound small opened = tt
 not_upgraded l (Err fault.NoMemory) disk old sectors s was sound small opened = tt
 
--- ---- what is done to the old device
+-- ---- the old device
 
--- the device was opened, and no call of it failed
+-- if the old device was opened and only read, and its count of failures stayed, `IsOnlyRead` holds of it
 pub read_where_opened : (result : Result ℕ UpgradeFault) (old new : Disk) →
     IfErr result (λ why. (opening : OpenFault) → why ≢ fault.Old opening) → OnlyReads old new → new.failures ≡ old.failures
     → IsOnlyRead old new (IsErrOf result (fault.Old opening.Failed))
@@ -91,7 +91,7 @@ read_where_opened result old new opened only_reads same = record {
 
 -- ---- what a crash leaves
 
--- if each crash leaves an image of a state, a read returns an image of that state
+-- if each crash leaves an image of a state, what a read gives is an image of that state
 pub seen_encodes : (old new : Disk) (s : SavedState) → ((c : Image) → new.may_leave c → Encodes c new.sectors s) → new.may_leave new.seen →
     Agrees new.seen old.seen → new.sectors ≡ old.sectors → Encodes old.seen old.sectors s
 seen_encodes old new s leaves left same size =
@@ -110,6 +110,6 @@ left_upgrading old s {before} {new} was run =
     leaves_weaker {old = before} {new = new} {P = λ c. IsLeftWriting before (kept_of s) c} (λ c. IsLeftUpgrading old before c)
     (λ c left. left_by old before s was c left) run
 
--- nothing was written
+-- if no call was made, a crash leaves what it could leave before
 pub untouched : (old before : Disk) → OnlyNow before → LeavesOnly before before (λ c. IsLeftUpgrading old before c)
 untouched old before only_now = started before (λ c. IsLeftUpgrading old before c) only_now (λ c left saved holds. inl (c, left, holds))

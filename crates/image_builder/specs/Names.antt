@@ -1,4 +1,4 @@
--- The names of other crates that the definitions here cite.
+-- The names of other crates that the definitions here import.
 pub use Rattle.capability.specs.Parts.{Parts, frames_of}
 pub use Rattle.checkpoint.specs.Opened.{OnlyReads}
 pub use Rattle.checkpoint.specs.Saved.{Holds, SavedFrames, kept_of}

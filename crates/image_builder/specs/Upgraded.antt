@@ -1,4 +1,4 @@
--- What `upgrade` writes in a new layout, and why it refuses.
+-- What `upgrade` writes, and why it refuses.
 use Rattle.image_builder.specs.Names.{ℕ, List, [], Disk, Image, Elsewhere, LeavesOnly, Entry, Plan, Version, Encodes}
 use Rattle.image_builder.specs.Names.{SavedState, OnlyReads, Holds, SavedFrames, kept_of, frames_of, Parts}
 use Rattle.image_builder.specs.Names.{DurableState, saved_by, laid_again, IsLeftWriting, IsSoundSaved, OpenFault}
@@ -10,21 +10,21 @@ use Rattle.image_builder.specs.declared.new_layout.NewLayout.TheVariants as layo
 use Rattle.image_builder.specs.declared.upgrade_fault.UpgradeFault.{UpgradeFault}
 use Rattle.image_builder.specs.declared.upgrade_fault.UpgradeFault.TheVariants as fault
 
--- entries of the same objects, with slots in order from `at` on
+-- the same objects in the same order, with slots `at`, `at` + 1, ..
 unfoldable pub numbered : ℕ → List Entry → List Entry
 numbered at [] = []
 numbered at (e ∷ es) = record { object = e.object; slot = at } ∷ numbered (at + 1) es
 
--- the version of the new image, given the plan of the old one
+-- the version of the new image, from the plan of the old one
 abbrev pub version_in : NewLayout → Plan → Version
 version_in layout.Newest p = Two
 version_in layout.Kept p = p.version
 
--- where the parts of the new image lie: the ranges from sector 5 on, in their order
+-- where the parts of the new image lie: the old ranges in their order, from sector 5 on
 abbrev pub new_plan : NewLayout → Plan → Plan
 new_plan l p = laid_again (version_in l p) p
 
--- the same checkpoint in a new layout: slots in order, the sequence number 0
+-- the saved state in the new layout: at new places, with log slots in order and sequence number 0
 abbrev pub upgraded : NewLayout → SavedState → SavedState
 upgraded l s = record {
   plan = new_plan l s.plan;
@@ -33,8 +33,8 @@ upgraded l s = record {
   frames = s.frames;
 }
 
--- the saved state of an old device, which stands for a sound world, is written to a new device in a new layout, with
--- zeros after the frames of each cluster; a crash leaves the same
+-- the old device's saved state, which stands for a sound world, was written to a new device in the new layout. Zeros
+-- follow the frames of each cluster. A crash leaves the same
 pub record Upgrades (l : NewLayout) (old before new : Disk) : Type 0 where
   pub state : SavedState
   pub was : Encodes old.seen old.sectors state
@@ -45,7 +45,7 @@ pub record Upgrades (l : NewLayout) (old before new : Disk) : Type 0 where
       EndInZeros (new_plan l state.plan) state.header.generation (numbered 0 state.directory) c
   pub elsewhere : Elsewhere 0 (new_plan l state.plan).total before.seen new.seen
 
--- a saved state was written to a new device in a new layout; or the fault says why not
+-- the saved state was written to a new device; or the result's fault says why not
 pub record WritesUpgraded {E : Type 0} (l : NewLayout) (disk : E → Disk) (s : SavedState) (old new : E)
     (result : Result ℕ UpgradeFault) : Type 0 where
   pub total : IfOk result (λ total. total ≡ (new_plan l s.plan).total)
@@ -62,57 +62,55 @@ pub record WritesUpgraded {E : Type 0} (l : NewLayout) (disk : E → Disk) (s : 
   pub later : (disk old).failures ≤ (disk new).failures
   pub cause : IsErrOf result fault.Failed ↔ ((disk old).failures < (disk new).failures)
 
--- why the old device isn't opened; a kernel would refuse it for the same reason
+-- why the old device can't be opened: a kernel would refuse it for the same reason
 abbrev pub IsNotOpened : {D : Type 0} → (D → Disk) → D → OpenFault → Type 0
 IsNotOpened disk old opening.NoMemory = ⊥
 IsNotOpened {D} disk old why = (back : D) × RefusesToOpen disk old back why
 
--- an old device's saved state stands for a sound world, and needs more than `sectors` sectors in the new layout
+-- the old device holds a saved state of a sound world whose new image needs more than `sectors` sectors
 abbrev pub NeedsMore : NewLayout → Disk → ℕ → Type 0
 NeedsMore l old sectors =
     (state : SavedState) × Encodes old.seen old.sectors state × IsSoundSaved state.plan.geometry (kept_of state)
     × (sectors < (new_plan l state.plan).total)
 
--- why nothing is upgraded, on a new device with this count of sectors; the last two aren't faults of the images
+-- why nothing was upgraded, on a new device of this many sectors
 abbrev pub IsNotUpgraded : {D : Type 0} → NewLayout → (D → Disk) → D → ℕ → UpgradeFault → Type 0
 IsNotUpgraded l disk old sectors (fault.Old why) = IsNotOpened disk old why
 IsNotUpgraded l disk old sectors fault.Small = NeedsMore l (disk old) sectors
 IsNotUpgraded l disk old sectors fault.Failed = Unit {0}
 IsNotUpgraded l disk old sectors fault.NoMemory = Unit {0}
 
--- why the image on an old device isn't opened to be upgraded
+-- why the old device can't be opened to be upgraded
 abbrev pub IsRefusedAsOld : {D : Type 0} → (D → Disk) → D → UpgradeFault → Type 0
 IsRefusedAsOld disk old (fault.Old why) = IsNotOpened disk old why
 IsRefusedAsOld disk old fault.NoMemory = Unit {0}
 IsRefusedAsOld disk old _ = ⊥
 
--- the present frames of a store are those that its device saves, and stand for a sound world
+-- a store's present frames are those that its device saves, and stand for a sound world
 pub record IsWhole {D : Type 0} (disk : D → Disk) (parts : Parts) (s : DurableState D) : Type 0 where
   pub saves : Encodes (disk s.beneath).seen (disk s.beneath).sectors (saved_by disk s)
   pub sound : IsSoundSaved (saved_by disk s).plan.geometry (kept_of (saved_by disk s))
   pub present : frames_of parts ≡ (saved_by disk s).frames
 
--- a store was made of an old device, which was only read and didn't fail: the store's saved frames are those that the
--- old device holds
+-- a store was opened from an old device, which was only read and didn't fail: its saved frames are the old device's
 pub record IsOpenedFrom {D : Type 0} (disk : D → Disk) (old : D) (s : DurableState D) : Type 0 where
   pub saves : Encodes (disk old).seen (disk old).sectors (saved_by disk s)
   pub only_reads : OnlyReads (disk old) (disk s.beneath)
   pub failures : (disk s.beneath).failures ≡ (disk old).failures
 
--- What a crash leaves while an image is upgraded: the saved frames that it holds, if any, are some that a crash could
--- have left at first, or those of the old device.
+-- What a crash may leave while an image is upgraded. If the image holds saved frames, a crash could have left these
+-- before, or they are the old device's.
 abbrev pub IsLeftUpgrading : Disk → Disk → Image → Type 0
 IsLeftUpgrading old before c = (saved : SavedFrames) → Holds before.sectors c saved →
     ((d : Image) × before.may_leave d × Holds before.sectors d saved) ⊎ Holds old.sectors old.seen saved
 
--- A device was only read between two states: nothing was written to it at any moment. A call of it failed exactly if
--- `failure_reported` holds.
+-- A device was only read. A call of it failed exactly if `failure_reported` holds.
 pub record IsOnlyRead (old new : Disk) (failure_reported : Type 0) : Type 0 where
   pub only_reads : OnlyReads old new
   pub later : old.failures ≤ new.failures
   pub cause : failure_reported ↔ (old.failures < new.failures)
 
--- a device was closed, and was only read until then
+-- a device was only read until it was closed
 abbrev pub ReadsAndCloses : {D : Type 0} → (D → Disk) → (D → Type 0) → D → Type 0 → Type 0
 ReadsAndCloses {D} disk was_closed old failure_reported =
     (last : D) × was_closed last × IsOnlyRead (disk old) (disk last) failure_reported

@@ -1,4 +1,4 @@
-// Descriptions that were read, with the layout of their images.
+// Descriptions with the layout of their images.
 ghost use Rattle.std.specs.Prelude.{◌≡◌, ◌≢◌, ◌<◌, ◌≤◌, ◌↔◌, ℕ, IfOk, IfErr, IsErrOf, OnOk};
 ghost use Rattle.toml.specs.Data.{Members};
 ghost use Rattle.toml.specs.View.{table_view};
@@ -18,7 +18,7 @@ use std::alloc::Global;
 use std::marker::Model;
 use toml::Table;
 
-/// A description within the limits of images, and where the parts of its image lie.
+/// A description within the limits, and where the parts of its image lie.
 #[derive(Drop)]
 pub struct Blueprint {
     description: Description,
@@ -38,8 +38,8 @@ impl Model for Blueprint {
 }
 
 impl Blueprint {
-    /// Reads the description in a table. Returns `Shape` and `Limits` in the cases in which `build` does, and
-    /// `NoMemory` if memory ran out; there is no other fault.
+    /// Reads the description in a table. Returns `Shape` and `Limits` whenever `build` does, and `NoMemory`
+    /// if memory ran out. There is no other fault.
     pub fn read(alloc: Global, table: &Table) -> Result<Blueprint, BuildFault>
         ensures read { IfOk result (λ blueprint. IsDescription (table_view table.now) blueprint) }
         ensures refused { IfErr result (λ fault. TellsNoSize (table_view table.now) fault) }
@@ -52,7 +52,7 @@ impl Blueprint {
         })
     }
 
-    /// Returns how many sectors a device needs for the image. No image needs more than a device may have.
+    /// Returns how many sectors the image needs. No image needs more than a device may have.
     pub fn sectors(&self) -> u64
         ensures value { result ≡ (plan_for self.now).total }
         ensures within { IsWithinLimits self.now }
@@ -61,8 +61,8 @@ impl Blueprint {
         self.superblock.total()
     }
 
-    /// Checks whether `build` accepts the description on a device with enough sectors. Returns the least fault of the
-    /// description, as `build` does on any device, or `NoMemory` if memory ran out.
+    /// Checks whether `build` accepts the description on a device with enough sectors. Returns the description's
+    /// least fault, which `build` returns on any device, or `NoMemory` if memory ran out.
     pub fn check(&self, alloc: Global) -> Result<(), BuildFault>
         ensures accepted { OnOk result ((sectors : ℕ) → (plan_for self.now).total ≤ sectors
             → IsAccepted self.now sectors) }
@@ -72,8 +72,8 @@ impl Blueprint {
         Ok(())
     }
 
-    /// Builds the image over any content of a device, as `build` does, with the same faults except `Shape` and
-    /// `Limits`.
+    /// Builds the image on a device, over any content, as `build` does. The faults are those of `build` other
+    /// than `Shape` and `Limits`.
     pub fn build<D: Device>(&self, alloc: Global, device: &mut D) -> Result<(), BuildFault>
         ensures built { (table : Members) → IsDescription table self.now
             → OnOk result (BuildsFrom table (D.disk device.old) (D.disk device.new)) }

@@ -13,10 +13,10 @@ use device::Device;
 use std::alloc::Global;
 use toml::Table;
 
-/// Returns how many sectors a device needs for the image of the description in a table.
+/// Returns how many sectors the image of a table's description needs.
 ///
-/// Returns `Shape` and `Limits` in the cases in which `build` does, and `NoMemory` if memory ran out. There is no
-/// other fault, whatever else is wrong with the description.
+/// Returns `Shape` and `Limits` whenever `build` does, and `NoMemory` if memory ran out. It doesn't look for
+/// other faults.
 pub fn sectors_needed(alloc: Global, table: &Table) -> Result<u64, BuildFault>
     ensures needed { IfOk result (λ needed. (d : Description)
         × IsDescription (table_view table.now) d
@@ -28,23 +28,30 @@ pub fn sectors_needed(alloc: Global, table: &Table) -> Result<u64, BuildFault>
     Ok(blueprint.sectors())
 }
 
-/// Builds the image of the description in a table over any content of a device. The image has the described frames,
-/// and all other numbers are free; it has the described age, and one committed checkpoint of generation 0 with
-/// nothing in the log. The home ranges lie from sector 5 on in their order, and the two halves of the log after them.
-/// After `Ok` a read returns that image, each crash leaves it, and its frames stand for a sound world. Sectors beyond
-/// the image stay.
+/// Builds the image of a table's description on a device, over any content.
 ///
-/// Returns the least of the faults that hold: `Shape` if the table isn't that of a description; `Limits` if its
-/// sizes, ranges, age or version are outside the limits of images; `Number` if a number
-/// isn't one of its kind or occurs twice; `Field` if a field is malformed; `Target` if a capability names an object
-/// of another kind, or resumes a process that doesn't wait; `Owner` if the banks aren't a tree that owns all objects
-/// within their limits; `Small` if the device has fewer sectors than `sectors_needed` says; `Failed` exactly if the
-/// device failed; and `NoMemory` if memory ran out.
+/// The image has the described frames, and all other numbers are free. It has the described age, and a committed
+/// checkpoint of generation 0 with an empty log. The home ranges lie from sector 5 on in their order, then the two
+/// halves of the log. After `Ok` a read returns that image, a crash leaves it, and its frames stand for a sound
+/// world. Sectors beyond the image stay.
 ///
-/// The device is unchanged after each fault except `Failed`: then the image's sectors may hold any bytes.
+/// Returns the least fault that applies:
+/// - `Shape`: the table isn't that of a description;
+/// - `Limits`: sizes, ranges, age or version are outside the limits of images;
+/// - `Number`: a number is out of range for its kind, or occurs twice;
+/// - `Field`: a field is malformed;
+/// - `Target`: a capability names an object of another kind, or resumes a process that isn't waiting;
+/// - `Owner`: the banks aren't a tree that owns all objects within their limits;
+/// - `Small`: the device has fewer sectors than `sectors_needed` returns;
+/// - `Failed`: exactly if the device failed;
+/// - `NoMemory`: memory ran out.
 ///
-/// A crash at any moment leaves the image that it could have left before the call; or nothing that can be opened, as
-/// no header is committed; or the whole described image. This holds after `Failed` too.
+/// After every fault but `Failed` the device is unchanged. After `Failed` the image's sectors may hold any bytes.
+///
+/// A crash at any moment, even after `Failed`, leaves one of:
+/// - an image that a crash could have left before the call;
+/// - the whole new image;
+/// - an image that doesn't open, because no header is committed.
 pub fn build<D: Device>(alloc: Global, table: &Table, device: &mut D) -> Result<(), BuildFault>
     ensures built { OnOk result
         (BuildsFrom (table_view table.now) (D.disk device.old) (D.disk device.new)) }

@@ -1,15 +1,15 @@
-// A device that is closed after its use.
+// Devices that are closed after their use.
 use device::Device;
 
 /// A device that its last user closes. Any `Device` is one.
 ///
-/// Only a call of `close` in a state proves `was_closed` of this state. So a contract with `was_closed` says in which
-/// state a device was when it was dropped, though the device isn't returned.
+/// Only `close` makes `was_closed` true of a state. So a contract with `was_closed` says in which state the device
+/// was dropped, though it isn't returned.
 pub trait ClosableDevice: Device {
     /// The device was closed in this state.
     ghost was_closed: { Self → Type 0 };
 
-    /// Drops the device, and makes no call of it.
+    /// Drops the device. Makes no device call.
     fn close(self)
         ensures { was_closed self };
 }

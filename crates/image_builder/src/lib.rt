@@ -1,6 +1,6 @@
-//! Images built from descriptions, and from older images. A table describes the objects of an image; the image is
-//! written to a device if they stand for a sound world. The saved state of an old image is written to another device,
-//! in version 2 of the layout or in the old version.
+//! Building images from descriptions and from older images. If the objects that a table describes form a sound world,
+//! they are written to a device. `upgrade` writes the saved state of an old image to another device, in version 2 of
+//! the layout or in the old version.
 #![tactic(auto)]
 
 mod blueprint;

@@ -5,18 +5,18 @@ ghost use Rattle.image_builder.specs.Upgraded.{new_plan};
 use home_ranges::lay_out_again;
 use layout::{Superblock, Version};
 
-/// In which version of the layout the saved state of an old image is written to a new one.
+/// The layout version in which an old image's saved state is written to a new image.
 #[derive(Clone, Copy)]
 pub enum NewLayout {
     /// Version 2, `Version::NEWEST`.
     Newest,
-    /// In the version of the old image.
+    /// The version of the old image.
     Kept,
 }
 
 impl NewLayout {
-    /// Lays out the new image, with the objects and home ranges of the old one: the ranges lie from sector 5 on in
-    /// their order, and the two halves of the log after them.
+    /// Returns the layout of the new image. It has the objects and home ranges of the old one: the ranges lie from
+    /// sector 5 on in their order, then the two halves of the log.
     pub(crate) fn lay_out(self, old: &Superblock) -> Superblock
         ensures { result ≡ new_plan self old.now }
     {

@@ -6,7 +6,7 @@ use description::{BuildFault, Description, beyond_limits};
 use home_ranges::lay_out;
 use layout::{Superblock, Version};
 
-// Lays out the image of a description, which must be within the limits.
+// Returns the layout of a description's image. The description must be within the limits.
 fn lay_within(description: &Description) -> Superblock
     requires { IsWithinLimits description.now }
     ensures { result ≡ plan_for description.now }
@@ -20,7 +20,7 @@ fn lay_within(description: &Description) -> Superblock
     }
 }
 
-/// Lays out the image of a description, or returns `Limits`.
+/// Returns the layout of a description's image, or `Limits`.
 pub(crate) fn plan(description: &Description) -> Result<Superblock, BuildFault>
     ensures plan { IfOk result (λ superblock. superblock ≡ plan_for description.now) }
     ensures allowed { IfOk result (λ _. IsWithinLimits description.now) }

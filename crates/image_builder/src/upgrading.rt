@@ -30,11 +30,10 @@ use recovery::recover;
 use std::alloc::{AllocError, Global};
 use std::marker::{Model, PhantomData};
 
-/// Returns how many sectors a device needs for the saved state of the image on another device, in a new layout. It
-/// reads only the superblock.
+/// Returns how many sectors the saved state of an image needs in a new layout. Reads only the superblock.
 ///
-/// Returns `Failed` exactly if the device failed, else the least of the reasons 1 to 3 to refuse an image that holds,
-/// if one does. It takes no memory.
+/// Returns `Failed` exactly if the device failed, else the least of the reasons 1 to 3 to refuse an image, if one
+/// applies. It takes no memory.
 pub fn upgraded_sectors<D: Device>(device: &mut D, layout: NewLayout) -> Result<u64, OpenFault>
     ensures reported { IfOk result (λ sectors. (p : Plan)
         × HasPlan (D.disk device.old).seen (D.disk device.old).sectors p
@@ -50,7 +49,7 @@ pub fn upgraded_sectors<D: Device>(device: &mut D, layout: NewLayout) -> Result<
     }
 }
 
-// Returns the entries of a directory, with slots 0, 1, 2, .. in this order.
+// Returns the entries of a directory in the same order, with slots 0, 1, 2, ..
 #[tactic(auto, using(crate::proofs::Numbered::all_numbered))]
 fn in_order(alloc: Global, entries: &[Entry]) -> Result<Vec<Entry>, AllocError>
     ensures { IfOk result (λ found. found.items ≡ numbered 0 entries.now) }
@@ -65,8 +64,8 @@ fn in_order(alloc: Global, entries: &[Entry]) -> Result<Vec<Entry>, AllocError>
     Ok(found)
 }
 
-// Writes a saved state in a new layout, with these entries instead of its own, and with frames of these headers and
-// contents. Returns how many sectors the image has.
+// Writes an image in a new layout: a saved state with these entries in place of its own, and the frames of these
+// headers and contents. Returns how many sectors the image has.
 fn write_over<D: Device, E: Device>(
     layout: NewLayout,
     saved: &Durable<D>,
@@ -103,8 +102,7 @@ fn write_over<D: Device, E: Device>(
     }
 }
 
-// Writes the saved state of a store, which has it all in memory, in a new layout. Returns how many sectors the image
-// has, and the store's device.
+// Writes the saved state of a store in a new layout. Returns how many sectors the image has, and the store's device.
 fn write_store<D: Device, E: Device, S: WholeStore<D>>(
     alloc: Global,
     layout: NewLayout,
@@ -143,7 +141,8 @@ fn of_old(why: OpenFault) -> UpgradeFault
     }
 }
 
-/// An old image that was opened and read whole, to be written to a new device. Nothing was written to the old device.
+/// An old image that was opened and read into memory, to be written to a new device. Nothing was written to the old
+/// device.
 #[derive(Drop)]
 pub struct OldImage<D: Device, S: WholeStore<D>> {
     store: S,
@@ -162,10 +161,10 @@ impl<D: Device, S: WholeStore<D>> Model for OldImage<D, S> {
 }
 
 impl<D: ClosableDevice, S: WholeStore<D>> OldImage<D, S> {
-    /// Opens an old device as a kernel does, and reads its image whole.
+    /// Opens an old device as a kernel does, and reads its whole image.
     ///
-    /// Returns `NoMemory` if memory ran out, else `Old` with the reason, exactly if a kernel doesn't open the device;
-    /// there is no other fault. After a fault the device is closed, and was only read.
+    /// Returns `NoMemory` if memory ran out. Otherwise returns `Old` with the reason, exactly if a kernel doesn't
+    /// open the device. There is no other fault. After a fault the device is closed, and was only read.
     pub fn open(alloc: Global, old: D, setting: S::Setting) -> Result<OldImage<D, S>, UpgradeFault>
         ensures opened { IfOk result (λ image. IsOpenedFrom D.disk old image) }
         ensures refused { IfErr result (λ fault. IsRefusedAsOld D.disk old fault) }
@@ -185,15 +184,15 @@ impl<D: ClosableDevice, S: WholeStore<D>> OldImage<D, S> {
         }
     }
 
-    /// Returns how many sectors a device needs for the saved state of the image, in a new layout.
+    /// Returns how many sectors the saved state needs in a new layout.
     pub fn sectors(&self, layout: NewLayout) -> u64
         ensures { result ≡ (new_plan layout (saved_by D.disk self.now).plan).total }
     {
         layout.lay_out(self.store.superblock()).total()
     }
 
-    /// Writes the saved state of the image over any content of a new device, as `upgrade` does, with the same faults
-    /// except `Old`. Returns how many sectors the new image has, and closes the old device.
+    /// Writes the image's saved state to a new device, over any content, as `upgrade` does. Returns how many sectors
+    /// the new image has, and closes the old device. The faults are those of `upgrade` other than `Old`.
     pub fn write_to<E: Device>(
         self,
         alloc: Global,
@@ -223,8 +222,7 @@ impl<D: ClosableDevice, S: WholeStore<D>> OldImage<D, S> {
     }
 }
 
-/// Opens an old device as a kernel does, and writes its saved state over any content of a new device, in a new
-/// layout. Returns how many sectors the new image has. Apart from that it is `upgrade`.
+/// Does what `upgrade` does, and returns how many sectors the new image has.
 pub fn upgrade_and_count<D: ClosableDevice, E: Device, S: WholeStore<D>>(
     alloc: Global,
     old: D,
@@ -253,19 +251,27 @@ pub fn upgrade_and_count<D: ClosableDevice, E: Device, S: WholeStore<D>>(
     }
 }
 
-/// Opens an old device as a kernel does, and writes its saved state over any content of a new device, in a new
-/// layout: the same frames, generation, entries and age, with the sequence number 0, the same home ranges from sector
-/// 5 on, and the slots of the log in order. After `Ok` a read of the new device returns that, even after a crash. The
-/// old image may have the new version already.
+/// Opens an old device as a kernel does, and writes its saved state to a new device in a new layout, over any
+/// content.
 ///
-/// Returns `Old` exactly if a kernel doesn't open the old device, with the reason, unless memory ran out; `Small` if
-/// the new device has fewer sectors than `upgraded_sectors` says for the old one; `Failed` exactly if the new device
-/// failed; and `NoMemory` if memory ran out. The new device is unchanged after each fault except `Failed`: then the
-/// image's sectors may hold any bytes.
+/// The new image has the same frames, generation, entries, age and home ranges. The ranges lie from sector 5 on, the
+/// log slots are in order, and the sequence number is 0. After `Ok` a read of the new device returns that image, even
+/// after a crash. The old image may have the new version already.
 ///
-/// A crash of the new device at any moment leaves the image that it could have left before the call; or nothing that
-/// can be opened, as no header is committed; or the whole new image. This holds after `Failed` too. The old device is
-/// only read. At the end `upgrade` closes it, and doesn't return it.
+/// Returns:
+/// - `Old`: exactly if a kernel doesn't open the old device, with the reason, unless memory ran out;
+/// - `Small`: the new device has fewer sectors than `upgraded_sectors` returns for the old one;
+/// - `Failed`: exactly if the new device failed;
+/// - `NoMemory`: memory ran out.
+///
+/// After every fault but `Failed` the new device is unchanged. After `Failed` the image's sectors may hold any bytes.
+///
+/// A crash of the new device at any moment, even after `Failed`, leaves one of:
+/// - an image that a crash could have left before the call;
+/// - the whole new image;
+/// - an image that doesn't open, because no header is committed.
+///
+/// The old device is only read, and closed at the end.
 pub fn upgrade<D: ClosableDevice, E: Device, S: WholeStore<D>>(
     alloc: Global,
     old: D,

@@ -11,8 +11,8 @@ use layout::BadImage;
 use recovery::check;
 use std::alloc::Global;
 
-// Returns the fault for a reason why frames are inconsistent. Described processes are always consistent, and reasons
-// 1 to 7 don't occur.
+// Returns the fault for the reason why described frames are inconsistent. The reason is 8 or 10: described processes
+// are always consistent.
 fn fault_for(why: BadImage) -> BuildFault
     ensures target { why ≡ BadImage.BadCapability → result ≡ BuildFault.Target }
     ensures owner { why ≡ BadImage.BadBank → result ≡ BuildFault.Owner }
@@ -46,7 +46,7 @@ fn check_frames(
     }
 }
 
-/// Lays out the world of a description, and checks that its frames stand for a sound world.
+/// Returns the world of a description, if its frames stand for a sound world.
 pub(crate) fn lay_sound(alloc: Global, description: &Description) -> Result<World, BuildFault>
     requires { IsWithinLimits description.now }
     ensures laid { IfOk result (λ w. AreLaid description.now w.headers.items w.contents.items) }

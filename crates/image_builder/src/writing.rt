@@ -44,7 +44,7 @@ fn write<D: Device>(
     Ok(())
 }
 
-/// Builds the image of a description with this superblock.
+/// Builds the image of a description at the places that this superblock gives.
 pub(crate) fn build_described<D: Device>(
     alloc: Global,
     description: &Description,

@@ -1,4 +1,4 @@
--- Entries that describe all objects of a sound world make a description of it.
+-- If entries describe all objects of a sound world, they form a description of it.
 use Rattle.image_describer.proofs.Names.{ℕ, inl, inr, List, map, length, Option, None, Some, slice_index_or, refl, sym, ap, subst, arith, IsTrue, All, Contains}
 use Rattle.image_describer.proofs.Names.{get_or-map, cases_lt, length-map, All-append, All-contains, All-map, All-weaker, Contains-append_left}
 use Rattle.image_describer.proofs.Names.{Contains-append_right, slice_get-get_or, slice_get-map, Cap, Capability, Void, Geometry, Content, Object, Role}
@@ -16,7 +16,7 @@ use Rattle.model.specs.declared.object.Role.TheVariants as role
 use Rattle.image_describer.proofs.Naming.{named_is}
 use Rattle.image_describer.proofs.Rising.{apart_by, distinct_both, distinct_other, rising_distinct}
 
--- Entries of slots and words.
+-- The parameters: slots, and entries that name them.
 module _ (slots : List Capability) (es : List SlotEntry) (names : NamesSlots slots es) where
   slot_value : (s : SlotEntry) → Contains es s → unwrap_or s.capability Void ≡ slice_index_or slots s.index Void
   slot_value s there = named_is (λ s. s.index) (λ s. unwrap_or s.capability Void) Void slots es s names there
@@ -75,7 +75,7 @@ module _ (words : List ℕ) (es : List WordEntry) (names : NamesWords words es) 
         ∙ ap (λ (w : ℕ). let x : Option ℕ = Some w in x) (sym (names.each i));
   }
 
--- What the entries of a sound world say.
+-- The parameters: a sound world.
 module _ (g : Geometry) (w : World) (sound : IsSound g w) where
   kind_of : ℕ → Role
   kind_of n = role_of (content_at w.objects n)
@@ -124,7 +124,7 @@ module _ (g : Geometry) (w : World) (sound : IsSound g w) where
     page_reported : (p : PageEntry) → Contains d.pages.items p → TellsPage w.objects p
     page_reported p there = All-contains (TellsPage w.objects) d.pages.items p pages.each there
 
-    -- The lists of numbers.
+    -- the numbers of the described banks
     bank_numbers : List ℕ
     bank_numbers = map (λ b. b.number) d.banks.items
 
@@ -137,7 +137,7 @@ module _ (g : Geometry) (w : World) (sound : IsSound g w) where
     plain_numbers : List ℕ
     plain_numbers = map (λ n. n.number) d.nodes.items
 
-    -- a property of the number of each entry holds of all these numbers
+    -- if P holds of the number of each entry, it holds of all node numbers
     all_nodes : (P : ℕ → Type 0) → ((b : BankEntry) → Contains d.banks.items b → P b.number) →
         ((p : ProcessEntry) → Contains d.processes.items p → P p.root) → ((p : ProcessEntry) → Contains d.processes.items p → P p.annex) →
         ((n : NodeEntry) → Contains d.nodes.items n → P n.number) → All P (node_numbers d)
@@ -151,7 +151,7 @@ module _ (g : Geometry) (w : World) (sound : IsSound g w) where
         (All-map P (λ p. p.annex) d.processes.items (all_from (λ (p : ProcessEntry). P p.annex) d.processes.items annex)))
         (All-map P (λ n. n.number) d.nodes.items (all_from (λ (n : NodeEntry). P n.number) d.nodes.items node))
 
-    -- the kinds of what is described
+    -- each described object has the kind of its entry
     bank_kind : (b : BankEntry) → Contains d.banks.items b → kind_of b.number ≡ role.Bank
     unfolding kind_of
     bank_kind b there = ap role_of (content_reported b.number b.owner (content.Bank b.limit) (bank_reported b there))
@@ -184,7 +184,7 @@ module _ (g : Geometry) (w : World) (sound : IsSound g w) where
         (λ p q one other same. sound.one_root p.root q.root (process_is p one) (process_is q other)
         (annex_is p one ∙ same ∙ sym (annex_is q other)))
 
-    -- the numbers of one list, whose kinds don't occur in a second one
+    -- a number isn't of two kinds
     other_kind : (r s : Role) (n : ℕ) → r ≢ s → kind_of n ≡ r → kind_of n ≡ s → ⊥
     other_kind r s n differ one other = differ (sym one ∙ other)
 
@@ -244,7 +244,7 @@ module _ (g : Geometry) (w : World) (sound : IsSound g w) where
       distinct = numbers_distinct;
     }
 
-    -- The fields.
+    -- each address space is valid, and so are the other fields
     space_reported : (p : ProcessEntry) → Contains d.processes.items p → IsSpaceEntry p.space
     space_reported p there =
         let root = (process_reported p there).0 in
@@ -277,7 +277,7 @@ module _ (g : Geometry) (w : World) (sound : IsSound g w) where
           words_are _ _ page.1 (shape_reported _ _ _ page.2));
     }
 
-    -- The frames.
+    -- a number in one of the four lists is a node number of the description
     in_nodes : (n : ℕ) → (Contains bank_numbers n) ⊎ (Contains root_numbers n) ⊎ (Contains annex_numbers n) ⊎ (Contains plain_numbers n) →
         Contains (node_numbers d) n
     unfolding bank_numbers root_numbers annex_numbers plain_numbers
@@ -303,7 +303,7 @@ module _ (g : Geometry) (w : World) (sound : IsSound g w) where
     named_node : (n : ℕ) → Contains (node_numbers d) n → Contains (node_numbers d ++ page_numbers d) n
     named_node n there = Contains-append_left (node_numbers d) (page_numbers d) n there
 
-    -- an annex is that of a process that is described
+    -- each annex is the annex of a described process
     annex_named : (a : ℕ) (registers : List Capability) → content_at w.objects a ≡ content.Annex registers → Contains annex_numbers a
     unfolding annex_numbers
     annex_named a registers is =

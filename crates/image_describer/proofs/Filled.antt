@@ -1,4 +1,4 @@
--- The lines of a description, as the nodes of TOML's reader have them.
+-- What TOML's reader makes of a description's lines.
 use Rattle.image_describer.proofs.Names.{nat_tests, arith, ℕ, Bool, true, false, List, [], Option, Some, None, option_and_then, IfSome, MatchOption, append-nil}
 use Rattle.image_describer.proofs.Names.{append_assoc, refl, sym, ap, subst, inr, IsTrue, none-some, same_Some, Key, Data, array, table, Items, no_items, item}
 use Rattle.image_describer.proofs.Names.{push_item, Members, no_members, member, get_member, Nodes, no_nodes, value, open_array, close, insert, Edit, Document}
@@ -9,7 +9,7 @@ use Rattle.std.proofs.Common.{◌≡◌, ◌&&◌, ◌∷◌, ◌++◌, ◌∙�
 use Rattle.image_describer.proofs.Chains.{Chain, Pair, are_apart, is_apart}
 use Rattle.image_describer.proofs.Puts.{Puts, falsely, left, no_node, puts_inserted, puts_none, right}
 
--- a table with the values that are present, in this order
+-- a table with the values that are there, in this order
 abbrev pub member_or : List ℕ → Option Data → Members → Members
 member_or k None ms = ms
 member_or k (Some d) ms = member k d ms
@@ -18,12 +18,12 @@ abbrev pub keyed : List Pair → Members
 keyed [] = no_members
 keyed (p ∷ ps) = member_or p.0 p.1 (keyed ps)
 
--- none of the values is written under a header of its own
+-- no value among these pairs needs a header of its own in TOML
 abbrev pub ArePairs : List Pair → Type 0
 ArePairs [] = Unit {0}
 ArePairs (p ∷ ps) = IfSome p.1 (λ d. is_section d ≡ false) × ArePairs ps
 
--- a table has none of the keys
+-- the table has none of these keys
 abbrev pub AreNew : List Pair → Members → Type 0
 AreNew [] ms = Unit {0}
 AreNew (p ∷ ps) ms = (get_member p.0 ms ≡ None) × AreNew ps ms
@@ -32,7 +32,7 @@ pub all_new : (ps : List Pair) → AreNew ps no_members
 all_new [] = tt
 all_new (p ∷ ps) = (refl, all_new ps)
 
--- keys that differ from one that was put are still new
+-- putting a value at one key leaves the other keys new
 new_kept : (ps : List Pair) (k : List ℕ) (o : Option Data) (old new : Members) → Puts k o old new → IsTrue (is_apart k ps) → AreNew ps old →
     AreNew ps new
 new_kept [] k o old new puts apart fresh = tt
@@ -54,13 +54,13 @@ filled_at k (Some d) ps ns pair none rest =
     let (new, made, chain) = rest mid puts in
     (new, rw (pair, put_new k d ns none) made, (close mid, puts, chain))
 
--- putting the values of a table one after the other
+-- the reader puts the values of a table one after the other
 pub filled : (ps : List Pair) (ns : Nodes) → ArePairs ps → IsTrue (are_apart ps) → AreNew ps (close ns) →
     (new : Nodes) × (fill_pairs (keyed ps) ns ≡ Some new) × Chain ps (close ns) (close new)
 filled [] ns pairs apart fresh = (ns, refl, refl)
 filled (p ∷ ps) ns pairs apart fresh = grind (arith, nat_tests, filled ps, filled_at, right, new_kept, left)
 
--- no value is put under a header
+-- if a value needs no header, the reader's pass over the headers ignores it
 not_under : (k : List ℕ) (o : Option Data) (ms : Members) (n : Nodes) → IfSome o (λ d. is_section d ≡ false) → fill_sections ms n ≡ Some n →
     fill_sections (member_or k o ms) n ≡ Some n
 not_under k None ms n pair none = none
@@ -86,7 +86,7 @@ pub no_sections : (path : List (List ℕ)) (ps : List Pair) → ArePairs ps → 
 no_sections path [] pairs = refl
 no_sections path (p ∷ ps) pairs = no_section_at path p.0 p.1 (keyed ps) pairs.0 (no_sections path ps pairs.1)
 
--- Tables of one list.
+-- a list of tables, made from items
 abbrev pub tables : {A : Type 0} → (A → List Pair) → List A → Items
 tables f [] = no_items
 tables f (x ∷ xs) = item (table (keyed (f x))) (tables f xs)
@@ -101,7 +101,7 @@ pushed P no_items d [] y are is = (is, tt)
 pushed P (item e ds) d (z ∷ zs) y are is = (are.0, pushed P ds d zs y are.1 is)
 pushed P ds d ys y are is = absurd are
 
--- the first table of a list, and the next
+-- the first table of a list is opened below its header, and so is each next one
 first_table : (k : List ℕ) (root : Nodes) → get_member k (close root) ≡ None →
     at_key k array_table root ≡ Some (insert k (open_array no_items no_nodes) root)
 unfolding at_key
@@ -112,14 +112,14 @@ next_table : (k : List ℕ) (done : Items) (last root : Nodes) → at_key k arra
 unfolding at_key
 next_table k done last root = rw (get_node-insert k _ root, replace-insert k _ _ root)
 
--- putting values into the last table of a list
+-- values after a header go into the last table of its list
 into_last : (k : List ℕ) (done : Items) (root : Nodes) (body : Edit) (n : Nodes) → body no_nodes ≡ Some n
     → along_header (k ∷ []) body (insert k (open_array done no_nodes) root) ≡ Some (insert k (open_array done n) root)
 unfolding along_header
 into_last k done root body n made = along_found k [] body _ _ (get_node-insert k _ root) ∙ rw (made, replace-insert k _ _ root)
 
 module _ {A : Type 0} (f : A → List Pair) (P : Members → A → Type 0) where
-  -- what is put for an entry is read back as this entry
+  -- the pairs of an entry are read back as this entry
   pub record IsRead (x : A) : Type 0 where
     pub pairs : ArePairs (f x)
     pub apart : IsTrue (are_apart (f x))
@@ -152,7 +152,7 @@ module _ {A : Type 0} (f : A → List Pair) (P : Members → A → Type 0) where
         subst (AreItems (IsTable P) (push_item all (table (close end)))) (append_assoc ys _ xs) all_items,
       )
 
-  -- a list of tables, if it isn't empty, is put at its key
+  -- if a list of tables isn't empty, the reader puts it at its key
   pub list_read : (xs : List A) (k : List ℕ) (root : Nodes) → AreRead xs → get_member k (close root) ≡ None
       → (new : Nodes) × (fill_elements k (tables f xs) root ≡ Some new) × (o : Option Data) × Puts k o (close root) (close new)
       × MatchOption o (xs ≡ [])
@@ -168,7 +168,7 @@ module _ {A : Type 0} (f : A → List Pair) (P : Members → A → Type 0) where
         (push_item all (table (close end)), refl, items),
       )
 
--- Running the lines of the lists, one after the other.
+-- if the reader's result has these nodes, the reader ended in some state with them
 from_roots : (o : Option Document) (n : Nodes) → roots o ≡ Some n → (s : List (List ℕ)) × (o ≡ Some (n, s))
 from_roots None n is = absurd (none-some n is)
 from_roots (Some doc) n is = (doc.1, ap (λ (m : Nodes). let x : Option Document = Some (m, doc.1) in x) (same_Some doc.0 n is))

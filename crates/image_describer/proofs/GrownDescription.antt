@@ -1,4 +1,4 @@
--- A renumbered description describes the same world in an image with more or fewer nodes or pages.
+-- If a description is renumbered for an image with more or fewer nodes or pages, it describes the same world there.
 use Rattle.image_describer.proofs.Names.{nat_tests, inl, inr, ℕ, List, [], map, length, sym, ap, subst, arith, Vec, Global, All, Contains, cases_lt, length-map}
 use Rattle.image_describer.proofs.Names.{All-append, All-contains, All-map, Contains-append_cases, Contains-append_left, Contains-append_right, Capability}
 use Rattle.image_describer.proofs.Names.{Frame, Geometry, Object, State, blank_frame, frame_at, object_count, fresh_cap, BankEntry, Description, NodeEntry}
@@ -15,7 +15,7 @@ use Rattle.image_describer.proofs.GrownWorld.{page_arrives}
 use Rattle.image_describer.proofs.Moved.{brief_moved, holds_moved, moved_cap, moved_frame, node_stays, page_moves, slots_moved, space_entry_moved}
 use Rattle.image_describer.proofs.Rising.{distinct_both, distinct_other}
 
--- Entries
+-- ---- entries
 
 module _ (at : ℕ → ℕ) where
   root_is : (p q : ProcessEntry) → IsMovedProcess at p q → (state : State) (c : Capability)
@@ -62,7 +62,7 @@ module _ (at : ℕ → ℕ) where
   pub page_fields : (p q : PageEntry) → IsMovedPage at p q → AreWords p.words.items → AreWords q.words.items
   page_fields p q same is = subst (λ (v : Vec WordEntry Global). AreWords v.items) (sym same.words) is
 
--- Descriptions
+-- ---- descriptions
 
 plain_length : (os : List Object) → length (plain_frames os) ≡ length os
 unfolding plain_frames
@@ -78,7 +78,7 @@ module _ (d e : Description) (same : IsRenumbered d e) where
   abbrev at : ℕ → ℕ
   at = moved old new
 
-  -- the numbers
+  -- the renumbered description has the old node numbers
   pub nodes_named : node_numbers e ≡ node_numbers d
   nodes_named =
       rw (
@@ -141,7 +141,7 @@ module _ (d e : Description) (same : IsRenumbered d e) where
       All-contains,
     )
 
-    -- the frames
+    -- the parameters: the objects of the described world
     module _ (os : List Object) (count : length os ≡ object_count old) (is : IsDescribed d (plain_frames os)) where
       abbrev vs : List Object
       vs = grown_objects old new os count
@@ -151,7 +151,7 @@ module _ (d e : Description) (same : IsRenumbered d e) where
           ap (λ (k : ℕ). frame_at (plain_frames vs) k) (sym (node_stays old new n below))
           ∙ frame_arrived old new os count n (node_arrives old new n below fits)
 
-      -- an entry whose number stays
+      -- if a number stays, the frame there is the old one with its capabilities renumbered
       entry_frame : (n : ℕ) (f : Frame) → n < old.nodes → n < new.nodes → frame_at (plain_frames os) n ≡ f →
           frame_at (plain_frames vs) n ≡ moved_frame at f
       entry_frame n f below fits same_frame = node_frame n below fits ∙ ap (λ (h : Frame). moved_frame at h) same_frame
@@ -215,7 +215,7 @@ module _ (d e : Description) (same : IsRenumbered d e) where
           let range = page_range p there in
           (described_of d (plain_frames os) (OfPage p) is there, range.0, range.1, page_fits p there)))
 
-      -- if the number from which an object comes has an entry, the object's new number has one
+      -- if an object's old number has an entry, its new number has one
       comes_named : (m : ℕ) → m < object_count new → Contains (node_numbers d ++ page_numbers d) (origin old new m) →
           Contains (node_numbers e ++ page_numbers e) m
       comes_named m below there = elim (Contains-append_cases _ _ _ there) [

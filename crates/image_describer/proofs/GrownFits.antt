@@ -1,4 +1,4 @@
--- The objects of a world have numbers in an image of other sizes exactly if the objects of its description do.
+-- The objects of a world fit into an image of other sizes exactly if those of its description do.
 use Rattle.image_describer.proofs.Names.{nat_tests, inl, inr, ℕ, true, false, refl, sym, ap, subst, arith, true≢false, All-contains, Cap, Frame, Geometry}
 use Rattle.image_describer.proofs.Names.{Content, frame_at, is_free, role_of, object_count, World, content_at, fresh_cap, mapped, BankEntry, Description}
 use Rattle.image_describer.proofs.Names.{NodeEntry, PageEntry, ProcessEntry, first_frame, Entry, OfAnnex, OfBank, OfNode, OfPage, OfRoot, number_of, IsFrameOf}
@@ -9,7 +9,7 @@ use Rattle.model.specs.declared.object.Content.TheVariants as content
 use Rattle.model.specs.declared.object.Role.TheVariants as role
 use Rattle.description.specs.declared.sizes.GrowthFault.TheVariants as fault
 
--- a content with a role isn't free
+-- a content whose role isn't `Free` isn't free
 role_not_free : {C : Type 0} (c : Content C) → role_of c ≢ role.Free → is_free c ≡ false
 role_not_free content.Free other = absurd (other refl)
 role_not_free one other = refl
@@ -28,7 +28,7 @@ entry_not_free (OfAnnex p) f is = first_not_free f p.owner (content.Annex is.0) 
 entry_not_free (OfNode n) f is = first_not_free f n.owner (content.Node is.0) (λ same. absurd cc) is.2
 entry_not_free (OfPage p) f is = first_not_free f p.owner (content.Page is.0) (λ same. absurd cc) is.2
 
--- a number of a node's entry is below the new number of nodes, and that of a page's entry exists in the new image
+-- the parameters: a world and its description
 module _ (old new : Geometry) (d : Description) (w : World) (describes : Describes old w d) where
   role_is : (n : ℕ) → (frame_at (plain_frames w.objects) n).header.role ≡ role_of (content_at w.objects n)
   role_is n = ap (λ (f : Frame). f.header.role) (plain_at w.objects n) ∙ (mapped fresh_cap (content_at w.objects n)).role
@@ -77,7 +77,7 @@ module _ (old new : Geometry) (d : Description) (w : World) (describes : Describ
   fit_pages fits = all_from (λ (p : PageEntry). moved old new p.number < object_count new) d.pages.items (λ p there.
       fits p.number (named_not_free (OfPage p) there) (rw (← describes.geometry) (in_range d (OfPage p) describes.numbers there).0))
 
-  -- a description isn't renumbered if its world has no image of these sizes
+  -- if a description can't be renumbered, its world has no image of these sizes, for the same reason
   pub not_suited : (why : GrowthFault) → IsNotRenumbered d new why → IsUnsuited old new w why
   not_suited fault.Limits broken = broken
   not_suited fault.Nodes broken = (broken.0, λ fits. broken.1 (fit_nodes fits))

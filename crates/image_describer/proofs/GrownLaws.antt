@@ -1,4 +1,4 @@
--- The laws of descriptions that were renumbered.
+-- The laws of renumbered descriptions.
 use Rattle.image_describer.proofs.Names.{nat_tests, arith, ℕ, Bool, true, false, List, [], map, refl, sym, ap, true≢false, ext_get_or, Capability, Geometry}
 use Rattle.image_describer.proofs.Names.{Content, Object, free, is_free, map_content, IsSound, World, content_at, object_at, IsGrown, moved, moved_capability}
 use Rattle.image_describer.proofs.Names.{moved_object, GrownIsDescribed, GrownToItself}
@@ -23,7 +23,7 @@ grown_is_described w d e sound describes same nodes pages =
       },
     )
 
--- In an image of the same sizes
+-- ---- in an image of the same sizes
 
 module _ (at : ℕ → ℕ) (stays : (n : ℕ) → at n ≡ n) where
   capability_stays : (c : Capability) → moved_capability at c ≡ c

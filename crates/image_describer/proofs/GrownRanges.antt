@@ -30,6 +30,6 @@ either_laid old new rs true is laid limits =
     }
 either_laid old new rs false is laid limits = whole_laid new limits
 
--- the ranges may be laid out if the sizes are within their limits
+-- if the new sizes are within their limits, the new ranges may be laid out
 pub ranges_suit : (old new : Geometry) (rs : List NumberRange) → MayBeLaid old rs → IsGeometry new → MayBeLaid new (grown_ranges old new rs)
 ranges_suit old new rs laid limits = either_laid old new rs (old.nodes == new.nodes && old.pages == new.pages) refl laid limits

@@ -1,4 +1,4 @@
--- A description that was renumbered has a text.
+-- A renumbered description has a text.
 use Rattle.image_describer.proofs.Names.{nat_tests, ℕ, Bool, true, false, List, [], arith, All, All-cons, All-contains, All-nil, IsGeometry, NumberRange}
 use Rattle.image_describer.proofs.Names.{object_count, Description, NodeEntry, PageEntry, ProcessEntry, whole_ranges, all_from, IsMovedNode, IsMovedPage}
 use Rattle.image_describer.proofs.Names.{IsMovedProcess, IsRenumbered, NamesPages, moved, CanBeSpelled, IsWide, SpellsNode, SpellsPage, SpellsProcess}

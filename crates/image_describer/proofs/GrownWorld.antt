@@ -8,11 +8,11 @@ use Rattle.model.specs.declared.object.Content.TheVariants as content
 use Rattle.image_describer.proofs.Moved.{moved_frame, plain_moved}
 
 module _ (old new : Geometry) where
-  -- the old number of the object that gets a new number; if there is none, a number without an object
+  -- the old number of the object with new number m; if it has none, a number without an object
   abbrev pub origin : ℕ → ℕ
   origin m = if nat_lt m new.nodes then if nat_lt m old.nodes then m else object_count old else m - new.nodes + old.nodes
 
-  -- the object of an old number has a new number
+  -- the object with old number n has a new number
   abbrev pub Arrives : ℕ → Type 0
   Arrives n = (moved old new n < object_count new) × (origin (moved old new n) ≡ n)
 
@@ -46,7 +46,7 @@ module _ (old new : Geometry) where
     pub arrived : (n : ℕ) → Arrives n → object_at grown_objects (moved old new n) ≡ moved_object (moved old new) (object_at os n)
     arrived n is = grown_inside (moved old new n) is.0 ∙ ap (λ (k : ℕ). moved_object (moved old new) (object_at os k)) is.1
 
-    -- the same for frames
+    -- the frame of the object with old number n, at its new number
     pub frame_arrived : (n : ℕ) → Arrives n → frame_at (plain_frames grown_objects) (moved old new n) ≡ moved_frame (moved old new)
         (frame_at (plain_frames os) n)
     frame_arrived n is = plain_at _ _ ∙ ap (λ (o : Object). plain_frame o) (arrived n is) ∙ plain_moved (moved old new) _
@@ -63,7 +63,7 @@ module _ (old new : Geometry) where
     past_is_free : (n : ℕ) → object_count old ≤ n → is_free (content_at os n) ≡ true
     past_is_free n past = ap (λ (o : Object). is_free o.content) (get_or_past os n free (omega (arith, past, count)))
 
-    -- an object has a number of the image
+    -- an object in use has a number of the image
     pub inside : (n : ℕ) → is_free (content_at os n) ≡ false → n < object_count old
     inside n some = elim (cases_lt n (object_count old)) [
       | inl below ↦ below
@@ -79,7 +79,7 @@ module _ (old new : Geometry) (w : World) (sound : IsSound old w) where
   abbrev pub grown_world : World
   grown_world = record { objects = grown_objects old new w.objects sound.size; age = w.age }
 
-  -- a new number without an old one is free
+  -- a new number that no object in use moves to is free
   from_free : (m : ℕ) (b : Bool) → is_free (content_at w.objects (origin old new m)) ≡ b
       → ((n : ℕ) → is_free (content_at w.objects n) ≡ false → moved old new n ≢ m) → object_at w.objects (origin old new m) ≡ free
   from_free m true is none =

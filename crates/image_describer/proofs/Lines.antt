@@ -1,4 +1,4 @@
--- The lines of a description are those that TOML writes for its values.
+-- The lines of a description are what TOML writes for its values.
 use Rattle.image_describer.proofs.Names.{nat_tests, ℕ, suc, pos, Bool, true, false, List, [], codes, decimal, Option, Some, None, IfSome, append-nil}
 use Rattle.image_describer.proofs.Names.{append_assoc, refl, sym, ap, arith, flat_map, join_by, dotted_text, key_text, string_text, Data, string, integer}
 use Rattle.image_describer.proofs.Names.{array, Items, no_items, item, Members, depth, has_valid_dates, items_depth, items_have_valid_dates, Expression}
@@ -10,7 +10,7 @@ use Rattle.image_describer.proofs.Filled.{ArePairs, keyed, member_or, no_section
 
 -- ---- values
 
--- a text encodes a value, which has few levels, no date, and no header of its own
+-- the text is that of this value; the value has at most `levels` levels, no dates, and needs no header
 pub record Spells (levels : ℕ) (text : List ℕ) (d : Data) : Type 0 where
   pub text_is : IsValueText false d text
   pub deep : depth d ≤ levels
@@ -23,7 +23,7 @@ spells_number n small = record { text_is = (refl, grind (arith, small)); deep = 
 pub spells_text : (text : List ℕ) → string_text text ≡ quoted text → Spells 0 (quoted text) (string text)
 spells_text text is = record { text_is = sym is; deep = omega arith; valid = refl; pair = refl }
 
--- a list that begins with such a value has no header
+-- if the first item of a list needs no header, the list has none
 no_tables : (d : Data) (ds : Items) → is_section d ≡ false → are_tables (item d ds) ≡ false
 no_tables d ds pair = grind (arith, nat_tests)
 
@@ -35,7 +35,7 @@ one_line no_items = refl
 one_line (item d no_items) = refl
 one_line (item d (item e ds)) = refl
 
--- lists of such values
+-- a list of values, made from items
 abbrev pub items : {A : Type 0} → (A → Data) → List A → Items
 items g [] = no_items
 items g (x ∷ xs) = item (g x) (items g xs)
@@ -78,7 +78,7 @@ SpellsOption None None = Unit {0}
 SpellsOption (Some text) (Some d) = Spells 2 text d
 SpellsOption _ _ = ⊥
 
--- a text of a value with fewer levels than allowed
+-- if m is at most n, a text of a value with at most m levels is also one with at most n
 pub deeper : (m n : ℕ) (text : List ℕ) (d : Data) → m ≤ n → Spells m text d → Spells n text d
 deeper m n text d few spells = record {
   text_is = spells.text_is;
@@ -87,7 +87,7 @@ deeper m n text d few spells = record {
   pair = spells.pair;
 }
 
--- keys with their values, where each key is written without quotes
+-- these fields are keys without quotes, with the texts of these values
 abbrev pub SpellFields : List Field → List Pair → Type 0
 SpellFields [] [] = Unit {0}
 SpellFields [] (p ∷ ps) = ⊥

@@ -1,4 +1,4 @@
--- Numbers and capabilities in an image of other sizes.
+-- Renumbering capabilities and frames for an image of other sizes.
 use Rattle.image_describer.proofs.Names.{ℕ, Bool, true, false, List, [], map, Option, Some, None, refl, sym, ap, subst, arith, All, nat_tests, length-map}
 use Rattle.image_describer.proofs.Names.{All-map, All-weaker, slice_get-map, Cap, Capability, Void, Page, Space, Frame, Geometry, Content, Object, IsWellFormed}
 use Rattle.image_describer.proofs.Names.{named, map_content, IsSpace, object_count, fresh_cap, SlotEntry, AreDistinct, AreSlots, HoldsNamed, IsSomeCapability}
@@ -7,7 +7,7 @@ use Rattle.image_describer.proofs.Names.{moved_slot, IsWide, NamesWide, SpellsSl
 use Rattle.std.proofs.Common.{◌≡◌, ◌≢◌, ◌+◌, ◌-◌, ◌<◌, ◌≤◌, if◌then◌else◌, ◌∷◌, ◌∙◌}
 use Rattle.std.specs.Prelude.{◌==◌, IfSome, option_map}
 
--- Numbers
+-- ---- numbers
 
 pub node_stays : (old new : Geometry) (n : ℕ) → n < old.nodes → moved old new n ≡ n
 node_stays old new n below = grind (arith, nat_tests)
@@ -18,11 +18,11 @@ page_moves old new n above below = grind (arith, nat_tests)
 pub stays_itself : (g : Geometry) (n : ℕ) → moved g g n ≡ n
 stays_itself g n = grind (arith, nat_tests)
 
--- the numbers of an image of few objects stay of 64 bits
+-- if a number has 64 bits, so has its new number
 pub moved_wide : (old new : Geometry) (n : ℕ) → object_count old ≤ 8192 → new.nodes ≤ 4096 → IsWide n → IsWide (moved old new n)
 moved_wide old new n few also wide = grind (arith, nat_tests)
 
--- Capabilities
+-- ---- capabilities
 
 module _ (at : ℕ → ℕ) where
   pub well_formed_moved : (c : Capability) → IsWellFormed c → IsWellFormed (moved_capability at c)
@@ -42,7 +42,7 @@ module _ (at : ℕ → ℕ) where
       IfSome (named (moved_capability at c)) IsWide
   named_moved on c h = grind (arith, nat_tests)
 
-  -- capabilities that may be absent
+  -- renumbering an absent capability gives void, as renumbering void does
   pub held_moved : (o : Option Capability) → unwrap_or (moved_held at o) Void ≡ moved_capability at (unwrap_or o Void)
   held_moved None = refl
   held_moved (Some c) = refl
@@ -65,7 +65,7 @@ module _ (at : ℕ → ℕ) where
       let same : moved_capability at c ≡ Void = ap (λ (p : Option Capability). unwrap_or p Void) is in
       h (ap (λ (d : Capability). Some d) (void_moved c same))
 
-  -- the capabilities of slots
+  -- renumbering capabilities keeps the indexes of slots
   pub indexes_moved : (es : List SlotEntry) → map (λ s. s.index) (map (moved_slot at) es) ≡ map (λ s. s.index) es
   indexes_moved [] = refl
   indexes_moved (e ∷ es) = ap (λ (ns : List ℕ). e.index ∷ ns) (indexes_moved es)
@@ -101,7 +101,7 @@ module _ (at : ℕ → ℕ) where
   named_at_moved [] i = refl
   named_at_moved (e ∷ es) i = chosen (e.index == i) (named_at (map (moved_slot at) es) i) (named_at es i) e.capability (named_at_moved es i)
 
-  -- Frames
+  -- ---- frames
 
   abbrev pub moved_cap : Cap → Cap
   moved_cap c = record { what = moved_capability at c.what; count = c.count }

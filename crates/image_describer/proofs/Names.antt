@@ -1,4 +1,4 @@
--- The names that the proofs here cite: of other crates, and of the definitions of this one.
+-- The names that the proofs here import: from other crates, and from the definitions of this one.
 pub use Rattle.capability.proofs.FrameLists.{annex_used, known_used, object_past}
 pub use Rattle.capability.proofs.Keeping.{keepable_later}
 pub use Rattle.capability.proofs.Mapped.{kind_map, mapped}

@@ -1,4 +1,4 @@
--- Plain frames stand for the objects that they were made from, and are sound if these are.
+-- The plain frames of objects, with all counts 0, stand for these objects. They are sound if the objects are.
 use Rattle.image_describer.proofs.Names.{nat_tests, ℕ, nat_lt, Bool, true, false, List, [], map, length, slice_index_or, refl, sym, ap, subst, arith, All}
 use Rattle.image_describer.proofs.Names.{get_or-map, length-map, All-map, All-weaker, Cap, Capability, Void, Frame, ObjectHeader, Geometry, Content, Object}
 use Rattle.image_describer.proofs.Names.{blank_frame, conveyed, current_count, frame_at, header_at, headers, object_of, objects_of, void_held, AreCurrent}
@@ -12,7 +12,7 @@ use Rattle.description.specs.declared.fault.BuildFault.TheVariants as fault
 header_plain : (os : List Object) (n : ℕ) → header_at (headers (plain_frames os)) n ≡ (plain_frame (object_at os n)).header
 header_plain os n = get_or-map (λ (f : Frame). f.header) (plain_frames os) n blank_frame ∙ ap (λ (f : Frame). f.header) (plain_at os n)
 
--- no count was raised
+-- every allocation count is 0
 no_allocations : (os : List Object) (n : ℕ) → (header_at (headers (plain_frames os)) n).allocations ≡ 0
 no_allocations os n = ap (λ (h : ObjectHeader). h.allocations) (header_plain os n)
 
@@ -22,7 +22,7 @@ no_calls os n = ap (λ (h : ObjectHeader). h.calls) (header_plain os n)
 no_count : (os : List Object) (c : Capability) → current_count (headers (plain_frames os)) c ≡ 0
 no_count os c = grind (arith, nat_tests, no_allocations, no_calls)
 
--- so each capability conveys itself
+-- each capability of plain frames conveys itself: none is stale
 conveyed_plain : (os : List Object) (c : Capability) → conveyed (headers (plain_frames os)) (fresh_cap c) ≡ c
 conveyed_plain os c = ap (λ (n : ℕ). if nat_lt 0 n then Void else c) (no_count os c)
 
@@ -43,7 +43,7 @@ pub objects_plain : (os : List Object) → objects_of (plain_frames os) ≡ os
 unfolding objects_of plain_frames
 objects_plain os = objects_same (headers (plain_frames os)) (conveyed_plain os) os
 
--- What can be kept can be kept with counts of 0.
+-- The parameters: a geometry, an age and headers. If a content has an encoding, it has one with counts of 0.
 module _ (g : Geometry) (age : ℕ) (hs : List ObjectHeader) where
   follows_none : (count : ℕ) (c : Capability) → Follows g age count c → Follows g age 0 c
   follows_none count c h = grind (arith, nat_tests)
@@ -94,7 +94,7 @@ keepable_plain g age fs keepable = record {
       (frame_plain g age _ n _ (keepable.each n inside));
 }
 
--- No capability is ahead.
+-- No capability's count is above its object's.
 never_ahead : (hs : List ObjectHeader) (c : Content Capability) → All (IsCurrent hs) (caps_in (map_content fresh_cap c))
 never_ahead hs (content.Node slots) = All-map (IsCurrent hs) fresh_cap slots (λ k d inside. omega arith)
 never_ahead hs (content.Root r) = All-map (IsCurrent hs) fresh_cap (r.space ∷ []) (λ k d inside. omega arith)
@@ -112,7 +112,7 @@ sound_plain g age fs sound = record {
   sound = rw (objects_plain _) sound.sound;
 }
 
--- The laws.
+-- The laws of descriptions of worlds.
 pub described_is_same : DescribedIsSame
 described_is_same g age fs gs d sound describes is =
     let same : plain_frames (objects_of fs) ≡ gs = described_once d (plain_frames (objects_of fs)) gs describes.frames is in (

@@ -1,4 +1,4 @@
--- What a table has after a value is put at a key.
+-- The table after a value is put at a key.
 use Rattle.image_describer.proofs.Names.{nat_tests, arith, ℕ, Bool, true, false, List, Option, Some, None, option_map, Ordering, Less, Equal, Greater, nat_cmp}
 use Rattle.image_describer.proofs.Names.{is_eq, refl, sym, ap, IsTrue, slice_cmp, list_any, match_ordering, alike_right, nat_list_cmp_total, Data, get_member}
 use Rattle.image_describer.proofs.Names.{member, Members, no_members, same_key, Nodes, close, close_node, get_node, insert, no_nodes, node, get_node-insert}
@@ -6,7 +6,7 @@ use Rattle.image_describer.proofs.Names.{has_only, Node, both_true}
 use Rattle.std.proofs.Common.{◌≡◌, ◌&&◌, if◌then◌else◌, ◌∙◌}
 use Rattle.std.specs.Prelude.{not}
 
--- parts of tests
+-- the parts of a conjunction are true
 pub left : (a b : Bool) → IsTrue (a && b) → IsTrue a
 left true b is = refl
 left false b is = is
@@ -19,13 +19,13 @@ pub falsely : (a : Bool) → IsTrue (not a) → a ≡ false
 falsely true is = sym is
 falsely false is = refl
 
--- a value is put at a key, if there is one
+-- the value is put at the key, if there is a value; other keys stay
 pub record Puts (key : List ℕ) (o : Option Data) (old new : Members) : Type 0 where
   pub found : get_member key old ≡ None → get_member key new ≡ o
   pub others : (k : List ℕ) → same_key k key ≡ false → get_member k new ≡ get_member k old
   pub only : (keys : List (List ℕ)) → IsTrue (list_any (same_key key) keys) → IsTrue (has_only keys old) → IsTrue (has_only keys new)
 
--- the value at a key of a table is that of its nodes
+-- a table has the value of the node at a key
 member_here : (o : Ordering) (d : Option Data) (x : Node) (m : Option Node) → d ≡ option_map close_node m
     → match_ordering o d (Some (close_node x)) d ≡ option_map close_node (if is_eq o then Some x else m)
 member_here Equal d x m is = refl
@@ -35,7 +35,7 @@ pub member_of : (k : List ℕ) (ns : Nodes) → get_member k (close ns) ≡ opti
 member_of k no_nodes = refl
 member_of k (node l x ns) = member_here (slice_cmp nat_cmp k l) (get_member k (close ns)) x (get_node k ns) (member_of k ns)
 
--- nodes have nothing at a key where the table has none
+-- if a table has nothing at a key, there is no node
 none_mapped : (m : Option Node) → option_map close_node m ≡ None → m ≡ None
 none_mapped None is = refl
 none_mapped (Some x) is = absurd cc
@@ -43,7 +43,7 @@ none_mapped (Some x) is = absurd cc
 pub no_node : (k : List ℕ) (ns : Nodes) → get_member k (close ns) ≡ None → get_node k ns ≡ None
 no_node k ns none = none_mapped (get_node k ns) (sym (member_of k ns) ∙ none)
 
--- the search for another key goes on
+-- if the keys differ, the search goes on to the next one
 skipped : (o : Ordering) (x y : Option Data) → is_eq o ≡ false → match_ordering o y x y ≡ y
 skipped Equal x y other = absurd cc
 skipped o x y other = refl
@@ -63,7 +63,7 @@ inserted_other j k x no_nodes other = first_other j k (close_node x) no_members 
 inserted_other j k x (node l y ns) other = other_at j (slice_cmp nat_cmp k l) k l x y ns (insert k x ns) refl other
     (inserted_other j k x ns other)
 
--- all keys are among the known ones
+-- if all keys are among the known ones before, they are after
 only_at : (keys : List (List ℕ)) (o : Ordering) (k l : List ℕ) (x y : Node) (ns next : Nodes) → IsTrue (list_any (same_key k) keys)
     → IsTrue (has_only keys (close (node l y ns))) → IsTrue (has_only keys (close next))
     → IsTrue (has_only keys (close (match_ordering o (node k x (node l y ns)) (node l x ns) (node l y next))))
@@ -76,7 +76,7 @@ inserted_only : (keys : List (List ℕ)) (k : List ℕ) (x : Node) (ns : Nodes) 
 inserted_only keys k x no_nodes known all = both_true known refl
 inserted_only keys k x (node l y ns) known all = only_at keys _ k l x y ns _ known all (inserted_only keys k x ns known (right _ _ all))
 
--- inserting a node puts its value; without a node nothing is put
+-- inserting a node puts its value
 pub puts_inserted : (k : List ℕ) (x : Node) (ns : Nodes) → Puts k (Some (close_node x)) (close ns) (close (insert k x ns))
 puts_inserted k x ns = record {
   found = λ none. member_of k (insert k x ns) ∙ ap (option_map close_node) (get_node-insert k x ns);

@@ -5,7 +5,7 @@ use Rattle.image_describer.proofs.Names.{needs_escape, quotes_after, string_text
 use Rattle.image_describer.proofs.Names.{Capability, State, Available, Running, Waiting, quoted}
 use Rattle.std.proofs.Common.{◌≡◌, ◌<◌, ◌≤◌, ◌^◌, ◌&&◌, ◌==◌, ◌∷◌, ◌++◌}
 
--- a byte that no string escapes
+-- whether a byte needs no escape in a string
 abbrev is_safe : ℕ → Bool
 is_safe c = (nat_lt 31 c && nat_lt c 127) && (not (c == 34) && not (c == 92))
 
@@ -26,7 +26,7 @@ safe_digits (c ∷ cs) digits = grind (arith, nat_tests, safe_digits cs digits.1
 safe_decimal : (n : ℕ) → n < 2 ^ 64 → are_safe (decimal n) ≡ true
 safe_decimal n small = safe_digits (decimal n) (decimal_is_IsNumeral n small).0.1
 
--- a test that is false for each safe byte finds nothing in a text of safe bytes
+-- if a test fails for every safe byte, it finds nothing in a text of safe bytes
 none_found : (test : ℕ → Bool) (text : List ℕ) → ((c : ℕ) → is_safe c ≡ true → test c ≡ false) → are_safe text ≡ true →
     list_any test text ≡ false
 none_found test [] other safe = refl
@@ -60,7 +60,7 @@ same_escaped quotes (c ∷ cs) safe =
       | inr none ↦ let never : false ≡ true = rw none at safe in absurd cc
     ]
 
--- such a text is written in quotes
+-- a text of safe bytes is written between quotes as it stands
 string_safe : (text : List ℕ) → are_safe text ≡ true → string_text text ≡ quoted text
 unfolding string_text encoding_of
 string_safe text safe = rw (

@@ -1,4 +1,4 @@
--- The text of a description is read again as that description.
+-- If the text of a description is read, the result is that description.
 use Rattle.image_describer.proofs.Names.{nat_tests, ℕ, suc, Bool, true, false, List, [], codes, length, Option, Some, refl, sym, ap, append-nil, append_assoc}
 use Rattle.image_describer.proofs.Names.{option_map, option_and_then, arith, flat_map, recursion_from_All, first, key_text, Members, no_members, parse_document}
 use Rattle.image_describer.proofs.Names.{skip_bom, Document, Expression, Nodes, along_header, close, no_nodes, IsLinesText, elements, pairs, run-append}
@@ -36,7 +36,7 @@ parsed es text n s is printed ran =
     let read = read_lines false false es text text (no_nodes, []) (suc (length text)) is printed refl (omega arith) in
     document_some text (n, s) (rw (no_skip text (not_bom false es text is printed)) (read ∙ ran))
 
--- the parts of a text, joined
+-- five texts joined in two ways are equal
 joined : (a b c d e : List ℕ) → a ++ (b ++ (c ++ (d ++ (e ++ [])))) ≡ a ++ b ++ c ++ d ++ e
 joined a b c d e = ap (λ (t : List ℕ). a ++ (b ++ (c ++ (d ++ t)))) (append-nil e)
     ∙ sym (append_assoc _ d e ∙ append_assoc _ c _ ∙ append_assoc a b _)
@@ -69,7 +69,7 @@ page_is : (p : PageEntry) → page_text p ≡ codes "\n[[" ++ codes "page" ++ co
 page_is p = refl
 
 module _ (d : Description) (fields : HasFields d) (may : CanBeSpelled d) where
-  -- the four kinds of lines
+  -- the lines of the whole image's keys
   abbrev top_lines : List Expression
   top_lines = pairs (keyed (image_pairs d))
 
@@ -108,7 +108,7 @@ module _ (d : Description) (fields : HasFields d) (may : CanBeSpelled d) where
   pages_may : ByRecursion SpellsPage d.pages.items
   pages_may = recursion_from_All SpellsPage d.pages.items may.pages
 
-  -- the texts of the keys
+  -- the key `bank` needs no quotes
   bare_bank : key_text (codes "bank") ≡ codes "bank"
   bare_bank = bare (codes "bank") refl
 
@@ -174,7 +174,7 @@ module _ (d : Description) (fields : HasFields d) (may : CanBeSpelled d) where
       (append_printed page_lines [] (printed_tables page_pairs page_fields page_text (codes "page") bare_page page_is d.pages.items
       page_fields_all) tt))))
 
-  -- the state of the reader at the end
+  -- the reader's state after all lines
   ran : (n : Nodes) × (s : List (List ℕ)) × (run (no_nodes, []) all_lines ≡ Some (n, s)) × IsDescription (close n) d
   unfolding along_header
   ran =

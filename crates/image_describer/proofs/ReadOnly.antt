@@ -1,4 +1,4 @@
--- Read-only calls, one after another.
+-- Calls that only read, one after another.
 use Rattle.image_describer.proofs.Names.{HasLooked, List, Object, Parts, subst, sym, ℕ, Capability, Content, IsTrue, content_at, is_annex, is_root}
 use Rattle.image_describer.proofs.Names.{refl, root_in, is_process, annex_at, Root, OnlyReads, Refusal, Err, IsErrAnd, Ok, Result}
 use Rattle.image_describer.proofs.Names.{read_well, out_of_memory, reads_on}
@@ -7,7 +7,7 @@ use Rattle.model.specs.declared.object.Content.TheVariants as content
 use Rattle.model.specs.declared.answer.Refusal.TheVariants as refusal
 
 module _ {S : Type 0} {parts : S → Parts} {Continues : S → S → Type 0} {s t : S} where
-  -- a read that succeeded, and one whose failure is passed on
+  -- a read that succeeded left the parts the same
   pub looked_once : {T : Type 0} {x : T} → OnlyReads parts Continues s t (let r : Result T Refusal = Ok x in r) →
       HasLooked parts Continues s t
   looked_once reads = record { same = reads.same; continues = reads.snapshots.continues }
@@ -22,7 +22,7 @@ module _ {S : Type 0} {parts : S → Parts} {Continues : S → S → Type 0} {s 
     cause = (λ fault. reads.cause.0 (cc), λ failed. let fault = reads.cause.1 failed in cc);
   }
 
-  -- a call that does no more ends well, or without memory
+  -- if a store was only read, a call that now returns a value satisfies `OnlyReads`
   pub looked_well : {T : Type 0} {x : T} → HasLooked parts Continues s t → OnlyReads parts Continues s t
       (let r : Result T Refusal = Ok x in r)
   looked_well looked = read_well looked.same looked.continues
@@ -47,7 +47,7 @@ module _ {S : Type 0} {parts : S → Parts} {Continues : S → S → Type 0} (tw
       OnlyReads parts Continues t u r → OnlyReads parts Continues s u r
   reads_after first second = looked_on (looked_once first) second
 
--- the annex of a root that was read
+-- if a root was read, the number that it names is an annex's
 pub root_annex : (os us : List Object) (n : ℕ) (root : Root Capability) → us ≡ os → content_at os n ≡ content.Root root →
     (IsTrue (is_process os n) → IsTrue (is_annex (content_at os (annex_at os n)))) → IsTrue (is_annex (content_at us root.annex))
 root_annex os us n root same at annex =

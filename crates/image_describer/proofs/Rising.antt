@@ -1,9 +1,9 @@
--- Numbers that rise, and lists with no number twice.
+-- Rising lists of numbers, and lists of distinct numbers.
 use Rattle.image_describer.proofs.Names.{nat_tests, ℕ, inl, inr, List, [], map, subst, arith, All, Contains, All-contains, All-head, All-push, All-tail}
 use Rattle.image_describer.proofs.Names.{Contains-append_cases, AreDistinct, contains_here, contains_map, contains_there, map_contains, AreRising}
 use Rattle.std.proofs.Common.{◌≡◌, ◌<◌, ◌∷◌, ◌++◌}
 
--- appending a number that is greater than all
+-- appending a number above all others leaves the list rising
 pub rising_more : (ns : List ℕ) (n : ℕ) → AreRising ns → All (λ m. m < n) ns → AreRising (ns ++ n ∷ [])
 rising_more [] n rising below = ((λ k d inside. absurd (omega (arith, inside))), tt)
 rising_more (m ∷ ns) n rising below = (
@@ -11,12 +11,12 @@ rising_more (m ∷ ns) n rising below = (
   rising_more ns n rising.1 (All-tail (λ x. x < n) m ns below),
 )
 
--- no number occurs twice
+-- a rising list is distinct
 pub rising_distinct : (ns : List ℕ) → AreRising ns → AreDistinct ns
 rising_distinct [] rising = tt
 rising_distinct (n ∷ ns) rising = grind (arith, nat_tests, rising_distinct ns rising.1, All-contains)
 
--- nor in two joined lists without a common number
+-- two distinct lists without a common number are distinct when joined
 pub distinct_both : (ns ms : List ℕ) → AreDistinct ns → AreDistinct ms → ((n : ℕ) → Contains ns n → Contains ms n → ⊥) →
     AreDistinct (ns ++ ms)
 distinct_both [] ms one other apart = other
@@ -28,7 +28,7 @@ distinct_both (n ∷ ns) ms one other apart = (
   distinct_both ns ms one.1 other (λ m left right. apart m (contains_there m n ns left) right),
 )
 
--- nor does another number of the same items, if items that share it have the same first number
+-- if the first numbers of items are distinct, and items that share a second number share the first, the second numbers are distinct
 pub distinct_other : {E : Type 0} → (first second : E → ℕ) (es : List E) → AreDistinct (map first es)
     → ((e f : E) → Contains es e → Contains es f → second e ≡ second f → first e ≡ first f) → AreDistinct (map second es)
 distinct_other first second [] distinct same = tt
@@ -40,6 +40,6 @@ distinct_other first second (e ∷ es) distinct same = (
   distinct_other first second es distinct.1 (λ f h left right is. same f h (contains_there f e es left) (contains_there h e es right) is),
 )
 
--- two lists have no common number if the numbers of only one have a property
+-- if a property holds of all numbers of one list and of none of the other, they have no common number
 pub apart_by : (P : ℕ → Type 0) (ns ms : List ℕ) → All (λ n. P n → ⊥) ns → All P ms → (n : ℕ) → Contains ns n → Contains ms n → ⊥
 apart_by P ns ms none all n left right = All-contains (λ m. P m → ⊥) ns n none left (All-contains P ms n all right)

@@ -1,4 +1,4 @@
--- The lines of objects, and of a whole description, are read back as what they were written for.
+-- The lines of objects, and those of a whole description, are read back as what they were written for.
 use Rattle.image_describer.proofs.Names.{nat_tests, ℕ, nat_lt, true, List, [], codes, length, slice_index_or, Option, None, Some, IsSomeAnd, MatchOption, refl}
 use Rattle.image_describer.proofs.Names.{sym, subst, arith, IsTrue, list_all, is_bare, key_text, Data, Members, get_member, no_members, BankEntry, Description}
 use Rattle.image_describer.proofs.Names.{NodeEntry, PageEntry, ProcessEntry, AreFour, IsBank, IsCapability, IsDescription, IsList, IsNode, IsNumber, IsPage}
@@ -12,7 +12,7 @@ use Rattle.image_describer.proofs.Written.{data_unless, list_data, number_data, 
 use Rattle.image_describer.proofs.Written.{says_state, says_wide, says_words, slot_data, space_data, spells_four, spells_number_unless, spells_ranges}
 use Rattle.image_describer.proofs.Written.{spells_slots, spells_space, spells_state, spells_wide, spells_words, state_data, wide_data, word_data, words_data}
 
--- the value at a key encodes what was put there
+-- if the value of x was put at a key, the table has x there
 said_at : {A : Type 0} (P : Data → A → Type 0) (o : Option Data) (d : Data) (x : A) → o ≡ Some d → P d x → IsSomeAnd o (λ e. P e x)
 said_at P o d x is says = subst (λ (r : Option Data). IsSomeAnd r (λ e. P e x)) (sym is) says
 
@@ -20,17 +20,17 @@ said_or : {A : Type 0} (default : A) (P : Data → A → Type 0) (o r : Option D
     MatchOption r (x ≡ default) (λ e. P e x) → MatchOption o (x ≡ default) (λ e. P e x)
 said_or default P o r x is says = subst (λ (r : Option Data). MatchOption r (x ≡ default) (λ e. P e x)) (sym is) says
 
--- a key of letters is written without quotes
+-- a key of letters needs no quotes
 pub bare : (key : List ℕ) → (nat_lt 0 (length key) && list_all is_bare key) ≡ true → key_text key ≡ key
 unfolding key_text
 bare key letters = rw letters
 
--- the values at the keys that were put into an empty table
+-- the parameters: pairs with different keys that were put into an empty table
 module _ (ps : List Pair) (ms : Members) (chain : Chain ps no_members ms) (apart : IsTrue (are_apart ps)) where
   value_at : (i : ℕ) → i < length ps → get_member (slice_index_or ps i (codes "", None)).0 ms ≡ (slice_index_or ps i (codes "", None)).1
   value_at i inside = chain_at ps i (codes "", None) no_members ms chain apart inside refl
 
--- Banks.
+-- the keys of a bank, with their values
 abbrev pub bank_pairs : BankEntry → List Pair
 bank_pairs b =
     (codes "number", Some (number_data b.number)) ∷ (codes "owner", Some (number_data b.owner)) ∷ (codes "limit", Some (wide_data b.limit))
@@ -43,7 +43,7 @@ module _ (b : BankEntry) (may : SpellsBank b) where
   pub bank_read : IsRead bank_pairs IsBank b
   bank_read = grind (arith, nat_tests, are_pairs, bank_spelled, value_at, chain_only, no_members, said_at, says_wide)
 
--- Processes.
+-- the keys of a process, with their values
 abbrev pub process_pairs : ProcessEntry → List Pair
 process_pairs p =
     (codes "root", Some (number_data p.root)) ∷ (codes "annex", Some (number_data p.annex)) ∷ (codes "owner", Some (number_data p.owner)) ∷
@@ -90,7 +90,7 @@ module _ (p : ProcessEntry) (entry : IsProcessEntry p) (may : SpellsProcess p) w
     };
   }
 
--- Nodes.
+-- the keys of a node, with their values
 abbrev pub node_pairs : NodeEntry → List Pair
 node_pairs n =
     (codes "number", Some (number_data n.number)) ∷ (codes "owner", Some (number_data n.owner)) ∷
@@ -113,7 +113,7 @@ module _ (n : NodeEntry) (entry : AreSlots 0 n.slots.items) (may : SpellsNode n)
     };
   }
 
--- Pages.
+-- the keys of a page, with their values
 abbrev pub page_pairs : PageEntry → List Pair
 page_pairs p =
     (codes "number", Some (number_data p.number)) ∷ (codes "owner", Some (number_data p.owner)) ∷
@@ -136,7 +136,7 @@ module _ (p : PageEntry) (may : SpellsPage p) where
     };
   }
 
--- The keys of an image.
+-- the keys of the whole image, with their values
 abbrev pub image_pairs : Description → List Pair
 image_pairs d =
     (codes "nodes", Some (number_data d.geometry.nodes)) ∷ (codes "pages", Some (number_data d.geometry.pages)) ∷
@@ -147,7 +147,7 @@ module _ (d : Description) (may : CanBeSpelled d) where
   pub image_spelled : SpellFields (image_fields d) (image_pairs d)
   image_spelled = grind (arith, nat_tests, bare, deeper, spells_number, spells_number_unless, spells_ranges)
 
--- The whole, with what is put for each list of objects.
+-- all keys of a description, with these values for the lists of objects
 abbrev pub whole_pairs : Description → Option Data → Option Data → Option Data → Option Data → List Pair
 whole_pairs d banks processes nodes pages =
     image_pairs d ++ (codes "bank", banks) ∷ (codes "process", processes) ∷ (codes "node", nodes) ∷ (codes "page", pages) ∷ []

@@ -1,4 +1,4 @@
--- Descriptions that are read from the same table have the same frames.
+-- If two descriptions are read from the same table, they describe the same frames.
 use Rattle.image_describer.proofs.Names.{nat_tests, ℕ, suc, List, [], map, refl, sym, ap, subst, arith, All, Contains, All-cons, All-nil, Frame, Geometry}
 use Rattle.image_describer.proofs.Names.{frame_at, object_count, BankEntry, Description, NodeEntry, PageEntry, ProcessEntry, Each, IsSame, IsSameNode}
 use Rattle.image_describer.proofs.Names.{IsSamePage, IsSameProcess, IsDescribed, IsDescribedAnnex, IsDescribedNode, IsDescribedPage, IsDescribedRoot}
@@ -6,7 +6,7 @@ use Rattle.image_describer.proofs.Names.{first_frame, node_numbers, page_numbers
 use Rattle.std.proofs.Common.{◌≡◌, ◌∷◌, ◌++◌, ◌∙◌}
 use Rattle.model.specs.declared.object.Content.TheVariants as content
 
--- a property of all items of one list holds of all of the other
+-- if P holds of all items of one list, it holds of all related items of the other
 all_same : {A : Type 0} (R : A → A → Type 0) (P : A → Type 0) → ((x y : A) → R x y → P y → P x) → (xs ys : List A) → Each R xs ys →
     All P ys → All P xs
 all_same R P back [] ys each all = All-nil P
@@ -15,7 +15,7 @@ all_same R P back (x ∷ xs) (y ∷ ys) each all =
     All-cons P x xs (back x y each.0 (all 0 y (omega arith))) (all_same R P back xs ys each.1
     (λ k d inside. all (suc k) d (omega (arith, inside))))
 
--- the numbers of the items are the same
+-- related items have equal numbers
 numbers_same : {A : Type 0} (R : A → A → Type 0) (number : A → ℕ) → ((x y : A) → R x y → number x ≡ number y) → (xs ys : List A) →
     Each R xs ys → map number xs ≡ map number ys
 numbers_same R number same [] [] each = refl
@@ -23,7 +23,7 @@ numbers_same R number same [] (y ∷ ys) each = absurd each
 numbers_same R number same (x ∷ xs) [] each = absurd each
 numbers_same R number same (x ∷ xs) (y ∷ ys) each = grind (arith, nat_tests, numbers_same R number same xs ys each.1)
 
--- equivalent entries describe the same frames
+-- equal entries describe equal frames
 same_root : (p q : ProcessEntry) (f g : Frame) → IsSameProcess p q → f ≡ g → IsDescribedRoot q g → IsDescribedRoot p f
 same_root p q f g same frames is = grind (arith, nat_tests)
 
@@ -55,7 +55,7 @@ module _ (d e : Description) (same : IsSame d e) where
   same_numbers : node_numbers d ++ page_numbers d ≡ node_numbers e ++ page_numbers e
   same_numbers = grind (arith, nat_tests, numbers_same)
 
-  -- equivalent descriptions describe the same frames
+  -- equal descriptions describe equal frames
   pub same_described : (frames : List Frame) → IsDescribed e frames → IsDescribed d frames
   same_described frames is = record {
     count = is.count ∙ ap (λ (g : Geometry). object_count g) (sym same.geometry);

@@ -1,4 +1,4 @@
--- The description of a sound world has a text: its numbers are short enough.
+-- The numbers in the description of a sound world are small enough for a text.
 use Rattle.image_describer.proofs.Names.{nat_tests, ℕ, true, List, [], map, Option, Some, None, IfSome, refl, sym, ap, subst, arith, IsTrue, All, Contains}
 use Rattle.image_describer.proofs.Names.{All-contains, All-from_recursion, All-map, All-weaker, Contains-append_left, Contains-append_right, Cap, Capability}
 use Rattle.image_describer.proofs.Names.{Void, Frame, Geometry, Content, Object, named, frame_at, objects_of, AreKeptSlots, AreKeptWords, Follows, IsKeepable}
@@ -27,7 +27,7 @@ bank_kind : {C : Type 0} (g : Geometry) (n : ℕ) (c : Content C) → IsTrue (is
 bank_kind g n (content.Bank limit) bank kind = kind
 bank_kind g n other bank kind = absurd cc
 
--- the entries of slots and of words that a frame holds
+-- the parameters: a geometry and an age, at which the entries' slots and words have encodings
 module _ (g : Geometry) (age : ℕ) where
   pub slots_short : (first : ℕ) (entries : List SlotEntry) (slots : List Cap) → AreSlots first entries → HoldsNamed entries slots →
       AreKeptSlots g age slots → All SpellsSlot entries
@@ -52,7 +52,7 @@ module _ (g : Geometry) (age : ℕ) where
         subst (λ (v : ℕ). v < 2 ^ 64) is wide,
       ))
 
--- home ranges end where the numbers do
+-- the numbers of a home range end within those of the image
 abbrev IsInside : Geometry → HomeRange → Type 0
 IsInside g r = r.first + r.count ≤ g.nodes + g.pages
 
@@ -84,7 +84,7 @@ module _ (p : Plan) (plan : IsPlan p) (age : ℕ) (fs : List Frame) (d : Descrip
   numbers_few : object_count g ≤ 8192
   numbers_few = omega (arith, plan.geometry.most_nodes, plan.geometry.most_pages)
 
-  -- a described frame may be kept, and its owner is a bank
+  -- the parameters: the described frame of object n
   module _ (n owner : ℕ) (c : Content Cap) (is : frame_at (plain_frames os) n ≡ first_frame owner c) where
     kept : n < object_count g → MayBeKept g age c
     kept inside = (subst (IsKeepable g age n) is (plain.keepable.each n inside)).kept.content
@@ -108,7 +108,7 @@ module _ (p : Plan) (plan : IsPlan p) (age : ℕ) (fs : List Frame) (d : Descrip
         (sound.sound.kinds (owner_at os n)) in
         subst IsShort owner_is (omega (arith, few, plan.geometry.most_nodes))
 
-  -- the numbers that are named
+  -- each node number is below the number of nodes
   node_named : (n : ℕ) → Contains (node_numbers d) n → n < g.nodes
   node_named n there = rw (← describes.geometry) (All-contains (λ (k : ℕ). k < d.geometry.nodes) (node_numbers d) n describes.numbers.nodes
       there)
@@ -146,7 +146,7 @@ module _ (p : Plan) (plan : IsPlan p) (age : ℕ) (fs : List Frame) (d : Descrip
       (All-contains (λ (k : ℕ). (d.geometry.nodes ≤ k) × (k < object_count d.geometry)) _ _ describes.numbers.pages
       (contains_map (λ p. p.number) q _ there)).1
 
-  -- the objects
+  -- every number of a bank is small enough
   banks_short : All SpellsBank d.banks.items
   banks_short = all_from SpellsBank d.banks.items (λ b there.
       let is = All-contains (λ (c : BankEntry). frame_at (plain_frames os) c.number ≡ first_frame c.owner (content.Bank c.limit))

@@ -1,4 +1,4 @@
--- Objects of a kind, described one number after another.
+-- Making entries for all objects of a kind, number by number.
 use Rattle.image_describer.proofs.Names.{nat_tests, ℕ, inl, inr, List, [], map, length, Option, None, Some, option_to_list, sym, ap, subst, arith, All}
 use Rattle.image_describer.proofs.Names.{Contains, cases_lt, All-map, All-push, All-weaker, Contains-append_left, Contains-append_right, ObjectHeader, Object}
 use Rattle.image_describer.proofs.Names.{Role, role_of, content_at, Parts, objects_in, object_past, contains_here, map_both, AreRising, MayTell, TellAll}
@@ -8,7 +8,7 @@ use Rattle.model.specs.declared.object.Role.TheVariants as role
 use Rattle.image_describer.proofs.Rising.{rising_more}
 
 module _ {E : Type 0} (number : E → ℕ) (Tells : E → Type 0) (kind : Role) (os : List Object) where
-  -- the objects below a number are described
+  -- the objects of this kind below `count` have their entries
   pub record TellBelow (count : ℕ) (es : List E) : Type 0 where
     pub each : All Tells es
     pub whole : (n : ℕ) → n < count → role_of (content_at os n) ≡ kind → Contains (map number es) n
@@ -18,11 +18,11 @@ module _ {E : Type 0} (number : E → ℕ) (Tells : E → Type 0) (kind : Role) 
   pub tell_none : TellBelow 0 []
   tell_none = grind (arith, nat_tests)
 
-  -- a number of another kind has none
+  -- if the next number is of another kind, it needs no entry
   pub tell_less : (count : ℕ) (es : List E) → TellBelow count es → role_of (content_at os count) ≢ kind → TellBelow (count + 1) es
   tell_less count es tell other = grind (arith, nat_tests, All-weaker)
 
-  -- one more object of this kind has an entry
+  -- if the next number is of this kind, adding its entry extends the entries to it
   pub tell_more : (count : ℕ) (es : List E) (e : E) → TellBelow count es → number e ≡ count → Tells e → TellBelow (count + 1) (es ++ e ∷ [])
   tell_more count es e tell at entry_of = record {
     each = All-push Tells es e tell.each entry_of;
@@ -39,18 +39,18 @@ module _ {E : Type 0} (number : E → ℕ) (Tells : E → Type 0) (kind : Role) 
         (All-weaker (λ f. number f < count) (λ f. number f < number e) (λ f under. omega (arith, under, at)) es tell.below)));
   }
 
-  -- the next number is described
+  -- if the next number has its entry, or needs none, the entries extend to it
   pub tell_next : (count : ℕ) (es next : List E) (o : Option E) → TellBelow count es → MayTell number Tells kind os count o →
       next ≡ es ++ option_to_list o → TellBelow (count + 1) next
   tell_next count es next None tell may made = subst (TellBelow (count + 1)) (sym (made ∙ append-nil es)) (tell_less count es tell may)
   tell_next count es next (Some e) tell may made = subst (TellBelow (count + 1)) (sym made) (tell_more count es e tell may.0 may.1)
 
-  -- all are described where all else is free
+  -- if every further number is free, the entries are those of all objects of this kind
   pub tell_all : (count : ℕ) (es : List E) → TellBelow count es → kind ≢ role.Free →
       ((n : ℕ) → count ≤ n → role_of (content_at os n) ≡ role.Free) → TellAll number Tells kind os es
   tell_all count es tell some free = grind (arith, nat_tests)
 
--- past the last header all is free
+-- numbers without a header are free
 pub role_past : (p : Parts) (hs : List ObjectHeader) (count : ℕ) → hs ≡ p.headers → length hs ≤ count → (n : ℕ) → count ≤ n →
     role_of (content_at (objects_in p) n) ≡ role.Free
 role_past p hs count same all n past =

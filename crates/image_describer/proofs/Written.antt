@@ -1,4 +1,4 @@
--- The values in the text of a description: what TOML writes for each, and what is read back from it.
+-- The values in the text of a description: what TOML writes for each, and what is read from it.
 use Rattle.image_describer.proofs.Names.{ℕ, suc, pos, nat_lt, get_or, Bool, true, false, List, [], length, Option, Some, None, MatchOption, inl, inr, refl, sym}
 use Rattle.image_describer.proofs.Names.{ap, arith, All, list_all, cases_Bool, nat_tests, recursion_from_All, Data, string, integer, array, no_items, item}
 use Rattle.image_describer.proofs.Names.{NumberRange, Capability, Void, Number, Page, Space, Geometry, State, capability_text, state_text, AreFour, AreItems}
@@ -152,7 +152,7 @@ module _ (words : List WordEntry) (short : All SpellsWord words) where
   pub says_words : MatchOption (list_data word_data words) (words ≡ []) (λ d. IsList IsWord d words)
   says_words = says_some word_text word_data IsWord SpellsWord spells_word says_word words short
 
--- ---- values that are left out at their defaults
+-- ---- values that are omitted at their defaults
 
 abbrev pub data_unless : Bool → Data → Option Data
 data_unless is_default d = if is_default then None else Some d
@@ -176,7 +176,7 @@ pub says_number_unless : (default n : ℕ) → IsShort n → MatchOption (data_u
     (λ d. IsNumber d n)
 says_number_unless default n short = says_unless (n == default) (number_data n) n default IsNumber (same_number n default) (short, refl)
 
--- the words of a process
+-- if four words are all 0, they are the default
 four_zeros : (words : List ℕ) → length words ≡ 4 → list_all (λ w. w == 0) words ≡ true → words ≡ 0 ∷ 0 ∷ 0 ∷ 0 ∷ []
 four_zeros (a ∷ b ∷ c ∷ d ∷ []) four zeros = grind (arith, nat_tests, zeros)
 four_zeros words four zeros = absurd (omega (arith, four))
@@ -194,7 +194,7 @@ module _ (words : List ℕ) (four : length words ≡ 4) (wide : All IsWide words
       (four_zeros words four)
       (four, says_all wide_text wide_data 0 IsWideNumber IsWide spells_wide says_wide words wide)
 
--- an address space
+-- the value of an address space, omitted if the space is void
 abbrev pub space_data : Option Capability → Option Data
 space_data (Some Void) = None
 space_data space = Some (held_data space)
@@ -215,7 +215,7 @@ says_space (Some (Page o a)) is wide = (is.0, wide, refl)
 says_space (Some (Space o h a)) is wide = (is.0, wide, refl)
 says_space space is wide = absurd (grind (arith, nat_tests))
 
--- the home ranges
+-- if a range passes the test, it has this first number and this count
 range_is : (r : NumberRange) (n count : ℕ) → (r.first == n && r.count == count) ≡ true → r ≡ record { first = n; count = count }
 range_is r n count is =
     let at : r.first ≡ n = grind (arith, nat_tests, is) in
@@ -226,7 +226,7 @@ range_is r n count is =
 whole_is : (g : Geometry) (rs : List NumberRange) → are_whole g rs ≡ true → rs ≡ whole_ranges g
 whole_is g rs is = grind (arith, nat_tests, range_is, left, right)
 
--- two ranges, as the code tests them
+-- for two ranges the code's test is the definition's
 two_ranges : (g : Geometry) (rs : List NumberRange) (x : NumberRange) → 2 ≤ length rs → length rs < 3 →
     are_whole g rs ≡ (is_range (get_or rs 0 x) 0 g.nodes && is_range (get_or rs 1 x) g.nodes g.pages)
 two_ranges g (n ∷ p ∷ []) x least most = refl

@@ -7,24 +7,26 @@ use Rattle.model.specs.declared.object.Content.TheVariants as content
 use Rattle.model.specs.declared.object.Role.TheVariants as role
 use Rattle.image_describer.specs.Brief.{AreRising, NamesSlots, NamesWords}
 
--- the entry for item x at index i: it has the item, or is `None` if the item is the default
+-- what is made for item x at index i: an entry with it, or `None` if x is the default
 abbrev pub MayName : {E V : Type 0} → (E → ℕ) → (E → V) → V → ℕ → V → Option E → Type 0
 MayName index value default i x (Some e) = (index e ≡ i) × (value e ≡ x) × (x ≢ default)
 MayName index value default i x None = x ≡ default
 
--- an entry describes the object at its number
+-- the entry describes the bank at its number
 abbrev pub TellsBank : List Object → BankEntry → Type 0
 TellsBank os b = object_at os b.number ≡ record { owner = b.owner; content = content.Bank b.limit }
 
+-- the entry describes the node at its number
 abbrev pub TellsNode : List Object → NodeEntry → Type 0
 TellsNode os n = (slots : List Capability) × NamesSlots slots n.slots.items ×
     (object_at os n.number ≡ record { owner = n.owner; content = content.Node slots })
 
+-- the entry describes the page at its number
 abbrev pub TellsPage : List Object → PageEntry → Type 0
 TellsPage os p = (words : List ℕ) × NamesWords words p.words.items ×
     (object_at os p.number ≡ record { owner = p.owner; content = content.Page words })
 
--- the entry of a process describes its root and its annex
+-- the entry of a process describes its root
 abbrev pub TellsRoot : List Object → ProcessEntry → Type 0
 TellsRoot os p = (state : State) × (space : Capability) × (p.state ≡ Some state) × (p.space ≡ Some space)
     × (object_at os p.root ≡ record {
@@ -32,19 +34,21 @@ TellsRoot os p = (state : State) × (space : Capability) × (p.state ≡ Some st
       content = content.Root (record { state = state; words = p.words; key = p.key; annex = p.annex; space = space });
     })
 
+-- the entry of a process describes its annex
 abbrev pub TellsAnnex : List Object → ProcessEntry → Type 0
 TellsAnnex os p = (registers : List Capability) × NamesSlots registers p.registers.items
     × (object_at os p.annex ≡ record { owner = p.owner; content = content.Annex registers })
 
+-- the entry describes a process: its root and its annex
 abbrev pub TellsProcess : List Object → ProcessEntry → Type 0
 TellsProcess os p = TellsRoot os p × TellsAnnex os p
 
--- the entry for number n: it describes the object, or is `None` if the object is of another kind
+-- what is made for number n: an entry that describes its object, or `None` if the object is of another kind
 abbrev pub MayTell : {E : Type 0} → (E → ℕ) → (E → Type 0) → Role → List Object → ℕ → Option E → Type 0
 MayTell number Tells kind os n (Some e) = (number e ≡ n) × Tells e
 MayTell number Tells kind os n None = role_of (content_at os n) ≢ kind
 
--- entries describe all objects of a kind, in order
+-- the entries describe all objects of a kind, in rising order
 pub record TellAll {E : Type 0} (number : E → ℕ) (Tells : E → Type 0) (kind : Role) (os : List Object) (es : List E) :
     Type 0 where
   pub each : All Tells es
@@ -65,7 +69,7 @@ pub record TellsObjects (os : List Object) (d : Description) : Type 0 where
   pub nodes : TellAll (λ n. n.number) (TellsNode os) role.Node os d.nodes.items
   pub pages : TellAll (λ p. p.number) (TellsPage os) role.Page os d.pages.items
 
--- what two descriptions say besides objects is the same
+-- two descriptions are equal except for their objects
 pub record IsSameBeside (old new : Description) : Type 0 where
   pub geometry : new.geometry ≡ old.geometry
   pub layout : new.layout ≡ old.layout

@@ -1,4 +1,4 @@
--- An image of other sizes: nodes keep their numbers, and pages follow the nodes.
+-- A world in an image of other sizes: nodes keep their numbers, and pages follow the nodes.
 use Rattle.image_describer.specs.Names.{ℕ, nat_lt, false, Option, None, Some, List, map, length, All, AllZip}
 use Rattle.image_describer.specs.Names.{NumberRange, IsGeometry, Capability, Void, Number, Page, Node, Space, Process}
 use Rattle.image_describer.specs.Names.{Start, Resume, Bank, Discrim, Geometry, Object, free, is_free, map_content}
@@ -7,11 +7,11 @@ use Rattle.image_describer.specs.Names.{ProcessEntry, SlotEntry, whole_ranges, G
 use Rattle.std.specs.Prelude.{◌≡◌, ◌≢◌, ◌+◌, ◌-◌, ◌<◌, ◌≤◌, ◌==◌, ◌&&◌, if◌then◌else◌}
 use Rattle.description.specs.declared.sizes.GrowthFault.TheVariants as fault
 
--- the number of an object in the other image: that of a page moves with the number of nodes
+-- the number of object n in the other image: a page's number changes by as much as the number of nodes
 abbrev pub moved : Geometry → Geometry → ℕ → ℕ
 moved old new n = if nat_lt n old.nodes then n else if nat_lt n (object_count old) then n - old.nodes + new.nodes else n
 
--- a capability, renumbered: it names its object by the number in the other image
+-- a capability to the same object in the other image
 abbrev pub moved_capability : (ℕ → ℕ) → Capability → Capability
 moved_capability at Void = Void
 moved_capability at (Number n) = Number n
@@ -28,8 +28,8 @@ moved_capability at Discrim = Discrim
 abbrev pub moved_object : (ℕ → ℕ) → Object → Object
 moved_object at o = record { owner = o.owner; content = map_content (moved_capability at) o.content }
 
--- The objects of a world in an image of other sizes: each at its number there, with its capabilities renumbered, and
--- all else free.
+-- The objects of a world in an image of other sizes: each has its new number, and its capabilities are renumbered.
+-- All other numbers are free.
 pub record IsGrown (old new : Geometry) (w v : World) : Type 0 where
   pub count : length v.objects ≡ object_count new
   pub age : v.age ≡ w.age
@@ -38,24 +38,25 @@ pub record IsGrown (old new : Geometry) (w v : World) : Type 0 where
   pub others : (m : ℕ) → ((n : ℕ) → is_free (content_at w.objects n) ≡ false → moved old new n ≢ m) →
       object_at v.objects m ≡ free
 
--- each object with a node's number has a number in the other image; so has each page
+-- every object with a node's number has a number in the other image
 abbrev pub NodesFit : Geometry → Geometry → World → Type 0
 NodesFit old new w = (n : ℕ) → is_free (content_at w.objects n) ≡ false → n < old.nodes → n < new.nodes
 
+-- every page has a number in the other image
 abbrev pub PagesFit : Geometry → Geometry → World → Type 0
 PagesFit old new w = (n : ℕ) → is_free (content_at w.objects n) ≡ false → old.nodes ≤ n →
     moved old new n < object_count new
 
--- the least reason why a world has no image of other sizes; or memory ran out
+-- why a world has no image of other sizes: the first that applies; or memory ran out
 abbrev pub IsUnsuited : Geometry → Geometry → World → GrowthFault → Type 0
 IsUnsuited old new w fault.Limits = IsGeometry new → ⊥
 IsUnsuited old new w fault.Nodes = IsGeometry new × (NodesFit old new w → ⊥)
 IsUnsuited old new w fault.Pages = IsGeometry new × NodesFit old new w × (PagesFit old new w → ⊥)
 IsUnsuited old new w fault.NoMemory = Unit {0}
 
--- The same of a description.
+-- ---- the same for a description
 
--- home ranges stay if the counts of nodes and pages do; else there is one of all nodes and one of all pages
+-- if the numbers of nodes and pages stay, the home ranges stay; else there is one of all nodes and one of all pages
 abbrev pub grown_ranges : Geometry → Geometry → List NumberRange → List NumberRange
 grown_ranges old new ranges = if old.nodes == new.nodes && old.pages == new.pages then ranges else whole_ranges new
 
@@ -66,7 +67,7 @@ moved_held at (Some c) = Some (moved_capability at c)
 abbrev pub moved_slot : (ℕ → ℕ) → SlotEntry → SlotEntry
 moved_slot at s = record { index = s.index; capability = moved_held at s.capability }
 
--- entries that name the same, with their numbers and capabilities renumbered
+-- q is process p with its capabilities renumbered
 pub record IsMovedProcess (at : ℕ → ℕ) (p q : ProcessEntry) : Type 0 where
   pub root : q.root ≡ p.root
   pub annex : q.annex ≡ p.annex
@@ -77,11 +78,13 @@ pub record IsMovedProcess (at : ℕ → ℕ) (p q : ProcessEntry) : Type 0 where
   pub space : q.space ≡ moved_held at p.space
   pub registers : q.registers.items ≡ map (moved_slot at) p.registers.items
 
+-- m is node n with its capabilities renumbered
 pub record IsMovedNode (at : ℕ → ℕ) (m n : NodeEntry) : Type 0 where
   pub number : n.number ≡ m.number
   pub owner : n.owner ≡ m.owner
   pub slots : n.slots.items ≡ map (moved_slot at) m.slots.items
 
+-- q is page p with a new number
 pub record IsMovedPage (at : ℕ → ℕ) (p q : PageEntry) : Type 0 where
   pub number : q.number ≡ at p.number
   pub owner : q.owner ≡ p.owner
@@ -97,16 +100,17 @@ pub record IsRenumbered (d e : Description) : Type 0 where
   pub nodes : AllZip (IsMovedNode (moved d.geometry e.geometry)) d.nodes.items e.nodes.items
   pub pages : AllZip (IsMovedPage (moved d.geometry e.geometry)) d.pages.items e.pages.items
 
--- the node numbers that a description names are below `count`; its page numbers, moved, exist in the other image
+-- the node numbers of a description are below `count`
 pub record NamesNodes (count : ℕ) (d : Description) : Type 0 where
   pub banks : All (λ b. b.number < count) d.banks.items
   pub processes : All (λ p. (p.root < count) × (p.annex < count)) d.processes.items
   pub nodes : All (λ n. n.number < count) d.nodes.items
 
+-- each page of a description has a number in the other image
 abbrev pub NamesPages : Geometry → Geometry → Description → Type 0
 NamesPages old new d = All (λ p. moved old new p.number < object_count new) d.pages.items
 
--- the least reason why a description isn't renumbered; or memory ran out
+-- why a description can't be renumbered: the first that applies; or memory ran out
 abbrev pub IsNotRenumbered : Description → Geometry → GrowthFault → Type 0
 IsNotRenumbered d new fault.Limits = IsGeometry new → ⊥
 IsNotRenumbered d new fault.Nodes = IsGeometry new × (NamesNodes new.nodes d → ⊥)

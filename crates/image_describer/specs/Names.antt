@@ -1,4 +1,4 @@
--- The names of other crates that the definitions here cite.
+-- The names of other crates that the definitions here import.
 pub use Rattle.description.specs.Described.{HasFields, IsDescribed, IsWorldFault, first_named}
 pub use Rattle.description.specs.Describes.{Describes}
 pub use Rattle.description.specs.Reading.{IsDescription, whole_ranges}

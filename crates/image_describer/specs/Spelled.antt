@@ -4,14 +4,15 @@ use Rattle.image_describer.specs.Names.{BankEntry, Description, NodeEntry, PageE
 use Rattle.image_describer.specs.Names.{WordEntry}
 use Rattle.std.specs.Prelude.{◌≡◌, ◌^◌, ◌<◌}
 
--- a number that TOML has; a number of 64 bits
+-- a number that TOML has as an integer
 abbrev pub IsShort : ℕ → Type 0
 IsShort n = n < 2 ^ 63
 
+-- a number of 64 bits
 abbrev pub IsWide : ℕ → Type 0
 IsWide n = n < 2 ^ 64
 
--- a capability whose object has a number of 64 bits
+-- the capability names a number of 64 bits, or nothing
 abbrev pub NamesWide : Option Capability → Type 0
 NamesWide c = IfSome c (λ held. IfSome (named held) IsWide)
 
@@ -42,7 +43,7 @@ SpellsPage p = IsShort p.number × IsShort p.owner × All SpellsWord p.words.ite
 abbrev pub SpellsGeometry : Geometry → Type 0
 SpellsGeometry g = IsShort g.nodes × IsShort g.pages × IsShort g.log
 
--- words, limits and the numbers in capabilities have 64 bits, and all other numbers are below 2^63
+-- words, limits and numbers in capabilities have 64 bits; all other numbers are below 2^63
 pub record CanBeSpelled (d : Description) : Type 0 where
   pub geometry : SpellsGeometry d.geometry
   pub layout : IsShort d.layout

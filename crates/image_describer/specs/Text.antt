@@ -5,28 +5,31 @@ use Rattle.image_describer.specs.Names.{State, capability_text, line_of, state_t
 use Rattle.image_describer.specs.Names.{PageEntry, ProcessEntry, SlotEntry, WordEntry}
 use Rattle.std.specs.Prelude.{◌^◌, ◌==◌, ◌&&◌, if◌then◌else◌, ◌∷◌, ◌++◌}
 
--- Values
+-- ---- values
 
 -- a text in quotes
 abbrev pub quoted : List ℕ → List ℕ
 quoted text = codes "\"" ++ text ++ codes "\""
 
--- a number of 64 bits: from 2^63 on, where the numbers of TOML end, it is the text of its capability
+-- a number of 64 bits: an integer below 2^63; from there on, where TOML has no integers, the text of a number
+-- capability
 abbrev pub wide_text : ℕ → List ℕ
 wide_text n = if nat_lt n (2 ^ 63) then decimal n else quoted (capability_text (Number n))
 
--- the text of a capability; of a state
+-- a capability in quotes
 abbrev pub held_text : Option Capability → List ℕ
 held_text c = quoted (capability_text (unwrap_or c Void))
 
+-- a state in quotes
 abbrev pub state_value : Option State → List ℕ
 state_value None = quoted []
 state_value (Some state) = quoted (state_text state)
 
--- the text of a list; of a list of two values
+-- a list of values
 abbrev pub list_text : {A : Type 0} → (A → List ℕ) → List A → List ℕ
 list_text f xs = codes "[" ++ join_by f (codes ", ") xs ++ codes "]"
 
+-- a list of two values
 abbrev pub pair_text : List ℕ → List ℕ → List ℕ
 pair_text first second = codes "[" ++ first ++ codes ", " ++ second ++ codes "]"
 
@@ -39,24 +42,26 @@ word_text w = pair_text (decimal w.index) (wide_text w.word)
 abbrev pub range_text : NumberRange → List ℕ
 range_text r = pair_text (decimal r.first) (decimal r.count)
 
--- Keys
+-- ---- keys
 
--- a key and its value, or none where the key is left out
+-- a key and the text of its value, if it isn't omitted
 abbrev pub Field : Type 0
 Field = List ℕ × Option (List ℕ)
 
+-- the line of a key; nothing if its value is omitted
 abbrev pub field_line : Field → List ℕ
 field_line (key, None) = []
 field_line (key, Some value) = line_of (key ++ codes " = " ++ value)
 
+-- the lines of all keys
 abbrev pub field_lines : List Field → List ℕ
 field_lines fields = flat_map field_line fields
 
--- the line that begins an object, after an empty one
+-- an empty line, then the line that begins an object
 abbrev pub begin_line : List ℕ → List ℕ
 begin_line name = codes "\n[[" ++ name ++ codes "]]\n"
 
--- a value that is left out at its default
+-- a value, omitted if it is the default
 abbrev pub unless : Bool → List ℕ → Option (List ℕ)
 unless is_default value = if is_default then None else Some value
 
@@ -74,15 +79,16 @@ abbrev pub list_unless_empty : {A : Type 0} → (A → List ℕ) → List A → 
 list_unless_empty f [] = None
 list_unless_empty f (x ∷ xs) = Some (list_text f (x ∷ xs))
 
--- whether a range is this one; whether ranges are one of all nodes and one of all pages
+-- whether a range has this first number and this count
 abbrev pub is_range : NumberRange → ℕ → ℕ → Bool
 is_range r n count = r.first == n && r.count == count
 
+-- whether there are two ranges: all nodes, and all pages
 abbrev pub are_whole : Geometry → List NumberRange → Bool
 are_whole g (n ∷ p ∷ []) = is_range n 0 g.nodes && is_range p g.nodes g.pages
 are_whole g _ = false
 
--- Objects
+-- ---- objects
 
 abbrev pub bank_fields : BankEntry → List Field
 bank_fields b = (codes "number", Some (decimal b.number)) ∷ (codes "owner", Some (decimal b.owner)) ∷
@@ -117,7 +123,7 @@ node_text n = begin_line (codes "node") ++ field_lines (node_fields n)
 abbrev pub page_text : PageEntry → List ℕ
 page_text p = begin_line (codes "page") ++ field_lines (page_fields p)
 
--- The whole
+-- ---- the whole
 
 abbrev pub image_fields : Description → List Field
 image_fields d =
@@ -126,7 +132,7 @@ image_fields d =
     ∷ (codes "layout", number_unless 1 d.layout) ∷ (codes "age", number_unless 0 d.age)
     ∷ (codes "ranges", unless (are_whole d.geometry d.ranges.items) (list_text range_text d.ranges.items)) ∷ []
 
--- the keys of the image, and after them its objects
+-- the keys of the whole image, then its objects
 unfoldable pub description_text : Description → List ℕ
 description_text d = field_lines (image_fields d) ++ flat_map bank_text d.banks.items ++ flat_map process_text
     d.processes.items

@@ -1,4 +1,4 @@
-// Appending an optional entry to a list.
+// Appending an entry, if there is one.
 ghost use Rattle.std.specs.Prelude.{◌≡◌, ◌++◌, OnOk, option_to_list};
 
 use std::alloc::AllocError;

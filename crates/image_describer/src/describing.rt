@@ -16,8 +16,8 @@ use layout::Version;
 use model::Refusal;
 use std::alloc::Global;
 
-// Appends entries for all objects of a kind, in order. This and `tell_objects` return `Fault` exactly if the device
-// failed.
+// Appends entries for all objects of a kind, in rising order. This function and `tell_objects` return `Fault`
+// exactly if the device failed.
 fn tell_all<F: Frames, E: DescribedEntry>(
     alloc: Global,
     store: &mut F,
@@ -37,7 +37,7 @@ fn tell_all<F: Frames, E: DescribedEntry>(
     Ok(())
 }
 
-// Adds entries for all objects to a description that has none yet.
+// Adds entries for all objects to a description without objects.
 fn tell_objects<F: Frames>(
     alloc: Global,
     store: &mut F,
@@ -56,11 +56,13 @@ fn tell_objects<F: Frames>(
     tell_all(alloc, store, &mut description.pages)
 }
 
-/// Returns the description of the objects of a store, which must be sound at this age, with these home ranges and
-/// this version of the layout. It has an entry for each object in use, in rising order, without slots that are void
-/// or stale and without words that are 0. An image built from it has the same objects, with counts of 0.
+/// Returns the description of a store's objects, with these home ranges and this layout version. The objects must
+/// be sound at this age.
 ///
-/// Returns `NoMemory` if memory ran out, and `Fault` exactly if the device failed. No object changes.
+/// It has an entry for each object in use, in rising order; void or stale slots and words that are 0 are omitted.
+/// An image built from it has the same objects, with counts of 0.
+///
+/// Returns `NoMemory` if memory runs out, and `Fault` exactly if the device failed. No object changes.
 pub fn describe<F: Frames>(
     alloc: Global,
     store: &mut F,

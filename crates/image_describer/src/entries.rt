@@ -1,4 +1,4 @@
-// Entries for slots and words: only those that aren't at their default, in order.
+// Entries for slots and words. Those that have their default get no entry.
 ghost use Rattle.std.specs.Prelude.{ℕ, IfOk, unwrap_or};
 ghost use Rattle.model.specs.declared.capability.Capability.TheVariants.{Void};
 ghost use Rattle.image_describer.specs.Brief.{Names};
@@ -9,7 +9,7 @@ use description::{SlotEntry, WordEntry};
 use model::Capability;
 use std::alloc::{AllocError, Global};
 
-/// A kind of entry for items in a list. Items at their default have no entry.
+/// A kind of entry for the items of a list. Items that equal the default have no entry.
 pub(crate) trait SparseEntry: Drop {
     /// The type of the items.
     type Item: Copy;
@@ -20,7 +20,7 @@ pub(crate) trait SparseEntry: Drop {
 
     ghost default: { Self.Item };
 
-    /// Returns the entry for an item, or `None` if the item is at its default.
+    /// Returns the entry for an item, or `None` if the item is the default.
     fn of_item(place: u64, item: Self::Item) -> Option<Self>
         ensures { MayName index value default place item result };
 }
@@ -66,7 +66,7 @@ impl SparseEntry for WordEntry {
     }
 }
 
-/// Returns entries for all items that aren't at their default. Fails only if memory runs out.
+/// Returns entries for all items that aren't the default, in order. Fails only if memory runs out.
 pub(crate) fn entries_of<E: SparseEntry>(
     alloc: Global,
     items: &[E::Item],

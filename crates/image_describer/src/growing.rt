@@ -66,7 +66,7 @@ fn moved_capability(old: Geometry, new: Geometry, capability: Capability) -> Cap
     }
 }
 
-// Returns the same for a capability that may be absent.
+// Returns a capability, if there is one, to the same object in an image of other sizes.
 fn moved_held(old: Geometry, new: Geometry, capability: Option<Capability>) -> Option<Capability>
     requires old { object_count old ≤ 8192 }
     requires new { new.nodes ≤ 4096 }
@@ -80,10 +80,10 @@ fn moved_held(old: Geometry, new: Geometry, capability: Option<Capability>) -> O
 
 // An entry that can be renumbered.
 trait Renumbered {
-    /// How the entry is renumbered, where the function gives the new number of each object.
+    /// The second entry is the first one renumbered. The function gives each object's new number.
     ghost IsMoved: { (ℕ → ℕ) → Self → Self → Type 0 };
 
-    /// Renumbers the entry, or the capabilities that it holds.
+    /// Renumbers the entry's object and its capabilities.
     fn renumber(&mut self, old: Geometry, new: Geometry)
         requires old { object_count old ≤ 8192 }
         requires new { new.nodes ≤ 4096 }
@@ -143,7 +143,7 @@ impl Renumbered for PageEntry {
     }
 }
 
-// Whether the numbers of banks, processes and nodes are below a count.
+// Whether the numbers of all banks, processes and nodes are below a count.
 fn names_nodes(count: u64, description: &Description) -> bool
     ensures { IsTrue result ↔ NamesNodes count description.now }
 {
@@ -155,7 +155,7 @@ fn names_nodes(count: u64, description: &Description) -> bool
         && description.nodes.iter().all(|node| node.number < count)
 }
 
-// Whether the numbers of pages exist in an image of other sizes.
+// Whether each page has a number in an image of other sizes.
 fn names_pages(new: Geometry, description: &Description) -> bool
     requires old { object_count description.now.geometry ≤ 8192 }
     requires new { object_count new ≤ 8192 }
@@ -193,7 +193,8 @@ fn has_as_many(old: Geometry, new: Geometry) -> bool
     old.nodes == new.nodes && old.pages == new.pages
 }
 
-// Returns the home ranges of an image of other sizes: the old ones if they fit, else `whole`.
+// Returns the home ranges for an image of other sizes: the old ones if the numbers of nodes and
+// pages stay, else `whole`.
 fn ranges_for<'a>(
     old: Geometry,
     new: Geometry,
@@ -206,7 +207,8 @@ fn ranges_for<'a>(
     if has_as_many(old, new) { ranges } else { whole }
 }
 
-// Replaces the ranges by that of all nodes and that of all pages. There must be memory for two.
+// Replaces the ranges by one of all nodes and one of all pages. The vector must have memory for
+// two.
 fn put_whole(geometry: Geometry, ranges: &mut Vec<NumberRange>)
     requires { 2 ≤ vec_capacity ranges.old }
     ensures { ranges.new.items ≡ whole_ranges geometry }
@@ -215,7 +217,7 @@ fn put_whole(geometry: Geometry, ranges: &mut Vec<NumberRange>)
     let _ = ranges.extend_from_slice(&whole_ranges(geometry));
 }
 
-// Makes sure that there is memory for two ranges. The ranges themselves may be lost.
+// Makes sure that the vector has memory for two ranges. It may lose its ranges.
 fn make_room(alloc: Global, ranges: &mut Vec<NumberRange>) -> Result<(), AllocError>
     ensures ok { OnOk result (2 ≤ vec_capacity ranges.new) }
     ensures same { OnErr result (ranges.new ≡ ranges.old) }
@@ -228,8 +230,7 @@ fn make_room(alloc: Global, ranges: &mut Vec<NumberRange>) -> Result<(), AllocEr
     Ok(())
 }
 
-// Replaces the home ranges by those for an image of other sizes. It needs memory only if the old ranges have none for
-// two.
+// Replaces the home ranges by those for an image of other sizes. It needs memory only if the vector has none for two.
 fn set_ranges(
     alloc: Global,
     old: Geometry,
@@ -248,7 +249,7 @@ fn set_ranges(
     Ok(())
 }
 
-// Refuses sizes for which a description can't be renumbered.
+// Returns why a description can't be renumbered for these sizes, if it can't.
 #[tactic(auto, using(crate::proofs::GrownRanges::ranges_suit))]
 fn check_sizes(description: &Description, new: Geometry) -> Result<(), GrowthFault>
     requires laid { MayBeLaid description.now.geometry description.now.ranges.items }
@@ -260,7 +261,7 @@ fn check_sizes(description: &Description, new: Geometry) -> Result<(), GrowthFau
 {
     let whole = whole_ranges(new);
     let ranges = ranges_for(description.geometry, new, &description.ranges, &whole);
-    // Ranges that can be laid out in one version can be laid out in each.
+    // Whether ranges can be laid out doesn't depend on the version.
     if let None = lay_out(Version::NEWEST, new, ranges) {
         return Err(GrowthFault::Limits);
     }
@@ -273,16 +274,16 @@ fn check_sizes(description: &Description, new: Geometry) -> Result<(), GrowthFau
     Ok(())
 }
 
-/// Renumbers a description for an image of other sizes. Nodes keep their numbers. If the number of nodes changes, the
-/// number of each page changes by as much: that of the object, and in each capability to it. If the numbers of nodes
-/// and pages stay, the home ranges stay too. Otherwise they become one of all nodes and one of all pages.
+/// Renumbers a description for an image of other sizes. Nodes keep their numbers. If the number of nodes changes,
+/// each page's number changes by as much, also in capabilities. If the numbers of nodes and pages stay, the home
+/// ranges stay too. Otherwise they become one of all nodes and one of all pages.
 ///
-/// Returns the first of these errors that holds, and then changes nothing:
+/// Returns the first error that applies, and then changes nothing:
 ///
-/// - `Limits` if no image may have these sizes;
-/// - `Nodes` if the number of a bank, a process or a node is beyond the new number of nodes;
-/// - `Pages` if the number of a page doesn't exist in such an image;
-/// - `NoMemory` if memory ran out. It needs memory only if the old home ranges have none for two.
+/// - `Limits`: no image may have these sizes;
+/// - `Nodes`: the number of a bank, process or node is beyond the new number of nodes;
+/// - `Pages`: the number of a page is beyond the last number of such an image;
+/// - `NoMemory`: memory ran out. It needs memory only if the old home ranges have none for two.
 pub fn grow(
     alloc: Global,
     description: &mut Description,

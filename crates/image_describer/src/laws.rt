@@ -1,24 +1,24 @@
-//! Laws of descriptions of worlds. Each is the contract of a function that does nothing.
+//! Laws of descriptions of worlds. Each is the contract of an empty function.
 
 ghost use Rattle.image_describer.specs.Laws.{DescribedHasText, DescribedIsLaid, DescribedIsSame, GrownIsDescribed};
 ghost use Rattle.image_describer.specs.Laws.{GrownToItself, TextIsRead};
 
-/// The frames of a world's description stand for the same world, at its age, and are sound.
+/// The frames of a world's description are sound, and stand for that world at its age.
 pub fn described_is_same()
     ensures { DescribedIsSame }
 {}
 
-/// A description of a world has no fault in itself: it can be laid out.
+/// The world of a world's description can be laid out.
 pub fn described_is_laid()
     ensures { DescribedIsLaid }
 {}
 
-/// A description of a world, with the home ranges and the version of an image, can be written as text.
+/// The description of a world, with the home ranges and version of an image, has a text.
 pub fn described_has_text()
     ensures { DescribedHasText }
 {}
 
-/// From the text of a description the same description is read.
+/// If the text of a description is read, the result is that description.
 #[tactic(auto, using(crate::proofs::ReadBack::text_is_read))]
 pub fn text_is_read()
     ensures { TextIsRead }
@@ -30,7 +30,7 @@ pub fn grown_is_described()
     ensures { GrownIsDescribed }
 {}
 
-/// Renumbering for an image of the same sizes changes nothing.
+/// If the sizes stay, renumbering changes nothing.
 pub fn grown_to_itself()
     ensures { GrownToItself }
 {}

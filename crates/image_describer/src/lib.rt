@@ -1,5 +1,4 @@
-//! Images as text: the objects of a store become a description of the same world. A description can be renumbered for
-//! an image of other sizes.
+//! Images as text: describing the objects of a store, and renumbering a description for an image of other sizes.
 #![tactic(auto)]
 
 mod adding;

@@ -16,7 +16,7 @@ use description::{BankEntry, NodeEntry, PageEntry, ProcessEntry, SlotEntry};
 use model::{Content, Object, Refusal, Role};
 use std::alloc::Global;
 
-// Whether an object is of a kind, according to the table of headers. Fetches nothing.
+// Whether an object is of a kind, by its header. Fetches nothing.
 fn has_role<F: Frames>(store: &F, number: u64, role: Role) -> bool
     requires { HaveTheirRoles (frames_of (F.parts store.now)) }
     ensures { IsTrue result
@@ -25,7 +25,7 @@ fn has_role<F: Frames>(store: &F, number: u64, role: Role) -> bool
     store.table().header(number).role == role
 }
 
-// Fetches an object, and returns it with its stale capabilities void.
+// Fetches an object, and returns it with void in place of stale capabilities.
 fn object<F: Frames>(alloc: Global, store: &mut F, number: u64) -> Result<Object, Refusal>
     requires usable { F.IsUsable store.old }
     requires sound { AreSound (F.parts store.old) }
@@ -38,7 +38,7 @@ fn object<F: Frames>(alloc: Global, store: &mut F, number: u64) -> Result<Object
     Ok(view::object(alloc, store, number)?)
 }
 
-// Fetches an annex, and returns those of its registers that aren't void.
+// Fetches an annex, and returns its registers that aren't void.
 fn registers<F: Frames>(alloc: Global, store: &mut F, annex: u64) -> Result<Vec<SlotEntry>, Refusal>
     requires usable { F.IsUsable store.old }
     requires sound { AreSound (F.parts store.old) }
@@ -53,12 +53,12 @@ fn registers<F: Frames>(alloc: Global, store: &mut F, annex: u64) -> Result<Vec<
     Ok(entries_of(alloc, slots.as_slice())?)
 }
 
-/// An entry that describes an object of a kind.
+/// An entry that describes an object.
 pub(crate) trait DescribedEntry: Drop {
     /// The number of the entry's object.
     ghost number_of: { Self → ℕ };
 
-    /// Whether the entry describes its object in this list.
+    /// The entry describes the object at its number in this list.
     ghost Tells: { List Object → Self → Type 0 };
 
     ghost kind: { Role };
@@ -77,7 +77,7 @@ pub(crate) trait DescribedEntry: Drop {
             IfOk result (MayTell number_of (Tells objects) kind objects number) }
         ensures only_reads { OnlyReads F.parts F.ContinuesTo store.old store.new result };
 
-    /// The kind isn't `Free`: a free number has no entry.
+    /// The kind isn't `Free`: free numbers have no entries.
     ghost is_kept: { kind ≢ role.Free };
 }
 
@@ -110,7 +110,7 @@ impl DescribedEntry for BankEntry {
     }
 }
 
-// The entry of a process has the root's number, and the registers of the annex.
+// A process's entry has the root's number and the annex's registers.
 impl DescribedEntry for ProcessEntry {
     ghost number_of = { λ p. p.root };
 

@@ -1,4 +1,4 @@
-// The home ranges of an image, in the form of a description.
+// The home ranges of an image, as a description lists them.
 ghost use Rattle.std.specs.Prelude.{◌≡◌, map, IfOk};
 ghost use Rattle.home_ranges.specs.Laid.{MayBeLaid, numbers_of};
 
@@ -19,7 +19,7 @@ fn collected(alloc: Global, homes: &[HomeRange]) -> Result<Vec<NumberRange>, All
         .collect(alloc)
 }
 
-/// Returns the home ranges of an image, in the form of a description, so that another image can have the same. Fails
+/// Returns the home ranges of an image as a description lists them, so that another image can have the same. Fails
 /// only if memory runs out.
 pub fn ranges_of(alloc: Global, superblock: &Superblock) -> Result<Vec<NumberRange>, AllocError>
     ensures ranges { IfOk result (λ ranges.

@@ -24,7 +24,7 @@ trait Lines {
     /// The lines of the entry.
     ghost text_of: { Self → List ℕ };
 
-    /// Whether the entry can be written.
+    /// The entry can be written.
     ghost MayBePut: { Self → Type 0 };
 
     /// Writes the lines of the entry.
@@ -101,7 +101,7 @@ fn is_range(range: &NumberRange, first: u64, count: u64) -> bool
     range.first == first && range.count == count
 }
 
-// Whether the ranges are that of all nodes and that of all pages.
+// Whether there are two ranges: all nodes, and all pages.
 #[tactic(auto, using(crate::proofs::Written::second_range))]
 fn are_whole(geometry: Geometry, ranges: &[NumberRange]) -> bool
     ensures { result ≡ are_whole geometry ranges.now }
@@ -114,7 +114,7 @@ fn are_whole(geometry: Geometry, ranges: &[NumberRange]) -> bool
     }
 }
 
-// Writes the ranges, unless they are that of all nodes and that of all pages.
+// Writes the ranges, unless they are one of all nodes and one of all pages.
 fn put_ranges(
     text: &mut String,
     geometry: Geometry,
@@ -130,7 +130,7 @@ fn put_ranges(
     }
 }
 
-// Writes the keys that are about the whole image.
+// Writes the keys of the whole image.
 fn put_image(text: &mut String, description: &Description) -> Result<(), AllocError>
     ensures { OnOk result (string_bytes text.new
         ≡ string_bytes text.old ++ field_lines (image_fields description.now)) }
@@ -170,8 +170,8 @@ fn put_description(text: &mut String, description: &Description) -> Result<(), A
     put_all(text, &description.pages)
 }
 
-/// Returns the text of a description, in TOML: each key once, in the order of the manual; keys at their default are
-/// left out. Reading the text gives the same description. Fails only if memory runs out.
+/// Returns the text of a description, in TOML. It has each key once, in the order of the manual, and omits keys
+/// that have their default. Reading the text gives the same description. Fails only if memory runs out.
 pub fn text_of(alloc: Global, description: &Description) -> Result<String, AllocError>
     requires { HasFields description.now }
     ensures text { IfOk result (λ text. string_bytes text ≡ description_text description.now) }

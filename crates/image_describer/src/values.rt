@@ -11,7 +11,7 @@ use home_ranges::NumberRange;
 use model::{Access, Capability, State};
 use std::alloc::AllocError;
 
-// Returns the word for an access, with a space before it; no text for full access.
+// Returns ` ro` or ` weak` for a restricted access, else an empty text.
 fn access_word(access: Access) -> &'static str
     requires { IsAccess access }
     ensures { result.now ≡ access_text access }
@@ -83,7 +83,8 @@ pub(crate) fn state_word(state: State) -> &'static str
     }
 }
 
-/// Writes a number. From 2^63 on, where TOML has no integers, writes the text of its number capability.
+/// Writes a number: an integer below 2^63; from there on, where TOML has no integers, the text of its
+/// number capability.
 #[tactic(auto, unfolding(model::specs::Text::capability_text))]
 pub(crate) fn put_wide(text: &mut String, number: u64) -> Result<(), AllocError>
     ensures { OnOk result (string_bytes text.new ≡ string_bytes text.old ++ wide_text number) }
@@ -100,7 +101,7 @@ pub(crate) trait Item {
     /// The text of the value.
     ghost text_of: { Self → List ℕ };
 
-    /// Whether the value can be written.
+    /// The value can be written.
     ghost MayBePut: { Self → Type 0 };
 
     /// Writes the value.

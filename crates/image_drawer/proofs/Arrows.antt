@@ -15,7 +15,7 @@ not_both : (b : Bool) → IsTrue b → b ≡ false → ⊥
 not_both true is wrong = let never : true ≡ false = wrong in cc
 not_both false is wrong = let never : false ≡ true = is in cc
 
--- the arrow of a capability, if it has one
+-- an arrow of a capability ends at the object that the capability names
 in_arrow_to : (holder : ℕ) (at : Place) (c : Capability) (o : Option ℕ) (a : Arrow) → Contains (arrow_to holder at c o) a
     → (target : ℕ) × (o ≡ Some target) × (record { holder = holder; place = at; capability = c; target = target } ≡ a)
 in_arrow_to holder at c o a h = grind (arith, nat_tests, contains_none, contains_cases)
@@ -31,7 +31,7 @@ arrow_once holder at c (Some target) = (
   tt,
 )
 
--- an arrow of a capability that is held
+-- if an object holds a capability, the capability's arrow is one of the world
 arrow_held : (os : List Object) (holder : ℕ) (at : Place) (c : Capability) (a : Arrow) → Holds os holder at c →
     Contains (arrow_of holder at c) a → IsArrow os a
 arrow_held os holder at c a holds h =
@@ -40,14 +40,14 @@ arrow_held os holder at c a holds h =
     let is : IsArrow os made = (holds, found.1) in
     subst (IsArrow os) found.2 is
 
--- the holder and the place of an arrow
+-- an arrow of a capability has the capability's holder and place
 holder_is : (holder : ℕ) (at : Place) (c : Capability) (a : Arrow) → Contains (arrow_of holder at c) a →
     (a.holder ≡ holder) × (a.place ≡ at)
 holder_is holder at c a h =
     let found = in_arrow_to holder at c (named c) a h in
     (ap (λ (b : Arrow). b.holder) (sym found.2), ap (λ (b : Arrow). b.place) (sym found.2))
 
--- a place as a number
+-- the index of a place
 abbrev index_of : Place → ℕ
 index_of place.Space = 0
 index_of (place.Register i) = i
@@ -56,7 +56,7 @@ index_of (place.Slot i) = i
 abbrev value_of : SlotEntry → Capability
 value_of s = unwrap_or s.capability Void
 
--- the arrows of slots
+-- an arrow of slots is that of one of the slots
 in_slots : (holder : ℕ) (at : ℕ → Place) (slots : List SlotEntry) (a : Arrow) → Contains (arrows_at holder at slots) a
     → (s : SlotEntry) × Contains slots s × Contains (arrow_of holder (at s.index) (value_of s)) a
 in_slots holder at slots a h = contains_flat (λ s. arrow_of holder (at s.index) (value_of s)) a slots h
@@ -81,7 +81,7 @@ process_holder p a h = elim (Contains-append_cases _ _ a h) [
   | inr register ↦ (slots_holder _ place.Register p.registers.items a register).0
 ]
 
--- whether an arrow begins at a slot
+-- the place is a slot
 abbrev IsAtSlot : Place → Type 0
 IsAtSlot (place.Slot i) = Unit {0}
 IsAtSlot _ = ⊥
@@ -102,7 +102,7 @@ process_once p distinct = once_append _ _ (arrow_once _ _ _ _) (slots_once _ pla
     let at : IsAtRegister a.place = subst IsAtRegister (sym is.2) tt in
     subst IsAtRegister (holder_is _ _ (unwrap_or p.space Void) a space).1 at)
 
--- The arrows of the description of a world.
+-- The parameters: a world and its description.
 module _ (g : Geometry) (w : World) (d : Description) (describes : Describes g w d) where
   roots_distinct : AreDistinct (map (λ p. p.root) d.processes.items)
   roots_distinct = grind (arith, nat_tests, distinct_right, distinct_left)
@@ -130,7 +130,7 @@ module _ (g : Geometry) (w : World) (d : Description) (describes : Describes g w
       let is = slots_holder other.0.number place.Slot other.0.slots.items a other.2 in
       not_at_slot one.0 a one.2 (rw is.2 tt))
 
-  -- the capabilities that a process holds
+  -- each capability of a described process is one that the process holds
   root_is : (p : ProcessEntry) → Contains d.processes.items p → IsTrue (is_process w.objects p.root)
   root_is p there = ap (λ (o : Object). is_root o.content) (root_reported g w d describes p there).3
 
@@ -155,7 +155,7 @@ module _ (g : Geometry) (w : World) (d : Description) (describes : Describes g w
   node_is : (n : NodeEntry) → Contains d.nodes.items n → IsTrue (is_node (content_at w.objects n.number))
   node_is n there = ap (λ (o : Object). is_node o.content) (node_reported g w d describes n there).2
 
-  -- each arrow belongs to a held capability
+  -- each arrow of the description is that of a capability that is held
   of_process : (p : ProcessEntry) (a : Arrow) → Contains d.processes.items p → Contains (process_arrows p) a → IsArrow w.objects a
   of_process p a there h = elim (Contains-append_cases _ _ a h) [
     | inl space ↦ arrow_held _ p.root place.Space (unwrap_or p.space Void) a (root_is p there, space_is p there) space
@@ -178,7 +178,7 @@ module _ (g : Geometry) (w : World) (d : Description) (describes : Describes g w
     | inr node ↦ let found = contains_flat node_arrows a d.nodes.items node in of_node found.0 a found.1 found.2
   ]
 
-  -- the description has the holder
+  -- if a number is a process's, its entry is that process
   process_of : (e : Entry) → IsOf d e → IsTrue (is_process w.objects (number_of e)) →
       (p : ProcessEntry) × Contains d.processes.items p × (p.root ≡ number_of e)
   process_of (OfBank b) there is = absurd (not_both _ is (ap (λ (o : Object). is_root o.content) (bank_reported g w d describes b there)))
@@ -212,7 +212,7 @@ module _ (g : Geometry) (w : World) (d : Description) (describes : Describes g w
     | inr blank ↦ absurd (not_both _ is (ap (λ (o : Object). is_node o.content) (free_reported g w d describes n blank)))
   ]
 
-  -- each held capability has its arrow
+  -- each capability that is held has its arrow in the description
   abbrev HasArrow : ℕ → Place → Capability → ℕ → Type 0
   HasArrow holder at c target = Contains (arrows d) (record { holder = holder; place = at; capability = c; target = target })
 

@@ -1,4 +1,4 @@
--- The boxes and owners of the graph are those of the world.
+-- The boxes and owners in the graph are those of the world.
 use Rattle.image_drawer.proofs.Names.{ℕ, true, false, inl, inr, List, [], map, refl, sym, ap, subst, arith, Contains, flat_map, cases_eq, nat_tests}
 use Rattle.image_drawer.proofs.Names.{Contains-append_cases, Contains-append_left, Contains-append_right, flat_map-map, Capability, Geometry, Content, Object}
 use Rattle.image_drawer.proofs.Names.{free, is_annex, is_free, World, object_at, owner_at, Description, AreDistinct, node_numbers, page_numbers, Entry, OfAnnex}
@@ -11,7 +11,7 @@ use Rattle.image_drawer.proofs.Once.{contains_flat, flat_contains, once_append, 
 use Rattle.image_drawer.proofs.Texts.{flat_map-four}
 use Rattle.image_drawer.proofs.Reported.{annex_reported, bank_reported, free_reported, node_reported, page_reported, root_reported}
 
--- the objects with a box, each after its owner
+-- the banks, each in a pair with its owner
 abbrev bank_parts : Description → List (ℕ × ℕ)
 bank_parts d = map (λ b. (b.owner, b.number)) d.banks.items
 
@@ -39,7 +39,7 @@ boxes_are d = grind (arith, nat_tests, map_both, map_again)
 owners_are : (d : Description) → flat_map joined_part (parts d) ≡ owners d
 owners_are d = grind (arith, nat_tests, flat_map-four, flat_map-map)
 
--- no box occurs twice, since no number does
+-- if the numbers are distinct, so are the boxes
 boxes_once : (d : Description) → AreDistinct (node_numbers d ++ page_numbers d) → IsOnce (boxes d)
 boxes_once d distinct =
     let B : List ℕ = map (λ b. b.number) d.banks.items in
@@ -57,7 +57,7 @@ boxes_once d distinct =
       | inr right ↦ Contains-append_right _ N n right
     ]) two)
 
--- an object is joined to its owner if their numbers differ
+-- an object that owns itself isn't joined to its owner
 joined_none : (owner number : ℕ) → owner ≡ number → joined owner number ≡ []
 joined_none owner number is = let test : (owner == number) ≡ true = grind (arith, nat_tests) in rw test refl
 
@@ -74,7 +74,7 @@ joined_once owner number = elim (cases_eq owner number) [
       ((λ h. contains_none (owner, number) h), tt)
 ]
 
--- What the parts of the description of a world say.
+-- The parameters: a world and its description.
 module _ (g : Geometry) (w : World) (d : Description) (describes : Describes g w d) where
   has_box : (n owner : ℕ) (c : Content Capability) → object_at w.objects n ≡ record { owner = owner; content = c } → is_free c ≡ false →
       is_annex c ≡ false → HasBox w.objects n × (owner_at w.objects n ≡ owner)

@@ -1,4 +1,4 @@
--- The numbers of an object's holders, and of the boxes.
+-- The numbers of an object's holders, and those of the boxes.
 use Rattle.image_drawer.proofs.Names.{ℕ, Bool, true, false, List, [], length, map, refl, sym, ap, subst, arith, All, Contains, nat_tests, All-append}
 use Rattle.image_drawer.proofs.Names.{All-contains, All-map, object_count, BankEntry, Description, NodeEntry, PageEntry, ProcessEntry, HasNumbers, OfBank}
 use Rattle.image_drawer.proofs.Names.{OfNode, OfPage, OfRoot, in_range, all_from, contains_here, contains_there, boxes, is_listed, slice_set, replicate}
@@ -11,7 +11,7 @@ either_or : (a r b c : Bool) → r ≡ (b || c) → (a || r) ≡ ((a || b) || c)
 either_or true r b c is = refl
 either_or false r b c is = is
 
--- whether a number is in the mapped list of some items
+-- a number is in a mapped list exactly if it is the image of an item
 listed_map : {X : Type 0} (f : X → ℕ) (n : ℕ) (xs : List X) → is_listed n (map f xs) ≡ list_any (λ x. f x == n) xs
 listed_map f n [] = refl
 listed_map f n (x ∷ xs) = ap (λ (b : Bool). (f x == n) || b) (listed_map f n xs)
@@ -59,7 +59,7 @@ module _ (d : Description) (numbers : HasNumbers d) where
   pub object_below : (o : ℕ) → is_listed o (boxes d) ≡ true → Below o
   object_below o drawn = All-contains Below (boxes d) o boxes_below (listed_contains o (boxes d) drawn)
 
--- a number is in one of two lists; either may be empty
+-- or with `false` changes nothing
 or_none : (a : Bool) → a ≡ (a || false)
 or_none true = refl
 or_none false = refl
@@ -84,18 +84,18 @@ adds_both ms ns was between now first second = record {
       ∙ sym (either_or (is_marked was n) (is_listed n (ms ++ ns)) (is_listed n ms) (is_listed n ns) (list_any-append (λ m. m == n) ms ns));
 }
 
--- adding one more number to the set
+-- adding the first i numbers and then the next adds the first i + 1
 pub adds_more : (ns : List ℕ) (i d : ℕ) (was now : List Bool) → i < length ns → Adds (take i ns) was now → get_or ns i d < length now →
     Adds (take (i + 1) ns) was (slice_set now (get_or ns i d) true)
 adds_more ns i d was now within adds below = rw (take_more ns i d within) (adds_both (take i ns) (get_or ns i d ∷ []) was now _ adds
     (adds_one now _ below))
 
--- an empty set has no number
+-- a new set is empty
 none_marked : (count n : ℕ) → is_marked (replicate count false) n ≡ false
 none_marked (suc c) (suc n) = none_marked c n
 none_marked count n = refl
 
--- the set gets the object, and then its holders
+-- a set that got the object and then its holders has these numbers
 pub holders_marked : (count o : ℕ) (ns : List ℕ) (now : List Bool) → o < count → Adds ns (slice_set (replicate count false) o true) now →
     (n : ℕ) → is_marked now n ≡ is_listed n (o ∷ ns)
 holders_marked count o ns now within adds n =

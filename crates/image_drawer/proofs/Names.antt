@@ -1,4 +1,4 @@
--- The names that the proofs here cite: of other crates, and of the definitions of this one.
+-- The names that the proofs here import: from other crates, and from the definitions of this one.
 pub use Rattle.capability.specs.Plain.{fresh_cap}
 pub use Rattle.collections.specs.Marks.{is_marked}
 pub use Rattle.description.proofs.Entries.{IsOf, described_cases, in_range}

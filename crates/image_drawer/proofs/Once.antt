@@ -1,4 +1,4 @@
--- Lists in which nothing occurs twice, and the members of lists of lists.
+-- Lists of distinct items, and members of lists of lists.
 use Rattle.image_drawer.proofs.Names.{ℕ, inl, inr, List, [], map, sym, subst, Contains, flat_map, Contains-append_cases, Contains-append_left}
 use Rattle.image_drawer.proofs.Names.{Contains-append_right, AreDistinct, contains_cases, contains_here, contains_map, contains_none, contains_there, IsOnce}
 use Rattle.std.proofs.Common.{◌≡◌, ◌∷◌, ◌++◌, ◌∙◌}
@@ -20,7 +20,7 @@ flat_contains {X} {Y} f x y (z ∷ xs) h k = elim (contains_cases x z xs h) [
   | inr there ↦ Contains-append_right (f z) (flat_map f xs) y (flat_contains f x y xs there k)
 ]
 
--- two lists that have nothing in common
+-- if two lists of distinct items have no common item, their join has distinct items
 pub once_append : {X : Type 0} (xs ys : List X) → IsOnce xs → IsOnce ys → ((x : X) → Contains xs x → Contains ys x → ⊥) → IsOnce (xs ++ ys)
 once_append [] ys a b apart = b
 once_append (x ∷ xs) ys a b apart = (
@@ -28,7 +28,7 @@ once_append (x ∷ xs) ys a b apart = (
   once_append xs ys a.1 b (λ z one two. apart z (contains_there z x xs one) two),
 )
 
--- lists that a key of their elements distinguishes
+-- if lists of distinct items have different keys, their join has distinct items
 pub once_flat : {X Y : Type 0} (f : X → List Y) (key : Y → ℕ) (index : X → ℕ) (xs : List X) → IsOnce (map index xs)
     → ((x : X) → Contains xs x → IsOnce (f x)) → ((x : X) (y : Y) → Contains (f x) y → key y ≡ index x) → IsOnce (flat_map f xs)
 once_flat f key index [] distinct once keyed = tt

@@ -7,14 +7,14 @@ use Rattle.std.proofs.Common.{◌≡◌, if◌then◌else◌, ◌∷◌, ◌++�
 use Rattle.std.specs.Prelude.{◌==◌, ◌&&◌}
 use Rattle.image_drawer.specs.declared.arrow.Place.TheVariants as place
 
--- Lists
+-- ---- lists
 
 kept_one : {X Y : Type 0} (t : X → Bool) (g : X → List Y) (x : X) (xs : List X) (b : Bool) → t x ≡ b →
     flat_map g (filter t (x ∷ xs)) ≡ (if b then g x else []) ++ flat_map g (filter t xs)
 kept_one {X} t g x xs true is = ap (λ (b : Bool). flat_map g (if b then x ∷ filter t xs else filter t xs)) is
 kept_one {X} t g x xs false is = ap (λ (b : Bool). flat_map g (if b then x ∷ filter t xs else filter t xs)) is
 
--- mapping the items that are kept gives the kept part of mapping all items
+-- filtering the images of a list gives the images of the filtered list, if this holds item by item
 kept_flat : {X Y : Type 0} (t : X → Bool) (q : Y → Bool) (f g : X → List Y) → ((x : X) → filter q (f x) ≡ (if t x then g x else [])) →
     (xs : List X) → flat_map g (filter t xs) ≡ filter q (flat_map f xs)
 kept_flat t q f g on [] = refl
@@ -37,7 +37,7 @@ zip_flat R f g on (x ∷ xs) [] zip = absurd zip
 zip_flat {Y = Y} R f g on (x ∷ xs) (y ∷ ys) zip = grind (arith, nat_tests, zip_flat R f g on xs ys zip.1)
 
 module _ (inside : ℕ → Bool) where
-  -- Arrows
+  -- ---- arrows
 
   abbrev ends : Arrow → Bool
   ends a = inside a.target
@@ -75,7 +75,7 @@ module _ (inside : ℕ → Bool) where
       ∙ ap (λ (es : List SlotEntry). arrows_at m.number place.Slot es) part.slots
       ∙ slots_kept m.number place.Slot m.slots.items
 
-  -- the arrows of one holder
+  -- the arrows of one holder that are kept: if the holder is kept, those whose targets are
   one_both : (h : ℕ) (b : Bool) → inside h ≡ b → (p : Place) (c : Capability) (o : Option ℕ) →
       filter both (arrow_to h p c o) ≡ (if b then filter ends (arrow_to h p c o) else [])
   one_both h true is p c (Some n) = ap (λ (b : Bool). if b && inside n then arrow_to h p c (Some n) else []) is
@@ -112,7 +112,7 @@ module _ (inside : ℕ → Bool) where
       (named (unwrap_or p.space Void)))
       ∙ slots_both p.root false is place.Register p.registers.items
 
-  -- Owners
+  -- ---- owners
 
   owner_either : (o n : ℕ) (b c : Bool) → inside n ≡ c → filter (λ (p : ℕ × ℕ). inside p.1) (if b then [] else (o, n) ∷ []) ≡
       (if c then if b then [] else (o, n) ∷ [] else [])

@@ -29,7 +29,7 @@ object_back o owner held is = ap (λ (c : Content Capability). let x : Object = 
     (sym (content_back _) ∙ ap (λ (f : Frame). map_content what f.content) is)
     ∙ ap (λ (n : ℕ). let x : Object = record { owner = n; content = map_content what held } in x) (ap (λ (f : Frame). f.header.owner) is)
 
--- slots hold what entries name
+-- the slots hold what the entries name
 pub record SaysSlots (entries : List SlotEntry) (slots : List Capability) : Type 0 where
   pub count : length slots ≡ 32
   pub each : (i : ℕ) → i < 32 → slice_index_or slots i Void ≡ named_at entries i
@@ -43,7 +43,7 @@ slots_said entries caps holds = record {
 abbrev value_of : SlotEntry → Capability
 value_of s = unwrap_or s.capability Void
 
--- the value at an index is that of an entry
+-- if the capability at an index isn't void, it is that of an entry
 entry_of : (entries : List SlotEntry) (i : ℕ) → named_at entries i ≢ Void →
     (s : SlotEntry) × Contains entries s × (s.index ≡ i) × (value_of s ≡ named_at entries i)
 entry_of [] i some = absurd (some refl)
@@ -59,7 +59,7 @@ module _ (first : ℕ) (entries : List SlotEntry) (slots : List Capability) (are
         → (s : SlotEntry) × Contains entries s × (s.index ≡ i) × (unwrap_or s.capability Void ≡ c)
     said_slot i c target is names = grind (arith, nat_tests, entry_of, get_or_past)
 
--- The objects that are named.
+-- The parameters: a world and its description.
 module _ (g : Geometry) (w : World) (d : Description) (describes : Describes g w d) where
   pub bank_reported : (b : BankEntry) → Contains d.banks.items b → object_at w.objects b.number
       ≡ record { owner = b.owner; content = content.Bank b.limit }

@@ -1,10 +1,10 @@
--- Texts of items, written one after the other.
+-- Writing the texts of items, one after the other.
 use Rattle.image_drawer.proofs.Names.{nat_tests, arith, ℕ, List, [], Result, Err, codes, decimal, length, get_or, take, drop, refl, sym, ap, subst, Written}
 use Rattle.image_drawer.proofs.Names.{append_assoc, append-nil, add-one, flat_map, Wrote, wrote_trans, flat_map-append, take-append-drop, take_all, take-suc}
 use Rattle.image_drawer.proofs.Names.{spaced, RunFault, Writes, text_fails, writes_after, writes_fail, writes_same, box_line, next_line}
 use Rattle.std.proofs.Common.{◌≡◌, ◌+◌, ◌<◌, ◌≤◌, ◌∷◌, ◌++◌, ◌∙◌}
 
--- the texts of lists of items
+-- mapping lists of lists in two steps or in one gives the same text
 pub flat_map-flat_map : {A B C : Type 0} (f : B → List C) (h : A → List B) (xs : List A) →
     flat_map f (flat_map h xs) ≡ flat_map (λ x. flat_map f (h x)) xs
 flat_map-flat_map f h [] = refl
@@ -25,7 +25,7 @@ module _ {A : Type 0} (text : A → List ℕ) (xs : List A) where
       ∙ flat_map-append text (take (i + 1) xs) (drop (i + 1) xs)
       ∙ ap (λ (l : List ℕ). l ++ flat_map text (drop (i + 1) xs)) (texts_more i d lt)
 
-  -- an item could not be written
+  -- if writing item i failed, writing all items failed
   pub place_fails : (a b c : Written) (e : RunFault) (i : ℕ) (d : A) (whole : List ℕ) → whole ≡ flat_map text xs → i < length xs
       → Wrote a b (flat_map text (take i xs)) → Writes b c (Err e) (text (get_or xs i d)) → Writes a c (Err e) whole
   place_fails a b c e i d whole is lt before one = writes_fail a b c e _ _ _ whole (is ∙ texts_split i d lt) before one
@@ -35,12 +35,12 @@ module _ {A : Type 0} (text : A → List ℕ) (xs : List A) where
   item_fails a b c e i x whole is lt here before one = place_fails a b c e i x whole is lt before
       (subst (λ (y : A). Writes b c (Err e) (text y)) here one)
 
-  -- all were written
+  -- if the first i items are all items, all are written
   pub all_written : (a b : Written) (i : ℕ) (whole : List ℕ) → whole ≡ flat_map text xs → length xs ≤ i →
       Wrote a b (flat_map text (take i xs)) → Wrote a b whole
   all_written a b i whole is le before = subst (Wrote a b) (ap (λ (l : List A). flat_map text l) (take_all i xs le) ∙ sym is) before
 
--- a text could not be written, and another was to follow
+-- if writing the first text failed, writing both failed
 pub fails_before : (a b : Written) (e : RunFault) (first second : List ℕ) → Writes a b (Err e) first → Writes a b (Err e) (first ++ second)
 fails_before a b e first second w = text_fails a b e first second (first ++ second) refl w
 
@@ -48,7 +48,7 @@ pub fails_after : (a b c : Written) (e : RunFault) (first second : List ℕ) →
     Writes a c (Err e) (first ++ second)
 fails_after a b c e first second one w = writes_after a b c (Err e) first second one w
 
--- Four texts, written one after another.
+-- The parameters: four texts that are written one after another.
 module _ (A B C D whole : List ℕ) (is : whole ≡ ((A ++ B) ++ C) ++ D) (a b : Written) where
   pub first_fails : (e : RunFault) → Writes a b (Err e) A → Writes a b (Err e) whole
   first_fails e w = text_fails a b e ((A ++ B) ++ C) D whole is (fails_before a b e (A ++ B) C (fails_before a b e A B w))
@@ -66,7 +66,7 @@ module _ (A B C D whole : List ℕ) (is : whole ≡ ((A ++ B) ++ C) ++ D) (a b :
   fourth_written c d f r one two three w = writes_same a f r _ whole (sym is)
       (writes_after a d f r _ D (wrote_trans a c d _ C (wrote_trans a b c A B one two) three) w)
 
--- two and three texts
+-- two texts that are written one after the other are written as one; so are three
 pub two_written : (a b c : Written) (r : Result (Unit {0}) RunFault) (A B whole : List ℕ) → whole ≡ A ++ B → Wrote a b A → Writes b c r B →
     Writes a c r whole
 two_written a b c r A B whole is one w = writes_same a c r (A ++ B) whole (sym is) (writes_after a b c r A B one w)
@@ -82,7 +82,7 @@ flat_map-four {A} {B} f ps qs rs ss =
     ∙ ap (λ (l : List B). l ++ flat_map f ss) (flat_map-append f (ps ++ qs) rs)
     ∙ ap (λ (l : List B). (l ++ flat_map f rs) ++ flat_map f ss) (flat_map-append f ps qs)
 
--- Lines, in the form in which the code appends their parts.
+-- the line of an arrow, assembled as the code does it
 pub arrow_put : (holder target : ℕ) (place kind style : List ℕ)
     → (((((((decimal holder ++ 32 ∷ codes "->") ++ 32 ∷ decimal target) ++ 32 ∷ codes "[label=\"") ++ place) ++ kind) ++ codes "\"") ++
     style) ++ codes "]"
@@ -106,7 +106,7 @@ pub cluster_put : (owner number : ℕ)
     number ∷ codes "}" ∷ [])
 cluster_put owner number = simp append_assoc
 
--- a box in three pieces
+-- a box's line is the join of three pieces
 pub box_pieces : (number : ℕ) (first more shape : List ℕ)
     → box_line number (first ++ more) shape ≡
     (spaced (decimal number ∷ (codes "[label=\"" ++ first) ∷ []) ++ more) ++ (codes "\" shape=" ++ shape ++ codes "]\n")

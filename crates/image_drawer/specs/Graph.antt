@@ -8,24 +8,24 @@ use Rattle.image_drawer.specs.declared.arrow.Arrow.{Arrow}
 use Rattle.image_drawer.specs.declared.arrow.Place.{Place}
 use Rattle.image_drawer.specs.declared.arrow.Place.TheVariants as place
 
--- The parts of the graph.
+-- ---- the parts of the graph
 
--- the numbers of the boxes: of banks, roots of processes, nodes and pages
+-- the numbers of all boxes: banks, roots of processes, nodes and pages
 abbrev pub boxes : Description → List ℕ
 boxes d = map (λ b. b.number) d.banks.items ++ map (λ p. p.root) d.processes.items
     ++ map (λ n. n.number) d.nodes.items ++ map (λ p. p.number) d.pages.items
 
--- an owner paired with an object that it owns; nothing if the object is the owner itself
+-- an owner and an object that it owns, as a pair; nothing if the object owns itself
 abbrev pub joined : ℕ → ℕ → List (ℕ × ℕ)
 joined owner number = if owner == number then [] else (owner, number) ∷ []
 
--- each object that another owns, paired with its owner
+-- each object with its owner, unless it owns itself
 abbrev pub owners : Description → List (ℕ × ℕ)
 owners d = flat_map (λ b. joined b.owner b.number) d.banks.items ++ flat_map (λ p. joined p.owner p.root)
     d.processes.items
     ++ flat_map (λ n. joined n.owner n.number) d.nodes.items ++ flat_map (λ p. joined p.owner p.number) d.pages.items
 
--- the arrow of a capability at a place of its holder, if the capability names an object
+-- the arrow of a capability to the object that it names; none if it names nothing
 abbrev pub arrow_to : ℕ → Place → Capability → Option ℕ → List Arrow
 arrow_to holder at c None = []
 arrow_to holder at c (Some target) = record { holder = holder; place = at; capability = c; target = target } ∷ []
@@ -33,7 +33,7 @@ arrow_to holder at c (Some target) = record { holder = holder; place = at; capab
 abbrev pub arrow_of : ℕ → Place → Capability → List Arrow
 arrow_of holder at c = arrow_to holder at c (named c)
 
--- the place of a slot of a node, or of a register of a process
+-- a slot of a node, or a register of a process
 abbrev pub place_in : Bool → ℕ → Place
 place_in true index = place.Slot index
 place_in false index = place.Register index
@@ -42,11 +42,12 @@ place_in false index = place.Register index
 abbrev pub arrows_at : ℕ → (ℕ → Place) → List SlotEntry → List Arrow
 arrows_at holder at slots = flat_map (λ s. arrow_of holder (at s.index) (unwrap_or s.capability Void)) slots
 
--- the arrows of a process, its space first; of a node
+-- the arrows of a process: that of its space, then those of its registers
 abbrev pub process_arrows : ProcessEntry → List Arrow
 process_arrows p = arrow_of p.root place.Space (unwrap_or p.space Void) ++ arrows_at p.root place.Register
     p.registers.items
 
+-- the arrows of a node
 abbrev pub node_arrows : NodeEntry → List Arrow
 node_arrows n = arrows_at n.number place.Slot n.slots.items
 
@@ -54,7 +55,7 @@ node_arrows n = arrows_at n.number place.Slot n.slots.items
 abbrev pub arrows : Description → List Arrow
 arrows d = flat_map process_arrows d.processes.items ++ flat_map node_arrows d.nodes.items
 
--- The text of the graph.
+-- ---- the text of the graph
 
 -- a further line in a box: in DOT it begins with `\n`
 abbrev pub next_line : List ℕ → List ℕ
@@ -65,7 +66,7 @@ abbrev pub box_line : ℕ → List ℕ → List ℕ → List ℕ
 box_line number lines shape = line_of
     (spaced (decimal number ∷ (codes "[label=\"" ++ lines ++ codes "\" shape=" ++ shape ++ codes "]") ∷ []))
 
--- a number or discrim capability is a line in its holder's box; others add no line
+-- the line in its holder's box for a number capability or `discrim`; other capabilities have none
 abbrev pub plain_line : List ℕ → ℕ → Capability → List ℕ
 plain_line name index (Number n) = next_line (spaced ((name ++ decimal index) ∷ capability_text (Number n) ∷ []))
 plain_line name index Discrim = next_line (spaced ((name ++ decimal index) ∷ capability_text Discrim ∷ []))
@@ -74,30 +75,33 @@ plain_line name index _ = []
 abbrev pub plain_lines : List ℕ → List SlotEntry → List ℕ
 plain_lines name slots = flat_map (λ s. plain_line name s.index (unwrap_or s.capability Void)) slots
 
--- the word of a state, or nothing
+-- the word of a state, if there is one
 abbrev pub word_of_state : Option State → List ℕ
 word_of_state None = []
 word_of_state (Some state) = state_text state
 
--- the box of each kind
+-- the line of a bank's box
 unfoldable pub bank_box : BankEntry → List ℕ
 bank_box b = box_line b.number
     (spaced (codes "bank" ∷ decimal b.number ∷ []) ++ next_line (spaced (codes "limit" ∷ decimal b.limit ∷ [])))
     (codes "house")
 
+-- the line of a process's box
 unfoldable pub process_box : ProcessEntry → List ℕ
 process_box p = box_line p.root (spaced (codes "process" ∷ decimal p.root ∷ codes "annex" ∷ decimal p.annex ∷ [])
     ++ next_line (spaced (word_of_state p.state ∷ codes "key" ∷ decimal p.key ∷ [])) ++ plain_lines (codes "r")
     p.registers.items) (codes "ellipse")
 
+-- the line of a node's box
 unfoldable pub node_box : NodeEntry → List ℕ
 node_box n = box_line n.number (spaced (codes "node" ∷ decimal n.number ∷ []) ++ plain_lines (codes "s") n.slots.items)
     (codes "box")
 
+-- the line of a page's box
 unfoldable pub page_box : PageEntry → List ℕ
 page_box p = box_line p.number (spaced (codes "page" ∷ decimal p.number ∷ [])) (codes "note")
 
--- an owned object is drawn in the cluster of its owner
+-- the line that puts an object into the cluster of its owner
 unfoldable pub owner_line : ℕ × ℕ → List ℕ
 owner_line p = line_of
     (spaced ((codes "subgraph cluster_" ++ decimal p.0) ∷ codes
@@ -108,7 +112,7 @@ place_text place.Space = codes "space"
 place_text (place.Register i) = codes "r" ++ decimal i
 place_text (place.Slot i) = codes "s" ++ decimal i
 
--- what an arrow's target doesn't show: the height of a space, the key of a start, and that it is a resume
+-- what the target's box doesn't show: the height of a space, the key of a start capability, or `resume`
 abbrev pub kind_text : Capability → List ℕ
 kind_text (Space object height access) = codes " height " ++ decimal height
 kind_text (Start process key) = codes " start " ++ decimal key
@@ -125,18 +129,20 @@ arrow_line a = line_of (spaced (decimal a.holder ∷ codes "->" ∷ decimal a.ta
     ∷ (codes "[label=\"" ++ place_text a.place ++ kind_text a.capability ++ codes "\"" ++ style_text
     (access_bits a.capability) ++ codes "]") ∷ []))
 
--- the lines of the boxes, of the owners and of the arrows
+-- the lines of all boxes
 abbrev pub box_lines : Description → List ℕ
 box_lines d = flat_map bank_box d.banks.items ++ flat_map process_box d.processes.items ++ flat_map node_box
     d.nodes.items ++ flat_map page_box d.pages.items
 
+-- the lines of all owners
 abbrev pub owner_lines : Description → List ℕ
 owner_lines d = flat_map owner_line (owners d)
 
+-- the lines of all arrows
 abbrev pub arrow_lines : Description → List ℕ
 arrow_lines d = flat_map arrow_line (arrows d)
 
--- the first lines: the graph is drawn from left to right, in small letters
+-- the first lines: the graph goes from left to right, in small type
 abbrev pub head_lines : List ℕ
 head_lines = line_of (codes "digraph eros {") ++ line_of (codes "graph [rankdir=LR newrank=true]")
     ++ line_of (codes "node [fontsize=10 height=0 margin=0.05]") ++ line_of (codes "edge [fontsize=8]")

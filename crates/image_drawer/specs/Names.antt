@@ -1,4 +1,4 @@
--- The names of other crates that the definitions here cite.
+-- The names of other crates that the definitions here import.
 pub use Rattle.collections.specs.Marks.{is_marked}
 pub use Rattle.description.specs.Describes.{Describes}
 pub use Rattle.description.specs.declared.entry.BankEntry.{BankEntry}

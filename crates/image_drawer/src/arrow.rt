@@ -1,4 +1,4 @@
-// Arrows, each for a capability that names an object.
+// Arrows: one for each capability that names an object.
 ghost use Rattle.std.specs.Prelude.{◌≡◌, ◌+◌, ◌≤◌, ◌++◌, length};
 ghost use Rattle.std.specs.List.{flat_map};
 ghost use Rattle.model.specs.Capability.{access_bits};
@@ -21,10 +21,10 @@ pub enum Place {
     Slot(u64),
 }
 
-/// A capability that names an object.
+/// A capability that names an object, with its holder.
 #[derive(Clone, Copy)]
 pub struct Arrow {
-    /// The number of the process or the node that holds the capability.
+    /// The number of the process or node that holds the capability.
     pub holder: u64,
     pub place: Place,
     pub capability: Capability,
@@ -32,7 +32,7 @@ pub struct Arrow {
     pub target: u64,
 }
 
-// Adds the short name of a place: `r4` is register 4, and `s0` slot 0.
+// Appends the short name of a place: `r4` is register 4, and `s0` slot 0.
 fn push_place(line: &mut LineText, place: Place)
     requires { length line.old ≤ 100 }
     ensures text { line.new ≡ line.old ++ place_text place }
@@ -51,7 +51,7 @@ fn push_place(line: &mut LineText, place: Place)
     }
 }
 
-// Appends what the two boxes don't show: the height of a space, the key of a start capability, or `resume`.
+// Appends what the boxes don't show: the height of a space, the key of a start capability, or `resume`.
 #[tactic(auto, using(std::proofs::Common::append_assoc))]
 fn push_kind(line: &mut LineText, capability: Capability)
     requires { length line.old ≤ 200 }
@@ -78,7 +78,7 @@ fn access_of(capability: Capability) -> Access
     }
 }
 
-// Appends the line style of an arrow, if its access isn't full.
+// Appends the line style of an arrow, unless its access is full.
 fn push_style(line: &mut LineText, access: Access)
     requires { length line.old ≤ 300 }
     ensures text { line.new ≡ line.old ++ style_text access.0 }

@@ -7,7 +7,7 @@ use crate::part::Part;
 use description::Description;
 use script::{Output, RunFault};
 
-// Writes the boxes of all parts, in order.
+// Writes the boxes of these objects, in order.
 fn draw_boxes<P: Part, W: Output>(parts: &[P], writer: &mut W) -> Result<(), RunFault>
     ensures { Writes (W.written writer.old) (W.written writer.new) result
         (flat_map P.box_of parts.now) }
@@ -18,7 +18,7 @@ fn draw_boxes<P: Part, W: Output>(parts: &[P], writer: &mut W) -> Result<(), Run
     Ok(())
 }
 
-// Writes the lines that put all parts into the clusters of their owners.
+// Writes the lines that put these objects into the clusters of their owners.
 fn draw_owners<P: Part, W: Output>(parts: &[P], writer: &mut W) -> Result<(), RunFault>
     ensures { Writes (W.written writer.old) (W.written writer.new) result
         (flat_map owner_line (flat_map P.owner_of parts.now)) }
@@ -29,7 +29,7 @@ fn draw_owners<P: Part, W: Output>(parts: &[P], writer: &mut W) -> Result<(), Ru
     Ok(())
 }
 
-// Writes the arrows of all parts.
+// Writes the arrows of these objects.
 fn draw_arrows<P: Part, W: Output>(parts: &[P], writer: &mut W) -> Result<(), RunFault>
     ensures { Writes (W.written writer.old) (W.written writer.new) result
         (flat_map arrow_line (flat_map P.arrows_of parts.now)) }
@@ -71,8 +71,8 @@ fn draw_all_arrows<W: Output>(description: &Description, writer: &mut W) -> Resu
     draw_arrows(description.nodes.as_slice(), writer)
 }
 
-/// Writes the graph of a description in DOT: a box for each object that it names, in the cluster of
-/// the bank that owns it, and an arrow for each capability that names an object.
+/// Writes the graph of a description in DOT. Each object has a box, in the cluster of the bank that owns it. Each
+/// capability that names an object has an arrow.
 ///
 /// Returns `Err(RunFault::Write)` if the writer fails or accepts no bytes; then it accepted only a beginning of the
 /// text. It takes no memory.

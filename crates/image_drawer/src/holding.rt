@@ -13,7 +13,7 @@ use description::{BankEntry, Description, NodeEntry, PageEntry, ProcessEntry, Sl
 use model::Capability;
 use std::alloc::{AllocError, Global};
 
-// Whether a capability names an object.
+// Whether a capability names this object.
 fn names(object: u64, capability: Option<Capability>) -> bool
     ensures { result ≡ names object capability }
 {
@@ -38,8 +38,8 @@ fn holds(object: u64, process: &ProcessEntry) -> bool
     names(object, process.space) || holds_in(object, &process.registers)
 }
 
-// Returns the numbers of the processes that hold a capability to an object. This and `holding_nodes` fail only if
-// memory runs out.
+// Returns the numbers of the processes that hold a capability to an object. This function and `holding_nodes`
+// fail only if memory runs out.
 fn holding_processes(
     alloc: Global,
     object: u64,
@@ -58,7 +58,7 @@ fn holding_nodes(alloc: Global, object: u64, nodes: &[NodeEntry]) -> Result<Vec<
     holding.map(|node| node.number).collect(alloc)
 }
 
-// Puts numbers into a set.
+// Adds numbers to a set.
 #[tactic(auto, using(crate::proofs::Listed::adds_none, crate::proofs::Listed::adds_more))]
 fn mark(inside: &mut NumberSet, numbers: &[u64])
     requires { All (λ n. n < length inside.old) numbers.now }
@@ -93,7 +93,7 @@ fn has_page(pages: &[PageEntry], number: u64) -> bool
     pages.iter().any(|page| page.number == number)
 }
 
-/// Whether the graph of a description has a box for a number.
+/// Whether the graph of a description has a box with this number.
 #[tactic(auto, using(crate::proofs::Listed::box_listed))]
 pub fn has_box(description: &Description, number: u64) -> bool
     ensures { result ≡ is_listed number (boxes description.now) }
@@ -105,8 +105,8 @@ pub fn has_box(description: &Description, number: u64) -> bool
     is_bank || is_process || is_node || is_page
 }
 
-/// Returns a set with an object that has a box, and with the processes and nodes that hold a capability to it. Fails
-/// only if memory runs out.
+/// Returns the set of an object, and of the processes and nodes that hold a capability to it. Fails only if memory
+/// runs out.
 pub fn holders(
     alloc: Global,
     description: &Description,

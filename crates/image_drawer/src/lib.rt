@@ -1,5 +1,5 @@
-//! The graph of a description, in DOT: a box for each object, in the cluster of the bank that owns it, and an arrow for
-//! each capability that names an object.
+//! The graph of a description, in DOT. Each object has a box, in the cluster of the bank that owns it. Each
+//! capability that names an object has an arrow.
 #![tactic(auto)]
 
 mod arrow;

@@ -20,7 +20,7 @@ fn draw_joined<W: Output>(owner: u64, number: u64, writer: &mut W) -> Result<(),
     line.print(writer)
 }
 
-/// Writes the line that joins an object to its owner, unless the object owns itself.
+/// Writes the line that joins an object to its owner. Writes nothing if the object owns itself.
 pub(crate) fn draw_owner<W: Output>(owner: u64, number: u64, writer: &mut W) -> Result<(), RunFault>
     ensures { Writes (W.written writer.old) (W.written writer.new) result
         (flat_map owner_line (joined owner number)) }

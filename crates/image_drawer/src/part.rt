@@ -21,7 +21,7 @@ pub(crate) trait Part {
     /// The line of the object's box.
     ghost box_of: { Self → List ℕ };
 
-    /// The object's owner and number; empty if it owns itself.
+    /// The object's owner and number; empty if the object owns itself.
     ghost owner_of: { Self → List (ℕ × ℕ) };
 
     /// The object's arrows.
@@ -31,7 +31,8 @@ pub(crate) trait Part {
     fn draw_box<W: Output>(&self, writer: &mut W) -> Result<(), RunFault>
         ensures { Writes (W.written writer.old) (W.written writer.new) result (box_of self.now) };
 
-    /// Writes the line that joins the object to its owner.
+    /// Writes the line that joins the object to its owner. Writes nothing if the object owns
+    /// itself.
     fn draw_owner<W: Output>(&self, writer: &mut W) -> Result<(), RunFault>
         ensures { Writes (W.written writer.old) (W.written writer.new) result
             (flat_map owner_line (owner_of self.now)) };
@@ -69,7 +70,7 @@ impl Part for BankEntry {
     }
 }
 
-// Returns the word for a state, or no text.
+// Returns the word for a state, or an empty text.
 fn word_of(state: Option<State>) -> &'static [u8]
     ensures word { result.now ≡ word_of_state state }
     ensures short { length result.now ≤ 9 }

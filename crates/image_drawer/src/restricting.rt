@@ -8,14 +8,14 @@ use collections::NumberSet;
 use description::{Description, NodeEntry, ProcessEntry, SlotEntry};
 use model::Capability;
 
-// Whether a number is in a set. The number may be out of range.
+// Whether a number is in a set. A number out of range isn't.
 fn has(inside: &NumberSet, number: u64) -> bool
     ensures { result ≡ is_marked inside.now number }
 {
     inside.next(number as usize) == Some(number as usize)
 }
 
-// Whether a capability names no object, or one in a set.
+// Whether a capability names nothing, or an object in the set.
 fn leads_inside(inside: &NumberSet, capability: Option<Capability>) -> bool
     ensures { result ≡ leads_inside (is_marked inside.now) capability }
 {
@@ -28,7 +28,7 @@ fn leads_inside(inside: &NumberSet, capability: Option<Capability>) -> bool
     }
 }
 
-// Returns an address space, or a void one if it names an object outside a set.
+// Returns the address space, or void if it names an object outside the set.
 fn space_inside(inside: &NumberSet, space: Option<Capability>) -> Option<Capability>
     ensures { result ≡ space_inside (is_marked inside.now) space }
 {
@@ -39,7 +39,7 @@ fn space_inside(inside: &NumberSet, space: Option<Capability>) -> Option<Capabil
     }
 }
 
-// Removes the slots whose capabilities name objects outside a set.
+// Removes the slots whose capabilities name objects outside the set.
 fn restrict_slots(inside: &NumberSet, slots: &mut Vec<SlotEntry>)
     ensures { slots.new.items
         ≡ filter (λ s. leads_inside (is_marked inside.now) s.capability) slots.old.items }
@@ -49,7 +49,8 @@ fn restrict_slots(inside: &NumberSet, slots: &mut Vec<SlotEntry>)
 
 // An entry that can be restricted to a set.
 trait Restricted {
-    /// How the entry is restricted, where the function says whether a number is in the set.
+    /// The second entry is the first one restricted to a set. The function says which numbers are
+    /// in the set.
     ghost IsPartOf: { (ℕ → Bool) → Self → Self → Type 0 };
 
     /// Removes the capabilities that name objects outside a set.
@@ -83,8 +84,8 @@ fn restrict_all<T: Restricted>(inside: &NumberSet, entries: &mut [T])
     }
 }
 
-/// Restricts a description to a set of numbers: removes all other objects, and the capabilities that name an object
-/// outside the set. The graph of the result has the boxes of the set, and the arrows between them.
+/// Restricts a description to a set of objects: removes all other objects, and the capabilities that name them. The
+/// graph of the result has the boxes of the set, and the arrows between them.
 pub fn restrict(description: &mut Description, inside: &NumberSet)
     ensures { IsPart (is_marked inside.now) description.old description.new }
 {

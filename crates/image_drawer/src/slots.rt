@@ -21,7 +21,8 @@ pub(crate) fn held(capability: Option<Capability>) -> Capability
     }
 }
 
-// Writes the line in a box for a capability that names no object, unless it is void.
+// Writes the line in its holder's box for a capability that names no object. Writes nothing for
+// void.
 fn draw_plain<W: Output>(
     name: &[u8],
     index: u64,
@@ -44,7 +45,7 @@ fn draw_plain<W: Output>(
     }
 }
 
-/// Writes the lines in a box for all capabilities that name no object and aren't void.
+/// Writes a line for each of these capabilities that names no object and isn't void.
 pub(crate) fn draw_plain_slots<W: Output>(
     name: &[u8],
     slots: &[SlotEntry],

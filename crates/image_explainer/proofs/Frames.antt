@@ -1,4 +1,4 @@
--- Slots and frames.
+-- The bytes of slots and frames.
 use Rattle.image_explainer.proofs.Names.{nat_tests, ℕ, nat_le, List, length, Option, Some, take, drop, refl, sym, ap, subst, arith, Image, Cap, Geometry}
 use Rattle.image_explainer.proofs.Names.{IsKeptCap, Entry, CheckpointHeader, Shape, capability_bytes, shape_of, HasDirectory, HasHeader, HasPlan, frame_in}
 use Rattle.image_explainer.proofs.Names.{frame_sector, sectors_from, shaped_at, shape_bytes, Plan, FramePart, HoldsCap, IsFault, FitsOr, IsWholeFrame}
@@ -6,12 +6,12 @@ use Rattle.image_explainer.proofs.Names.{block_page, IsShapeFor}
 use Rattle.std.proofs.Common.{◌≡◌, ◌+◌, ◌-◌, ◌*◌, ◌<◌, ◌≤◌, ◌∙◌}
 use Rattle.image_explainer.specs.declared.sectors.fault.SectorFault.TheVariants as fault
 
--- a slot of a frame, in the form in which the code cuts it out
+-- the bytes of slot k of a frame, cut out as the code does it
 pub slot_read : (g : Geometry) (age : ℕ) (bytes : List ℕ) (k at : ℕ) (c : Cap) → at ≡ 32 + 24 * k → IsKeptCap g age c →
     take (at + 24 - at) (drop at bytes) ≡ capability_bytes c → HoldsCap g age bytes k
 slot_read g age bytes k at c place kept is = grind (arith, nat_tests)
 
--- the bytes of a frame, as they lie in sectors
+-- the parameters: the sectors of a frame, as they were read
 module _ (g : Geometry) (age n at : ℕ) (image : Image) (form : Shape) (run : List ℕ) (found : Option FramePart) where
   pub node_at : (node : List ℕ) → run ≡ sectors_from image at form.sectors → node ≡ shape_bytes form run → FitsOr g age n node found →
       FitsOr g age n (shaped_at image at form) found
@@ -22,7 +22,7 @@ module _ (g : Geometry) (age n at : ℕ) (image : Image) (form : Shape) (run : L
   page_at fits_shape page size read fits =
       subst (λ (b : List ℕ). FitsOr g age n b found) (sym (block_page g n form run fits_shape page size) ∙ ap (shape_bytes form) read) fits
 
--- a flaw in a frame of the image
+-- the parameters: the place of a frame in the image
 module _ (size : ℕ) (image : Image) (p : Plan) (h : CheckpointHeader) (es : List Entry) (n at : ℕ) (form : Shape)
     (there : at ≡ frame_sector p h.generation es n) (as_is : form ≡ shape_of p n) where
   frame_there : shaped_at image at form ≡ frame_in image p h.generation es n

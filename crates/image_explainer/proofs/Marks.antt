@@ -1,4 +1,4 @@
--- A superblock has its mark, and an image with one is large enough.
+-- A superblock begins with its mark, and an image with one isn't too small.
 use Rattle.image_explainer.proofs.Names.{nat_tests, ℕ, List, length, replicate, take, drop, refl, sym, ap, subst, append_assoc, length-append, take_at, drop_at}
 use Rattle.image_explainer.proofs.Names.{arith, codes, length-replicate, Image, HomeRange, half_number, number, zeros, HasPlan, IsTooSmall, HasMark, IsPlan}
 use Rattle.image_explainer.proofs.Names.{Plan, ranges_bytes, superblock_bytes, unused, version_number, total_reported, length-number, length-half}

@@ -1,4 +1,4 @@
--- Sectors are bad for at most one reason.
+-- Bad sectors have exactly one reason.
 use Rattle.image_explainer.proofs.Names.{ℕ, Some, None, List, refl, sym, ap, subst, Image, BadImage, Entry, CheckpointHeader, header_bytes, HasBadDirectory}
 use Rattle.image_explainer.proofs.Names.{HasBadHeader, HasDirectory, HasHeader, HasNoHeader, HasPlan, IsBadBy, option_at, Plan, same_directory, same_header}
 use Rattle.image_explainer.proofs.Names.{same_plan, IsWhole, IsWholeFrame}
@@ -23,7 +23,7 @@ module _ (size : ℕ) (image : Image) where
       let there : HasBadDirectory image q g = subst (λ (x : Plan). HasBadDirectory image x g) plans broken in
       subst (HasBadDirectory image q) (same_header image q g h first_there second) there
 
-  -- no lesser reason holds together with a greater one
+  -- two reasons that hold are equal
   pub one_reason : (a b : BadImage) → IsBadBy image size a → IsBadBy image size b → a ≡ b
   one_reason bad.Small bad.Small x y = refl
   one_reason bad.Small bad.NotASuperblock x y = absurd (y.0 x)
@@ -79,7 +79,7 @@ module _ (size : ℕ) (image : Image) where
   one_reason bad.BadBank b x y = absurd x
   one_reason a b x y = absurd y
 
-  -- all frames can be kept
+  -- all frames have an encoding
   abbrev AreWhole : Plan → CheckpointHeader → List Entry → Type 0
   AreWhole p h es = (n : ℕ) → n < p.geometry.nodes + p.geometry.pages → IsWholeFrame image p h es n
 
@@ -97,7 +97,7 @@ module _ (size : ℕ) (image : Image) where
       let whole_both : AreWhole q h ds = subst (λ (x : CheckpointHeader). AreWhole q x ds) headers whole_there in
       subst (λ (x : List Entry). AreWhole q h x) directories whole_both
 
-  -- an image without flaws is bad for no reason
+  -- if an image has no flaw, no reason applies to it
   pub whole_not_bad : (reason : BadImage) → IsWhole size image → IsBadBy image size reason → ⊥
   whole_not_bad bad.Small w x = not_small size image w.0 w.3 x
   whole_not_bad bad.NotASuperblock w x = x.1 (has_mark size image w.0 w.3)

@@ -1,4 +1,4 @@
--- Faults as reasons to refuse an image.
+-- The faults that are found are reasons to refuse an image.
 use Rattle.image_explainer.proofs.Names.{arith, ℕ, List, Option, None, Some, Ok, Err, inl, inr, ⊎_elim, refl, sym, ap, subst, nat_tests, Frame, AreKeepable}
 use Rattle.image_explainer.proofs.Names.{Disk, Image, BadImage, OpenFault, OnlyReads, Holds, SavedFrames, IsInconsistent, frames_of, consistent_is_sound}
 use Rattle.image_explainer.proofs.Names.{OpensStore, View, Parts, saved_of, holds_one, frames_not_bad, SectorFault, IsFault, ImageFault, BreaksFrames}
@@ -17,7 +17,7 @@ misnamed_bad fs m is = grind (arith, nat_tests)
 unmatched_bad : (fs : List Frame) (u : Unmatched) → AreNamed fs → IsUnmatched fs u → IsInconsistent fs bad.BadProcess
 unmatched_bad fs u named is = grind (arith, nat_tests)
 
--- frames with a fault are inconsistent for its reason
+-- if frames have a fault, they are inconsistent for the fault's reason
 inconsistent : (fs : List Frame) (f : ImageFault) → BreaksFrames fs f → IsInconsistent fs (reason_of f)
 inconsistent fs (fault.Sectors f) is = absurd is
 inconsistent fs (fault.Capability m) is = misnamed_bad fs m is.misnamed
@@ -40,18 +40,18 @@ explained_frames size c saved (fault.Bank u) holds is = (
   (saved, holds, is),
 )
 
--- a fault of sectors
+-- a fault of the sectors explains why the image is bad
 pub explained_sectors : (size : ℕ) (c : Image) (f : SectorFault) → IsFault size c f → IsExplainedBy size c (Some (fault.Sectors f))
 explained_sectors size c f is = (inl is.0, is.1)
 
--- frames that a device holds can be kept at their age, which is within its limit
+-- frames that a device holds have encodings at their age
 pub keepable : (size : ℕ) (c : Image) (saved : SavedFrames) → Holds size c saved → AreKeepable saved.geometry saved.age saved.frames
 keepable size c saved holds = grind (arith, nat_tests)
 
 pub within_age : (size : ℕ) (c : Image) (saved : SavedFrames) → Holds size c saved → saved.age ≤ 2 ^ 62
 within_age size c saved holds = subst (λ (x : SavedFrames). x.age ≤ 2 ^ 62) holds.2 holds.1.header.fits.age
 
--- a fault that was found in the frames of a store is one of the image on the device
+-- what was found in saved frames explains the image that holds them
 explained_found : (size : ℕ) (c : Image) (saved : SavedFrames) (found : Option ImageFault) → Holds size c saved →
     IsConsistentOr saved.frames found → IsExplainedBy size c found
 explained_found size c saved None holds is = (
@@ -70,7 +70,7 @@ explained_found size c saved None holds is = (
 )
 explained_found size c saved (Some f) holds is = explained_frames size c saved f holds is
 
--- the objects of a store that was opened on a device may be kept at each age
+-- the objects of a store that was opened have encodings at any age
 pub opened_keepable : {D : Type 0} (disk : D → Disk) (device : D) (parts : Parts) (view : View D) → OpensStore disk device parts view →
     parts.geometry ≡ view.snapshots.saved.geometry → AreKeepable parts.geometry (2 ^ 64 - 1) (frames_of parts)
 opened_keepable disk device parts view opens geometry =
@@ -82,7 +82,7 @@ opened_keepable disk device parts view opens geometry =
     (keepable_later saved.geometry saved.age (2 ^ 64 - 1) saved.frames (omega (arith, within_age size c saved opens.holds))
     (keepable size c saved opens.holds)))
 
--- a store that was opened on a device, and the device after it was read
+-- the parameters: a store that was opened on a device, and the device after it was read
 module _ {D : Type 0} (disk : D → Disk) (device back : D) (parts : Parts) (view : View D) (opens : OpensStore disk device parts view)
     (same : back ≡ view.beneath) where
   looked : OnlyReads (disk device) (disk back)
@@ -101,7 +101,7 @@ module _ {D : Type 0} (disk : D → Disk) (device back : D) (parts : Parts) (vie
         unfailed,
       )
 
-  -- a refusal that isn't the device's
+  -- if the fault is neither a failure nor a reason, memory ran out, and nothing is claimed
   pub explains_refused : (why : OpenFault) → (why ≡ opening.Failed → ⊥) → ((reason : BadImage) → why ≡ opening.Bad reason → ⊥) →
       (let r : Result (Option ImageFault) OpenFault = Err why in Explains disk device back r)
   explains_refused opening.Failed other good = absurd (other refl)
@@ -112,7 +112,7 @@ module _ {D : Type 0} (disk : D → Disk) (device back : D) (parts : Parts) (vie
 one_inconsistency : (fs : List Frame) (a b : BadImage) → IsInconsistent fs a → IsInconsistent fs b → a ≡ b
 one_inconsistency fs a b x y = grind (arith, nat_tests)
 
--- an image is bad for at most one reason
+-- at most one reason applies to an image
 pub one_reason : AreBadForOneReason
 one_reason size c a b x y = ⊎_elim
     (λ first. ⊎_elim

@@ -1,4 +1,4 @@
--- Devices that were refused for their sectors.
+-- Images that are refused because of their sectors.
 use Rattle.image_explainer.proofs.Names.{nat_tests, ℕ, Some, Result, Ok, Err, ⊎_elim, refl, sym, subst, arith, cases_lt, Disk, Image, CountsNow, agrees_is}
 use Rattle.image_explainer.proofs.Names.{BadImage, IsBadBy, OpenFault, CountsOpen, OnlyReads, Refuses, ReadsOnly, IsNoReason, SectorFault, IsFault, ImageFault}
 use Rattle.image_explainer.proofs.Names.{Explains}
@@ -7,7 +7,7 @@ use Rattle.layout.specs.declared.open_fault.OpenFault.TheVariants as open_fault
 use Rattle.image_explainer.specs.declared.fault.ImageFault.TheVariants as fault
 use Rattle.image_explainer.proofs.Reasons.{explained_sectors}
 
--- a device that was refused is still bad
+-- if a device was refused for a reason, the reason still holds of its image
 pub bad_still : {D : Type 0} (disk : D → Disk) (before mid : D) (reason : BadImage) → Refuses disk before mid (open_fault.Bad reason) →
     IsBadBy (disk mid).seen (disk mid).sectors reason
 bad_still disk before mid reason refuses =
@@ -15,7 +15,7 @@ bad_still disk before mid reason refuses =
     (subst (λ (c : Image). IsBadBy c (disk before).sectors reason) (sym (agrees_is (disk mid).seen (disk before).seen
     refuses.only_reads.seen)) refuses.why.1)
 
--- after the refusal the device was only read
+-- the parameters: a device that was refused, and that was only read afterwards
 module _ {D : Type 0} (disk : D → Disk) (before mid back : D) (reason : BadImage)
     (refuses : Refuses disk before mid (open_fault.Bad reason))
     (reads : ReadsOnly (disk mid) (disk back)) (now : CountsNow (disk mid)) where

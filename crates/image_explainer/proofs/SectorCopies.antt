@@ -1,9 +1,9 @@
--- Sectors in a copy of an image.
+-- The sectors in a copy of an image.
 use Rattle.image_explainer.proofs.Names.{ℕ, zero, suc, List, [], length, take, drop, refl, ap, arith, append-nil, take-add, drop-drop, Image, sectors_from}
 use Rattle.image_explainer.proofs.Names.{IsCopy}
 use Rattle.std.proofs.Common.{◌≡◌, ◌+◌, ◌-◌, ◌*◌, ◌≤◌, ◌++◌, ◌∙◌}
 
--- a sector of an image, in a copy of all sectors
+-- sector i of a copy is sector i of the image
 copied : (image : Image) (bytes : List ℕ) (i : ℕ) → IsCopy image bytes → 512 * (i + 1) ≤ length bytes →
     take 512 (drop (512 * i) bytes) ≡ image i
 copied image bytes i copy inside = let place : 0 + i ≡ i = omega arith in copy i (omega (arith, inside)) ∙ ap image place
@@ -11,7 +11,7 @@ copied image bytes i copy inside = let place : 0 + i ≡ i = omega arith in copy
 take_none : (bytes : List ℕ) → take 0 bytes ≡ []
 take_none bytes = refl
 
--- some sectors of an image, in a copy of all sectors
+-- a run of sectors in a copy is that of the image
 pub run_in : (image : Image) (bytes : List ℕ) (at n : ℕ) → IsCopy image bytes → 512 * (at + n) ≤ length bytes →
     take (512 * n) (drop (512 * at) bytes) ≡ sectors_from image at n
 unfolding sectors_from
@@ -29,7 +29,7 @@ run_in image bytes at (suc n) copy inside =
     ∙ ap (λ (r : List ℕ). take 512 (drop (512 * at) bytes) ++ r) rest
     ∙ ap (λ (b : List ℕ). b ++ sectors_from image (at + 1) n) first
 
--- the same in the form in which the code cuts them out
+-- a run of sectors in a copy, cut out as the code does it, is that of the image
 pub sectors_in : (image : Image) (bytes : List ℕ) (at n : ℕ) → IsCopy image bytes → 512 * (at + n) ≤ length bytes →
     take (at * 512 + 512 * n - at * 512) (drop (at * 512) bytes) ≡ sectors_from image at n
 sectors_in image bytes at n copy inside =
@@ -38,7 +38,7 @@ sectors_in image bytes at n copy inside =
     ap (λ (m : ℕ). take m (drop (at * 512) bytes)) size ∙ ap (λ (m : ℕ). take (512 * n) (drop m bytes)) start
     ∙ run_in image bytes at n copy inside
 
--- one sector
+-- a run of one sector is that sector
 pub one_sector : (image : Image) (at : ℕ) (bytes : List ℕ) → bytes ≡ sectors_from image at 1 → bytes ≡ image at
 unfolding sectors_from
 one_sector image at bytes is = is ∙ append-nil (image at)

@@ -1,4 +1,4 @@
--- What is wrong with the size of an image or with its superblock.
+-- What is wrong with the size of an image, or with its superblock.
 use Rattle.image_explainer.proofs.Names.{nat_tests, ℕ, List, ControlFlow, arith, MatchControlFlow, Image, HasPlan, total_in, IsPlan, Plan, superblock_bytes}
 use Rattle.image_explainer.proofs.Names.{total_reported, SectorFault, IsFault, BreaksSector, ⊤}
 use Rattle.std.proofs.Common.{◌≡◌, ◌<◌, ◌≤◌}
@@ -19,7 +19,7 @@ module _ (size : ℕ) (image : Image) (sector : List ℕ) (is : sector ≡ image
         (BreaksSector sector) → MatchControlFlow r (HasPlan image size) (IsFault size image)
     plan_found r read = grind (arith, nat_tests, total_fits, no_superblock)
 
--- the superblock that was read lies on the device
+-- if a superblock was read, its sectors fit on the device
 pub plan_fits : (size needed : ℕ) (sector : List ℕ) → needed ≡ total_in sector → needed ≤ size → (r : ControlFlow SectorFault Plan)
     → MatchControlFlow r (λ p. IsPlan p × (sector ≡ superblock_bytes p)) (BreaksSector sector)
     → MatchControlFlow r (λ p. IsPlan p × (p.total ≤ size)) (λ _. ⊤)

@@ -1,4 +1,4 @@
--- Where the directory lies, and images with nothing wrong in their sectors.
+-- Where the directory lies, and images whose sectors have no flaw.
 use Rattle.image_explainer.proofs.Names.{nat_tests, ℕ, List, ControlFlow, length, take, arith, MatchControlFlow, Image, Entry, CheckpointHeader, AllFitting}
 use Rattle.image_explainer.proofs.Names.{directory_bytes, HasHeader, HasPlan, directory_in, directory_sector, sectors_from, slot_sector, IsPlan, Plan}
 use Rattle.image_explainer.proofs.Names.{half_lies, fewer_entries, DirectoryPart, BreaksDirectory, IsFault, IsFirstEntry, directory_length}
@@ -6,7 +6,7 @@ use Rattle.std.proofs.Common.{◌≡◌, ◌+◌, ◌-◌, ◌*◌, ◌/◌, ◌
 use Rattle.image_explainer.specs.declared.sectors.fault.SectorFault.TheVariants as fault
 use Rattle.image_explainer.proofs.Directories.{no_spelling}
 
--- the directory lies after the last slot
+-- the directory begins right after the last log slot of its half
 pub behind_slots : (p : Plan) (generation at : ℕ) → 1 ≤ p.geometry.log → at ≡ slot_sector p generation (p.geometry.log - 1) →
     at + 9 ≡ directory_sector p generation
 behind_slots p generation at some is = omega (arith, some, is)
@@ -19,7 +19,7 @@ directory_inside p generation at n size plan is few inside =
     let fewer = fewer_entries p.version n p.geometry.log few in
     omega (arith, lies.1, fewer, behind_slots p generation at (omega (arith, plan.geometry.least_log)) is, inside)
 
--- the entries that were read are those of the image
+-- the parameters: the directory's sectors as they were read
 module _ (image : Image) (size : ℕ) (p : Plan) (h : CheckpointHeader) (es : List Entry) (at sector : ℕ) (run : List ℕ)
     (some : 1 ≤ p.geometry.log) (is : at ≡ slot_sector p h.generation (p.geometry.log - 1)) (here : sector ≡ at + 9)
     (n : ℕ) (count : n ≡ h.entries) (read : run ≡ sectors_from image sector (directory_length p.version n))
@@ -45,7 +45,7 @@ module _ (image : Image) (size : ℕ) (p : Plan) (h : CheckpointHeader) (es : Li
     (p, h, es, plan, header, place, len ∙ count, fits, spelt_there, broken, first),
   )
 
--- a fact that holds if the search continues
+-- if the search continues with A, and A gives B, it continues with B
 pub on_continue : {F T : Type 0} (A B : Type 0) (P : F → Type 0) (r : ControlFlow F T) → (A → B) → MatchControlFlow r (λ _. A) P →
     MatchControlFlow r (λ _. B) P
 on_continue {F} {T} A B P r leads is = grind (arith, nat_tests)

@@ -1,4 +1,4 @@
--- What is wrong in the sectors of an image: the part for which one of the reasons 1 to 7 to refuse it holds.
+-- What is wrong with the sectors of an image: reasons 1 to 7, and the places where they apply.
 use Rattle.std.specs.Prelude.{◌≡◌, ◌≢◌, ◌⊎◌, ◌+◌, ◌-◌, ◌*◌, ◌%◌, ◌^◌, ◌<◌, ◌≤◌, ◌==◌, nat_le, nat_lt, if◌then◌else◌}
 use Rattle.std.specs.Prelude.{false, true, ℕ, codes, drop, length, take, List, Some}
 use Rattle.device.specs.Disk.{Image}
@@ -36,7 +36,7 @@ use Rattle.image_explainer.specs.declared.sectors.fault.SectorFault.TheVariants 
 use Rattle.image_explainer.specs.declared.sectors.fault.SuperblockPart.{SuperblockPart}
 use Rattle.image_explainer.specs.declared.sectors.fault.SuperblockPart.TheVariants as superblock
 
--- the reason to refuse an image for a fault
+-- the reason to refuse an image that has this fault
 abbrev pub sector_reason : SectorFault → BadImage
 sector_reason (fault.Small sectors needed) = bad.Small
 sector_reason (fault.Superblock part) = bad.NotASuperblock
@@ -46,15 +46,15 @@ sector_reason (fault.Header sector part) = bad.BadHeader
 sector_reason (fault.Directory sector part) = bad.BadDirectory
 sector_reason (fault.Frame number is_page part) = bad.BadFrame
 
--- the number in the eight bytes from `at` on
+-- the number that the eight bytes from `at` on encode
 abbrev pub number_at : List ℕ → ℕ → ℕ
 number_at bytes at = number_from (drop at bytes)
 
--- a version that programs open
+-- the bytes have a version that programs open
 abbrev pub HasVersion : List ℕ → Type 0
 HasVersion bytes = (v : Version) × (take 4 (drop 8 bytes) ≡ half_number (version_number v)) × IsOpened v
 
--- reason 2: the first wrong part of sector 0: the magic, the version, or the zeros at its end
+-- reason 2: the first wrong part of sector 0, of the magic, the version and the zeros at its end
 abbrev pub BreaksMark : List ℕ → SuperblockPart → Type 0
 BreaksMark bytes superblock.Magic = take 8 bytes ≡ codes "EROSCKPT" → ⊥
 BreaksMark bytes superblock.Version =
@@ -62,17 +62,18 @@ BreaksMark bytes superblock.Version =
 BreaksMark bytes superblock.Tail =
     (take 8 bytes ≡ codes "EROSCKPT") × HasVersion bytes × (drop 256 bytes ≡ zeros 256 → ⊥)
 
--- a number isn't in a range
+-- n is less than `least` or greater than `most`
 abbrev pub IsOutside : ℕ → ℕ → ℕ → Type 0
 IsOutside least most n = (n < least) ⊎ (most < n)
 
 abbrev pub geometry_in : List ℕ → Geometry
 geometry_in bytes = record { nodes = number_at bytes 16; pages = number_at bytes 24; log = number_at bytes 32 }
 
+-- n is from `least` to `most`
 abbrev pub IsWithin : ℕ → ℕ → ℕ → Type 0
 IsWithin least most n = (least ≤ n) × (n ≤ most)
 
--- reason 3: the first number outside its limits; or all are within, but no superblock has these places
+-- reason 3: the first number outside its limits; if all are within, the places of the ranges or of the log are wrong
 abbrev pub BreaksGeometry : List ℕ → GeometryPart → Type 0
 BreaksGeometry bytes (geometry.Nodes n) = (n ≡ number_at bytes 16) × IsOutside 16 4096 n
 BreaksGeometry bytes (geometry.Pages n) =
@@ -99,8 +100,8 @@ header_in bytes = record {
   age = number_at bytes 32;
 }
 
--- reason 5: the first field above its limit, in the order of entries, age, generation and sequence; or none is, and
--- another byte is wrong
+-- reason 5: the first field above its limit, of entries, age, generation and sequence number; if there is none,
+-- another wrong byte
 abbrev pub BreaksHeader : ℕ → List ℕ → HeaderPart → Type 0
 BreaksHeader log bytes (header.Entries entries slots) = (entries ≡ number_at bytes 24) × (slots ≡ log) ×
     (slots < entries)
@@ -115,8 +116,8 @@ BreaksHeader log bytes (header.Sequence sequence age) =
     (2 * age + (if number_at bytes 24 == 0 then 1 else 0) < sequence)
 BreaksHeader log bytes header.Bytes = IsHeader log (header_in bytes) × (bytes ≡ header_bytes (header_in bytes) → ⊥)
 
--- reason 6: an entry has the number of no object or of no slot, isn't above the entry before it, or has the slot of
--- another
+-- reason 6: an entry's number is no object's, its slot doesn't exist, its number isn't above the one before it, or
+-- another entry has its slot
 abbrev pub BreaksDirectory : Geometry → List Entry → DirectoryPart → Type 0
 BreaksDirectory g es (entry.Object k object) = (k < length es) × ((entry_at es k).object ≡ object) ×
     (g.nodes + g.pages ≤ object)
@@ -127,33 +128,33 @@ BreaksDirectory g es (entry.Order k object before) =
 BreaksDirectory g es (entry.Shared j k slot) = (j < k) × (k < length es) × ((entry_at es j).slot ≡ slot) ×
     ((entry_at es k).slot ≡ slot)
 
--- entry k is right by itself, and among the entries before it
+-- entry k is valid by itself, and together with the entries before it
 pub record IsAmong (g : Geometry) (es : List Entry) (k : ℕ) : Type 0 where
   pub own : IsEntry g (entry_at es k)
   pub rises : 1 ≤ k → (entry_at es (k - 1)).object < (entry_at es k).object
   pub apart : (j : ℕ) → j < k → (entry_at es j).slot ≡ (entry_at es k).slot → ⊥
 
+-- the index of the wrong entry
 abbrev pub entry_of : DirectoryPart → ℕ
 entry_of (entry.Object k object) = k
 entry_of (entry.Slot k slot) = k
 entry_of (entry.Order k object before) = k
 entry_of (entry.Shared j k slot) = k
 
--- this entry is the first wrong one
+-- every entry before this one is valid
 abbrev pub IsFirstEntry : Geometry → List Entry → DirectoryPart → Type 0
 IsFirstEntry g es part = (j : ℕ) → j < entry_of part → IsAmong g es j
 
--- slot k of a node's frame has a capability that can be kept
+-- slot k of a node's frame encodes a capability that an image may hold
 abbrev pub HoldsCap : Geometry → ℕ → List ℕ → ℕ → Type 0
 HoldsCap g age bytes k = (c : Cap) × IsKeptCap g age c × (take 24 (drop (32 + 24 * k) bytes) ≡ capability_bytes c)
 
--- the first slot of a node's frame without a capability that can be kept
+-- the first slot of a node's frame whose bytes encode no capability that an image may hold
 abbrev pub IsBadSlot : Geometry → ℕ → List ℕ → ℕ → Type 0
 IsBadSlot g age bytes slot =
     (slot < 32) × (HoldsCap g age bytes slot → ⊥) × ((k : ℕ) → k < slot → HoldsCap g age bytes k)
 
--- reason 7: the first wrong part: a count above the age, a slot without a capability; or neither is wrong, but the
--- frame can't be kept
+-- reason 7: the first wrong part of a frame, of its counts and its slots; if there is none, its body
 abbrev pub BreaksFrame : Geometry → ℕ → ℕ → List ℕ → FramePart → Type 0
 BreaksFrame g age n bytes (frame.Allocations count most) = (count ≡ number_at bytes 8) × (most ≡ age) × (most < count)
 BreaksFrame g age n bytes (frame.Calls count most) =
@@ -167,7 +168,7 @@ BreaksFrame g age n bytes (frame.Slot slot) =
 BreaksFrame g age n bytes frame.Body =
     (number_at bytes 8 ≤ age) × (number_at bytes 16 ≤ age) × (n < g.nodes → (k : ℕ) → k < 32 → HoldsCap g age bytes k)
 
--- what a fault names is wrong in the `size` sectors of an image
+-- the fault is in the `size` sectors of the image
 abbrev pub BreaksSectors : ℕ → Image → SectorFault → Type 0
 BreaksSectors size c (fault.Small sectors needed) = (sectors ≡ size) ×
     (needed ≡ (if nat_lt size 5 then 5 else total_in (c 0))) × (sectors < needed)
@@ -190,6 +191,6 @@ BreaksSectors size c (fault.Frame number is_page part) =
     × ((f : Frame) → IsFrameOf p.geometry h.age number (frame_in c p h.generation es number) f → ⊥)
     × BreaksFrame p.geometry h.age number (frame_in c p h.generation es number) part
 
--- the least reason that holds is the fault's, and what it names is wrong
+-- the image has this fault, with the least reason that applies
 abbrev pub IsFault : ℕ → Image → SectorFault → Type 0
 IsFault size c f = IsBadBy c size (sector_reason f) × BreaksSectors size c f

@@ -1,4 +1,4 @@
--- What the searches for a fault find on their way.
+-- What the searches for a fault in sectors return.
 use Rattle.std.specs.Prelude.{◌≡◌, ℕ, ◌+◌, ◌*◌, ◌<◌, ◌≤◌, ◌==◌, if◌then◌else◌, length, List, Option, None, Some}
 use Rattle.device.specs.Disk.{Image}
 use Rattle.device.specs.Calls.{AreSectors}
@@ -19,29 +19,29 @@ use Rattle.image_explainer.specs.SectorBreaking.{BreaksFrame, BreaksGeometry, Br
 use Rattle.image_explainer.specs.SectorBreaking.{IsBadSlot, IsNotCounted}
 use Rattle.image_explainer.specs.SectorBreaking.{number_at}
 
--- these bytes are a copy of the first sectors of an image
+-- the bytes are a copy of the first sectors of an image
 abbrev pub IsCopy : Image → List ℕ → Type 0
 IsCopy image bytes = AreSectors image 0 bytes
 
--- the bytes of object n's frame encode one that can be kept
+-- the bytes of object n's frame encode a frame that an image may hold
 abbrev pub IsWholeFrame : Image → Plan → CheckpointHeader → List Entry → ℕ → Type 0
 IsWholeFrame image p h es n = (f : Frame) × IsFrameOf p.geometry h.age n (frame_in image p h.generation es n) f
 
--- none of the reasons 1 to 7 holds
+-- none of the reasons 1 to 7 applies
 abbrev pub IsWhole : ℕ → Image → Type 0
 IsWhole size image =
     (p : Plan) × (h : CheckpointHeader) × (es : List Entry) × HasPlan image size p × HasHeader image p h × HasDirectory
     image p h es
     × ((n : ℕ) → n < p.geometry.nodes + p.geometry.pages → IsWholeFrame image p h es n)
 
--- a sector is no superblock, and this part of it is wrong
+-- the bytes are no superblock, and this part is wrong
 abbrev pub BreaksSector : List ℕ → SectorFault → Type 0
 BreaksSector bytes (fault.Superblock part) = (HasMark bytes → ⊥) × BreaksMark bytes part
 BreaksSector bytes (fault.Geometry part) = HasMark bytes × ((p : Plan) → IsPlan p → bytes ≡ superblock_bytes p → ⊥) ×
     BreaksGeometry bytes part
 BreaksSector bytes _ = ⊥
 
--- from the bytes of two headers and their gates: the committed slot; the header in it
+-- the slot of the committed header, from the bytes of two headers and their gates
 abbrev pub slot_of : List ℕ → List ℕ → List ℕ → List ℕ → Option ℕ
 slot_of first first_gate second second_gate =
     committed_of (does_count first first_gate 0) (sequence_in first) (does_count second second_gate 1)
@@ -50,17 +50,19 @@ slot_of first first_gate second second_gate =
 abbrev pub picked : ℕ → List ℕ → List ℕ → List ℕ
 picked slot first second = if slot == 0 then first else second
 
+-- h is the committed header
 abbrev pub HasHeaderIn : ℕ → List ℕ → List ℕ → List ℕ → List ℕ → CheckpointHeader → Type 0
 HasHeaderIn log first first_gate second second_gate h =
     (slot : ℕ) × (slot < 2) × (slot_of first first_gate second second_gate ≡ Some slot) × IsHeader log h ×
     (picked slot first second ≡ header_bytes h)
 
--- the bytes of a sector encode no header, and this part of them is wrong
+-- the bytes encode no header, and this part is wrong
 abbrev pub RefusesHeader : ℕ → ℕ → List ℕ → SectorFault → Type 0
 RefusesHeader sector log bytes (fault.Header at part) = (at ≡ sector) ×
     ((h : CheckpointHeader) → IsHeader log h → bytes ≡ header_bytes h → ⊥) × BreaksHeader log bytes part
 RefusesHeader sector log bytes _ = ⊥
 
+-- no header is committed, or the committed one is malformed
 abbrev pub HasNoneIn : ℕ → List ℕ → List ℕ → List ℕ → List ℕ → SectorFault → Type 0
 HasNoneIn log first first_gate second second_gate (fault.NoHeader one other) =
     (slot_of first first_gate second second_gate ≡ None) × IsNotCounted first first_gate 0 one × IsNotCounted second
@@ -69,11 +71,11 @@ HasNoneIn log first first_gate second second_gate f =
     (slot : ℕ) × (slot < 2) × (slot_of first first_gate second second_gate ≡ Some slot) × RefusesHeader (1 + 2 * slot)
     log (picked slot first second) f
 
--- an entry has this slot
+-- some entry has this slot
 abbrev pub IsSlotOf : List Entry → ℕ → Type 0
 IsSlotOf es slot = (k : ℕ) × (k < length es) × ((entry_at es k).slot ≡ slot)
 
--- which slot of a node's frame is wrong; `Body` says that none is
+-- the first bad slot of a node's frame; the body if no slot is bad
 abbrev pub BreaksSlots : Geometry → ℕ → List ℕ → FramePart → Type 0
 BreaksSlots g age bytes (frame.Count slot count most) =
     IsBadSlot g age bytes slot × (count ≡ number_at bytes (48 + 24 * slot)) × (most ≡ age) × (most < count)
@@ -81,7 +83,7 @@ BreaksSlots g age bytes (frame.Slot slot) = IsBadSlot g age bytes slot × (numbe
 BreaksSlots g age bytes frame.Body = (k : ℕ) → k < 32 → HoldsCap g age bytes k
 BreaksSlots g age bytes _ = ⊥
 
--- these bytes encode a frame that can be kept; or this part of them is wrong
+-- the bytes encode a frame that an image may hold; or they don't, and this part is wrong
 abbrev pub FitsOr : Geometry → ℕ → ℕ → List ℕ → Option FramePart → Type 0
 FitsOr g age n bytes None = (f : Frame) × IsFrameOf g age n bytes f
 FitsOr g age n bytes (Some part) = ((f : Frame) → IsFrameOf g age n bytes f → ⊥) × BreaksFrame g age n bytes part

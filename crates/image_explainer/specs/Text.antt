@@ -1,4 +1,4 @@
--- The line about a fault.
+-- The text of a fault, in one line.
 use Rattle.std.specs.Prelude.{Bool, ℕ, nat_lt, if◌then◌else◌, List, [], ◌∷◌, ◌++◌, codes, decimal}
 use Rattle.model.specs.declared.capability.Capability.{Capability}
 use Rattle.model.specs.declared.capability.Capability.TheVariants as cap
@@ -29,7 +29,7 @@ use Rattle.image_explainer.specs.declared.fault.Unmatched.{Unmatched}
 use Rattle.image_explainer.specs.declared.fault.Unmatched.TheVariants as unmatched
 use Rattle.image_explainer.specs.Breaking.{reason_of}
 
--- a word and a number
+-- a word and a number, with a space between
 abbrev pub numbered : List ℕ → ℕ → List ℕ
 numbered word n = spaced (word ∷ decimal n ∷ [])
 
@@ -67,7 +67,7 @@ header_part_text header.Bytes = codes ": the magic is not EROSHEAD, or a byte is
 abbrev pub header_text : ℕ → HeaderPart → List ℕ
 header_text sector part = numbered (codes "header in sector") sector ++ header_part_text part
 
--- the text of what is wrong with a directory; entries are counted from 0
+-- the text of what is wrong with a directory; entries are numbered from 0
 abbrev pub directory_part_text : DirectoryPart → List ℕ
 directory_part_text (entry.Object k object) = numbered (codes ", entry") k ++ codes ": there is no object" ++ 32 ∷
     decimal object
@@ -96,7 +96,7 @@ abbrev pub frame_text : ℕ → Bool → FramePart → List ℕ
 frame_text number is_page part = numbered (if is_page then codes "page" else codes "node") number ++ frame_part_text
     part
 
--- the address space of a process, a register of an annex, or a slot of a node
+-- the text of where a capability is held: the address space of a process, a register of an annex, or a slot of a node
 abbrev pub holder_text : Role → ℕ → ℕ → List ℕ
 holder_text role.Root holder index = numbered (codes "process") holder ++ codes ", space"
 holder_text role.Annex holder index = numbered (codes "annex") holder ++ codes ", register" ++ 32 ∷ decimal index
@@ -152,6 +152,6 @@ place_text (fault.Capability m) = holder_text m.role m.holder m.index ++ misname
 place_text (fault.Process u) = unmatched_text u
 place_text (fault.Bank u) = unbanked_text u
 
--- the text of a fault: the place, what is wrong there, and the number of the reason
+-- the text of a fault: its place, what is wrong there, and the number of its reason
 unfoldable pub fault_text : ImageFault → List ℕ
 fault_text f = place_text f ++ codes " (bad image" ++ 32 ∷ decimal (reason_number (reason_of f)) ++ codes ")"

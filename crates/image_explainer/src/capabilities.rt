@@ -1,4 +1,4 @@
-// Finding a held capability that may not be in an image.
+// Finding a capability that an image may not hold.
 ghost use Rattle.std.specs.Prelude.{◌≡◌, ◌<◌, length, IfNone, IfOk, IfSome};
 ghost use Rattle.std.specs.List.{All};
 ghost use Rattle.model.specs.Frame.{frame_at};
@@ -14,7 +14,7 @@ use capability::Frames;
 use model::{Cap, ContentRef, Refusal};
 use recovery::{Noted, is_named};
 
-// Returns the first of these capabilities of an object that is misnamed (see `find_misnamed`), or `None`.
+// Returns the first of an object's capabilities that is misnamed (see `find_misnamed`), or `None`.
 fn find_in<F: Frames>(
     store: &F,
     notes: &[Option<Noted>],
@@ -77,8 +77,8 @@ fn find_at<F: Frames>(
     Ok(find_there(store, notes, number))
 }
 
-/// Returns the first held capability, by holder and slot, whose count is greater than its object's, or that is live
-/// and names an object of another kind than its own; or `None`. Fetches objects one at a time.
+/// Returns the first misnamed capability, by holder and slot, or `None`. A capability is misnamed if its count is
+/// greater than its object's, or if it is live and names an object of another kind. Fetches objects one at a time.
 pub(crate) fn find_misnamed<F: Frames>(
     store: &mut F,
     notes: &[Option<Noted>],

@@ -50,7 +50,7 @@ fn reserve(alloc: Global, size: u64) -> Result<(Vec<u8>, Vec<Entry>, Scratch), A
     Ok((copy, entries, scratch))
 }
 
-// Copies the sectors of a device into `copy`, and returns what is wrong with them.
+// Copies a device's sectors into `copy`, and returns what is wrong with them.
 fn find_in_copy<D: Device>(
     device: &mut D,
     copy: &mut [u8],
@@ -76,7 +76,7 @@ fn find_in_copy<D: Device>(
     }
 }
 
-// Copies the sectors of a device into new memory, and returns what is wrong with them.
+// Copies a device's sectors into new memory, and returns what is wrong with them.
 fn find_on<D: Device>(alloc: Global, device: &mut D) -> Result<SectorFault, OpenFault>
     requires { (reason : BadImage) × IsBadBy (D.disk device.old).seen (D.disk device.old).sectors reason }
     ensures found { IfOk result (IsFault (D.disk device.old).sectors (D.disk device.old).seen) }
@@ -92,7 +92,7 @@ fn find_on<D: Device>(alloc: Global, device: &mut D) -> Result<SectorFault, Open
     find_in_copy(device, &mut copy, &mut entries, &mut scratch)
 }
 
-// Returns what is wrong with the sectors of a device that was refused for one of the reasons 1 to 7, and the device.
+// Returns what is wrong with the sectors of a device to which one of the reasons 1 to 7 applies, and the device.
 fn explain_sectors<D: Device>(
     alloc: Global,
     device: D,
@@ -108,12 +108,11 @@ fn explain_sectors<D: Device>(
     }
 }
 
-/// Returns why the image on a device is refused: `None` if a kernel opens it, else what is wrong, and where. The
-/// reason is the least of the ten that holds, and the place is the first for which it holds. Copies the sectors into
-/// memory.
+/// Returns why the image on a device is refused, or `None` if a kernel opens it. The fault has the least reason that
+/// applies, of ten, and the first place where it does. Copies the sectors into memory.
 ///
-/// The device is returned. Nothing is written to it at any moment. Returns `Failed` exactly if the device failed, and
-/// `NoMemory` if memory ran out; never `Bad`.
+/// Returns the device too, and writes nothing to it. Returns `Failed` exactly if the device failed, and `NoMemory` if
+/// memory ran out; never `Bad`.
 #[tactic(auto, using(crate::proofs::Refused::bad_still))]
 pub fn explain<D: Device, S: WholeStore<D>>(
     alloc: Global,

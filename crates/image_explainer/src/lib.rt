@@ -1,5 +1,5 @@
-//! Why an image is refused: the least of the ten reasons that holds, and the object, slot, field or sector for which
-//! it holds.
+//! Why an image is refused: the least of the ten reasons that applies, and the object, slot, field or sector where
+//! it does.
 #![tactic(auto)]
 
 mod capabilities;

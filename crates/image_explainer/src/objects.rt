@@ -1,4 +1,4 @@
-// Finding what is wrong with the saved objects of an image: reasons 8 to 10.
+// Finding what is wrong with the objects of an image: reasons 8 to 10.
 ghost use Rattle.std.specs.Prelude.{IfOk};
 ghost use Rattle.capability.specs.Parts.{MayFetch, OnlyReads, frames_of};
 ghost use Rattle.image_explainer.specs.Finding.{IsConsistentOr};
@@ -11,8 +11,8 @@ use model::Refusal;
 use recovery::{find_unbanked, read_notes};
 use std::alloc::Global;
 
-/// Returns what is wrong with the objects of a store: the least of the reasons 8 to 10 that holds, with its first
-/// place; or `None`. Fetches objects one at a time, and no object changes.
+/// Returns what is wrong with the objects of a store, or `None`: the least of the reasons 8 to 10 that applies,
+/// with its first place. Fetches objects one at a time, and changes none.
 pub(crate) fn find_in_objects<F: Frames>(
     alloc: Global,
     store: &mut F,

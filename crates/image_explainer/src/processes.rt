@@ -1,4 +1,4 @@
-// Finding a root and an annex that don't belong together.
+// Finding a root and an annex that don't match.
 ghost use Rattle.std.specs.Prelude.{◌≡◌, ℕ, ◌<◌, ◌≤◌, Some, IfNone, IfSome};
 ghost use Rattle.capability.specs.Parts.{frames_of};
 ghost use Rattle.recovery.specs.Noted.{AreNoted};
@@ -10,7 +10,8 @@ use capability::Frames;
 use model::Role;
 use recovery::{Noted, has_role, is_annex_for};
 
-// Returns the annex of the root with a number, from the notes of all roots; `None` for other objects.
+// Returns the annex of the root with this number, or `None` if the object is no root. `notes` has the
+// annexes of all roots.
 fn annex_of(notes: &[Option<Noted>], number: usize) -> Option<u64>
     ensures { result ≡ annex_noted notes.now number }
 {
@@ -20,7 +21,7 @@ fn annex_of(notes: &[Option<Noted>], number: usize) -> Option<u64>
     }
 }
 
-// Returns the first root with this annex whose number is at least `from`, or `None`.
+// Returns the first root from number `from` on that names this annex, or `None`.
 fn root_of(notes: &[Option<Noted>], from: usize, annex: u64) -> Option<usize>
     ensures some { IfSome result (λ root. (from ≤ root) × (annex_noted notes.now root ≡ Some annex)) }
     ensures first { IfSome result (λ root. (p : ℕ) → from ≤ p → p < root → annex_noted notes.now p ≡ Some annex → ⊥) }
@@ -34,7 +35,8 @@ fn root_of(notes: &[Option<Noted>], from: usize, annex: u64) -> Option<usize>
     None
 }
 
-// Returns what is wrong with a root and its annex, or that a later root has the same annex; or `None`.
+// Returns what is wrong with a root: its annex doesn't match, or a later root names the same annex.
+// `None` if nothing is.
 fn flaw_of_root<F: Frames>(store: &F, notes: &[Option<Noted>], root: usize) -> Option<Unmatched>
     requires { AreNoted (frames_of (F.parts store.now)) notes.now }
     ensures found { IfSome result (IsUnmatched (frames_of (F.parts store.now))) }
@@ -75,7 +77,7 @@ fn find_root<F: Frames>(store: &F, notes: &[Option<Noted>]) -> Option<Unmatched>
     None
 }
 
-// Returns the flaw of an annex that no root names, or `None`.
+// Returns the flaw of an annex that no root names; `None` for any other object.
 fn flaw_of_annex<F: Frames>(store: &F, notes: &[Option<Noted>], annex: u64) -> Option<Unmatched>
     requires { AreNoted (frames_of (F.parts store.now)) notes.now }
     ensures found { IfSome result (IsUnmatched (frames_of (F.parts store.now))) }
@@ -108,8 +110,7 @@ fn find_annex<F: Frames>(store: &F, notes: &[Option<Noted>]) -> Option<Unmatched
     None
 }
 
-/// Returns the first root and annex that don't belong together, or `None`: first roots by number, then annexes by
-/// number.
+/// Returns the first root or annex that doesn't match, or `None`. Roots come first, then annexes, both by number.
 #[tactic(auto, using(crate::proofs::Matching::matches))]
 pub(crate) fn find_unmatched<F: Frames>(store: &F, notes: &[Option<Noted>]) -> Option<Unmatched>
     requires { AreNoted (frames_of (F.parts store.now)) notes.now }

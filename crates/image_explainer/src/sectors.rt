@@ -1,4 +1,4 @@
-// Finding what is wrong in the sectors of an image, and where: the reasons 1 to 7 to refuse it.
+// Finding what is wrong with the sectors of an image, and where: reasons 1 to 7.
 mod directory;
 mod fault;
 mod finding;

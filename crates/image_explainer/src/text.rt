@@ -1,4 +1,4 @@
-// The line about a fault.
+// The line that explains a fault.
 ghost use Rattle.std.specs.Prelude.{◌≡◌, ◌+◌, ◌++◌, ◌∷◌, ◌≤◌, codes, decimal, length};
 ghost use Rattle.image_explainer.specs.Text.{fault_text, holder_text, kind_text, misnamed_text};
 ghost use Rattle.image_explainer.specs.Text.{place_text, sectors_text, unbanked_text, unmatched_text};
@@ -17,7 +17,7 @@ use model::{Capability, Role};
 use recovery::Unbanked;
 use script::LineText;
 
-// Returns the line about a sector 0 that isn't a superblock.
+// Returns the line that says why sector 0 isn't a superblock.
 fn superblock_line(part: SuperblockPart) -> LineText
     ensures text { result ≡ superblock_text part }
     ensures short { length result ≤ 60 }
@@ -41,7 +41,7 @@ fn outside(word: &[u8], number: u64, limits: &[u8]) -> LineText
     line
 }
 
-// Returns the line about a field of the superblock that is outside its limits.
+// Returns the line about a superblock's field that is outside its limits.
 fn geometry_line(part: GeometryPart) -> LineText
     ensures text { result ≡ geometry_text part }
     ensures short { length result ≤ 90 }
@@ -129,7 +129,7 @@ fn header_line(sector: u64, part: HeaderPart) -> LineText
     line
 }
 
-// Appends that the object of an entry isn't greater than that of the entry before it.
+// Appends that an entry's object number isn't above that of the entry before it.
 fn add_order(line: &mut LineText, entry: u64, object: u64, before: u64)
     requires { length line.old ≤ 70 }
     ensures text { line.new ≡ line.old ++ 32 ∷ decimal entry ++ codes ": object" ++ 32 ∷ decimal object
@@ -389,7 +389,7 @@ fn sectors_line(fault: SectorFault) -> LineText
     }
 }
 
-// Returns the reason why an image with this fault in its sectors is refused.
+// Returns the reason to refuse an image that has this fault in its sectors.
 fn sector_reason_of(fault: SectorFault) -> BadImage
     ensures { result ≡ sector_reason fault }
 {
@@ -405,7 +405,7 @@ fn sector_reason_of(fault: SectorFault) -> BadImage
 }
 
 impl ImageFault {
-    /// Returns the reason why an image with this fault is refused.
+    /// Returns the reason to refuse an image that has this fault.
     pub fn reason(self) -> BadImage
         ensures { result ≡ reason_of self }
     {

@@ -5,14 +5,14 @@ use Rattle.jobs.proofs.Names.{SeesImage, Result, IfErr, SavesImage}
 use Rattle.std.proofs.Common.{◌≡◌, ◌≢◌, ◌∷◌, ◌∙◌}
 use Rattle.script.specs.declared.fault.RunFault.TheVariants as run
 
--- an observer that never ends a run sees it to its end
+-- if an observer never ends a run, the run went on to its end
 goes_on_to_end : {O : Type 0} (sees : Turn → O → O → Bool → Type 0) → ((t : Turn) (old new : O) (on : Bool) → sees t old new on → on ≡ true)
     → (first last : O) (turns : List Turn) (on : Bool) → AreSeen sees first last turns on → on ≡ true
 goes_on_to_end sees always first last [] on seen = seen.1
 goes_on_to_end sees always first last (t ∷ ts) on seen =
     ⊎_elim (λ goes. goes_on_to_end sees always goes.0 last ts on goes.2) (λ ends. ends.1 ∙ always t first last false ends.2) seen
 
--- where a tracer ended a run
+-- if a tracer ended a run, it knows where
 has_ended : {V : Type 0} (written : V → Written) (g : Geometry) (first last : Tracer V) (turns : List Turn) (on : Bool) →
     AreSeen (Sees written g) first last turns on → on ≡ false →
     (stop : Stop) × (last.stop ≡ Some stop)
@@ -26,7 +26,7 @@ has_ended written g first last (t ∷ ts) on seen ended =
     found true None place never = absurd never
     found true (Some stop) place ends = (stop, refl)
 
--- an outcome that isn't the observer's doesn't need the place
+-- if the observer didn't end the run, the outcome needs no place where the run stopped
 pub unstopped : (outcome : Result (Unit {0}) RunFault) → IfErr outcome (λ e. e ≢ run.Stopped) → HasStop (Ok outcome) None
 unstopped (Ok u) is = tt
 unstopped (Err run.Read) is = tt
@@ -36,7 +36,7 @@ unstopped (Err run.Stopped) is = absurd (is refl)
 module _ {D S : Type 0} (disk : D → Disk) (view : S → View D) (parts : S → Parts) (device back : D) where
   module _ {O : Type 0} (sees : Geometry → Turn → O → O → Bool → Type 0) (before after : O) (input input_left : Option (List ℕ))
       (output output_left : Written) where
-    -- for such an observer it doesn't matter where it would have ended the run
+    -- if an observer never ends a run, the outcome needs no place where the run stopped
     pub needs_no_stop : ((g : Geometry) (t : Turn) (old new : O) (on : Bool) → sees g t old new on → on ≡ true) →
         (outcome : Result (Result (Unit {0}) RunFault) OpenFault) →
         SeesImage disk view parts sees device back before after input input_left output output_left outcome → HasStop outcome None
@@ -60,7 +60,7 @@ module _ {D S : Type 0} (disk : D → Disk) (view : S → View D) (parts : S →
     runs_unseen (Ok (Err run.Stopped)) end is seen = absurd is
     runs_unseen (Err why) end is seen = rw is (seen.0, seen.1, seen.2)
 
-  -- a tracer that ended a run knows the place, also if all was to be saved
+  -- if a tracer ended a run that is to be saved at its end, it knows where
   pub saver_has_stop : {V : Type 0} (written : V → Written) (before after : Tracer V) (input input_left : Option (List ℕ))
       (output output_left : Written) (outcome : Result (Result (Unit {0}) RunFault) OpenFault) (saved : Result (Unit {0}) Fault) →
       SavesImage disk view parts (Sees written) device back before after input input_left output output_left outcome saved →
@@ -70,7 +70,7 @@ module _ {D S : Type 0} (disk : D → Disk) (view : S → View D) (parts : S →
       rw (has_ended written seen.3.geometry before after r.0 r.3 r.4 r.5).1 tt
   saver_has_stop written before after input input_left output output_left outcome saved seen = tt
 
-  -- a tracer that ended a run knows the place
+  -- if a tracer ended a run, it knows where
   pub tracer_has_stop : {V : Type 0} (written : V → Written) (before after : Tracer V) (input input_left : Option (List ℕ))
       (output output_left : Written) (outcome : Result (Result (Unit {0}) RunFault) OpenFault) →
       SeesImage disk view parts (Sees written) device back before after input input_left output output_left outcome →

@@ -1,4 +1,4 @@
--- What the command that checks writes about a store that was made from a device.
+-- What `check` writes about a store that was opened on a device.
 use Rattle.jobs.proofs.Names.{Format, ℕ, List, refl, line_of, Disk, Parts, Checkpoint, View, Live, Recovers, saved_of, checked_text, TellsSaved}
 use Rattle.std.proofs.Common.{◌≡◌}
 

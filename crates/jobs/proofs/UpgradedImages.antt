@@ -1,4 +1,4 @@
--- The outcome of the commands that write an image to a new one.
+-- The outcomes of `upgrade` and `copy`.
 use Rattle.jobs.proofs.Names.{Written, Wrote, ℕ, Ok, Err, ap, subst, sym, IfErr, IsErrOf, OnErr, OnOk, line_of, Disk, NewLayout, new_plan, UpgradeFault}
 use Rattle.jobs.proofs.Names.{ReadsAndCloses, Upgrades, WroteFront, Fault, UpgradesImage, old_failed, upgraded_text, UpgradesAndTells}
 use Rattle.std.specs.Prelude.{Result, ◌↔◌, List}
@@ -18,19 +18,19 @@ module _ {D E : Type 0} (l : NewLayout) (disk : D → Disk) (new_disk : E → Di
       UpgradesAndTells l disk new_disk old before new Reported
   told_of Reported told = (done.0, subst (λ (n : ℕ). Reported (line_of (upgraded_text l n))) done.1 told)
 
-  -- the total was reported, or couldn't be
+  -- if an image was upgraded, its size was written, or couldn't be
   pub total_reported : (result : Result (Unit {0}) Fault) → OnOk result (Wrote output output_left (line_of (upgraded_text l total))) →
       OnErr result (WroteFront output output_left (line_of (upgraded_text l total)))
       → IfErr result (λ f. f ≡ fault.CannotWriteOutput) → UpgradesImage l disk new_disk old before new output output_left result
   total_reported (Ok a) reported front is = told_of (Wrote output output_left) reported
   total_reported (Err f) reported front is = rw is (told_of (WroteFront output output_left) front)
 
--- this isn't reported as a failure of the old device
+-- if the output couldn't be written, no failure of the old device is reported
 pub never_old : (result : Result (Unit {0}) Fault) → IfErr result (λ f. f ≡ fault.CannotWriteOutput) → IsErrOf result old_failed → ⊥
 never_old (Ok a) is reported = cc
 never_old (Err f) is reported = let same : f ≡ old_failed = cc in let other : fault.CannotWriteOutput ≡ old_failed = sym is ∙ same in cc
 
--- a device that was only read was so however its failure is reported
+-- if two reports of a failure agree, `ReadsAndCloses` with one gives it with the other
 pub read_reported : {D : Type 0} (disk : D → Disk) (was_closed : D → Type 0) (old : D) (reported other : Type 0) → (other → reported) →
     (reported → other) → ReadsAndCloses disk was_closed old reported → ReadsAndCloses disk was_closed old other
 read_reported disk was_closed old reported other back on read = (
@@ -43,7 +43,7 @@ read_reported disk was_closed old reported other back on read = (
   },
 )
 
--- after an upgrade that succeeded, no failure of the old device is reported
+-- if an upgrade succeeded, no failure of the old device is reported
 pub read_upgraded : {D : Type 0} (disk : D → Disk) (was_closed : D → Type 0) (old : D) (total : ℕ) →
     (let r : Result ℕ UpgradeFault = Ok total in ReadsAndCloses disk was_closed old (IsErrOf r (upgrade.Old opening.Failed)))
     → (reported : Result (Unit {0}) Fault) → (IsErrOf reported old_failed → ⊥) →
@@ -53,7 +53,7 @@ read_upgraded disk was_closed old total read reported never =
     read_reported disk was_closed old (IsErrOf r (upgrade.Old opening.Failed)) (IsErrOf reported old_failed) (λ is. absurd (never is))
     (λ is. cc) read
 
--- after an upgrade that failed, the report says whether the old device failed
+-- if an upgrade failed, the report says whether the old device did
 pub read_refused : {D T : Type 0} (disk : D → Disk) (was_closed : D → Type 0) (old : D) (why : UpgradeFault) →
     (let r : Result T UpgradeFault = Err why in ReadsAndCloses disk was_closed old (IsErrOf r (upgrade.Old opening.Failed)))
     → (let reported : Result (Unit {0}) Fault = Err (fault.Upgrade why) in ReadsAndCloses disk was_closed old (IsErrOf reported old_failed))

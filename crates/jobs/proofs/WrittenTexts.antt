@@ -1,8 +1,8 @@
--- The outcome of a command that ends with a text.
+-- The outcome of a command that ends by writing a text.
 use Rattle.jobs.proofs.Names.{Writes, Written, Wrote, WroteFront, RunFault, Fault, after_write, Result, Ok, Err, ℕ, List}
 use Rattle.jobs.specs.declared.fault.Fault.TheVariants as fault
 
--- a property of the outcome of a write, whether the text was written or only a part of it
+-- if a claim holds when the text is written, and when only a beginning of it is, it holds of the outcome of the write
 pub text_written : (old new : Written) (text : List ℕ) (Tells : Result (Unit {0}) Fault → Type 0) →
     ((a : Unit {0}) → Wrote old new text → Tells (Ok a)) → (WroteFront old new text → Tells (Err fault.CannotWriteOutput)) →
     (wrote : Result (Unit {0}) RunFault) → Writes old new wrote text → Tells (after_write wrote)

@@ -1,4 +1,4 @@
--- The message of a fault, and the exit status of a command.
+-- The messages of faults, and the exit status of a command.
 use Rattle.jobs.specs.Names.{Written, ℕ, List, [], codes, decimal, Option, None, Some, Result, Ok, Err, OpenFault}
 use Rattle.jobs.specs.Names.{line_of, spaced, BuildFault, UpgradeFault, fault_number, GrowthFault, Stop, cause_text}
 use Rattle.jobs.specs.Names.{Refusal, RunFault, Writes, reason_number, refusal_text, text_object}
@@ -30,20 +30,22 @@ upgrade_text upgrade.Small = codes "eros: cannot write image"
 upgrade_text upgrade.Failed = codes "eros: device failed"
 upgrade_text upgrade.NoMemory = codes "eros: no memory"
 
--- where a strict run ended, and why
+-- where a strict run ended, and why: `eros: stopped at line 3: ..`
 abbrev pub stop_text : Stop → List ℕ
 stop_text stop = spaced (codes "eros: stopped at line" ∷ (decimal stop.line ++ codes ":") ∷ cause_text stop.cause ∷ [])
 
+-- why a description can't be renumbered
 abbrev pub sizes_text : GrowthFault → List ℕ
 sizes_text growth.Limits = codes "eros: no image has these sizes"
 sizes_text growth.Nodes = codes "eros: too few nodes"
 sizes_text growth.Pages = codes "eros: too few pages"
 sizes_text growth.NoMemory = codes "eros: no memory"
 
--- the text if a stage of saving was refused
+-- the message if a stage of saving was refused
 abbrev pub not_saved_text : Refusal → List ℕ
 not_saved_text why = spaced (codes "eros: not saved:" ∷ refusal_text why ∷ [])
 
+-- the message of a fault
 abbrev pub fault_text : Fault → List ℕ
 fault_text fault.CannotReadDescription = codes "eros: cannot read description"
 fault_text fault.NotToml = codes "eros: bad description"
@@ -61,14 +63,14 @@ fault_text (fault.Sizes why) = sizes_text why
 fault_text (fault.NotSaved why) = not_saved_text why
 fault_text (fault.NoProcess p) = spaced (codes "eros: no process" ∷ decimal p ∷ [])
 
--- the same in JSON
+-- the message of a device that can't be opened, in JSON
 abbrev pub open_json : OpenFault → List ℕ
 open_json opening.Failed = text_object (codes "fault") (codes "device failed") []
 open_json opening.NoMemory = text_object (codes "fault") (codes "no memory") []
 open_json (opening.Bad reason) = text_object (codes "fault") (codes "bad image")
     (member.Number key.Reason (reason_number reason) ∷ [])
 
--- a fault in JSON, of a command that only reads an image; the faults of other commands have one name each
+-- the message of a fault of a command that only reads an image, in JSON; for any other command only the fault's name
 abbrev pub fault_json : Fault → List ℕ
 fault_json fault.CannotReadDescription = text_object (codes "fault") (codes "cannot read description") []
 fault_json fault.NotToml = text_object (codes "fault") (codes "bad description") []
@@ -86,12 +88,12 @@ fault_json (fault.Stopped stop) = text_object (codes "fault") (codes "stopped") 
 fault_json (fault.Sizes why) = text_object (codes "fault") (codes "not renumbered") []
 fault_json (fault.NotSaved why) = text_object (codes "fault") (codes "not saved") []
 
--- where a run stopped, if its observer ended it
+-- if the observer ended the run, the line where it did is known
 abbrev pub HasStop : Result (Result (Unit {0}) RunFault) OpenFault → Option Stop → Type 0
 HasStop (Ok (Err run.Stopped)) None = ⊥
 HasStop outcome stop = Unit {0}
 
--- the end of a run, or why the device wasn't opened, as a fault of the program
+-- how a run ended, or why the device couldn't be opened, as the fault of the command
 abbrev pub IsRunEnd : Result (Result (Unit {0}) RunFault) OpenFault → Option Stop → Result (Unit {0}) Fault → Type 0
 IsRunEnd (Ok (Ok a)) stop end = end ≡ Ok a
 IsRunEnd (Ok (Err run.Read)) stop end = end ≡ Err fault.CannotReadScript
@@ -100,12 +102,12 @@ IsRunEnd (Ok (Err run.Stopped)) None end = ⊥
 IsRunEnd (Ok (Err run.Stopped)) (Some stop) end = end ≡ Err (fault.Stopped stop)
 IsRunEnd (Err why) stop end = end ≡ Err (fault.Open why)
 
--- the outcome of a command that ends with a write
+-- the outcome of a command whose last step is a write
 abbrev pub after_write : Result (Unit {0}) RunFault → Result (Unit {0}) Fault
 after_write (Ok a) = Ok a
 after_write (Err e) = Err fault.CannotWriteOutput
 
--- the status of a command
+-- the exit status of a command
 abbrev pub status_of : Result (Unit {0}) Fault → ℕ
 status_of (Ok a) = 0
 status_of (Err why) = 1
@@ -115,17 +117,17 @@ abbrev pub fault_in : Result (Unit {0}) Fault → Option Fault
 fault_in (Ok a) = None
 fault_in (Err why) = Some why
 
--- the status and the fault of a command with this outcome
+-- the exit status and the fault are those of this outcome
 abbrev pub IsEnd : Result (Unit {0}) Fault → ℕ → Option Fault → Type 0
 IsEnd outcome status fault = (status ≡ status_of outcome) × (fault ≡ fault_in outcome)
 
--- a fault was written on a line of its own, as far as it could be written
+-- if the outcome is a fault, its message was written as a line, whole or in part
 abbrev pub IsReported : Result (Unit {0}) Fault → Written → Written → Type 0
 IsReported (Ok a) old new = new ≡ old
 IsReported (Err why) old new = (wrote : Result (Unit {0}) RunFault) × Writes old new wrote (line_of (fault_text why))
 
--- The status of a command after the buffer of its output was passed on: the same as before, and the buffer is empty.
--- If the buffer can't be passed on, the status is 1 if it was 0, else the same.
+-- The outcome of passing on the buffered output. If that succeeded, the status stays and the buffer is empty. If it
+-- failed, a status of 0 becomes 1, and any other stays.
 abbrev pub PassesOn : Result (Unit {0}) RunFault → ℕ → ℕ → List ℕ → Result (Unit {0}) Fault → Type 0
 PassesOn (Ok a) before after left outcome = (outcome ≡ Ok tt) × (after ≡ before) × (left ≡ [])
 PassesOn (Err e) before after left (Ok a) = (after ≡ before) × (before ≢ 0)

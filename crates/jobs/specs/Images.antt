@@ -17,10 +17,11 @@ use Rattle.jobs.specs.declared.fault.Fault.{Fault}
 use Rattle.jobs.specs.declared.fault.Fault.TheVariants as fault
 use Rattle.jobs.specs.Faults.{IsRunEnd}
 
--- the lines for an image that was built, and for one that can be opened
+-- the line for an image that was built
 abbrev pub built_text : ℕ → List ℕ
 built_text total = spaced (codes "built" ∷ decimal total ∷ codes "sectors" ∷ [])
 
+-- the line for an image that can be opened
 abbrev pub checked_text : Format → ℕ → ℕ → ℕ → List ℕ
 checked_text format.Text generation age entries =
     spaced (codes "ok generation" ∷ decimal generation ∷ codes "age" ∷ decimal age ∷ codes "entries" ∷ decimal entries ∷
@@ -28,11 +29,11 @@ checked_text format.Text generation age entries =
 checked_text format.Json generation age entries =
     number_object (codes "generation") generation (member.Number key.Age age ∷ member.Number key.Entries entries ∷ [])
 
--- the total of the image of a table is written
+-- the size of a table's image was written
 abbrev pub TellsTotal : Members → (List ℕ → Type 0) → Type 0
 TellsTotal ms Reported = (d : Description) × IsDescription ms d × Reported (line_of (built_text (plan_for d).total))
 
--- an image was built and its total written; or it was built, and the total couldn't be written whole; or none was
+-- an image was built, and its size written; or the size couldn't be written whole; or no image was built
 abbrev pub BuildsImage : {D : Type 0} → (D → Disk) → Members → D → D → Written → Written →
     Result (Unit {0}) Fault → Type 0
 BuildsImage disk ms old new output output_left (Ok a) = BuildsFrom ms (disk old) (disk new) × TellsTotal ms
@@ -44,19 +45,20 @@ BuildsImage disk ms old new output output_left (Err (fault.Build why)) =
     ((why ≡ build.Failed) ↔ ((disk old).failures < (disk new).failures)) × (output_left ≡ output)
 BuildsImage disk ms old new output output_left (Err _) = ⊥
 
--- the line for an image that was written in a new layout: it is a copy if the version is kept
+-- the line for an image that was written in a new layout; if the version stays, the image is a copy
 abbrev pub upgraded_text : NewLayout → ℕ → List ℕ
 upgraded_text layout.Newest total = spaced (codes "upgraded" ∷ decimal total ∷ codes "sectors" ∷ [])
 upgraded_text layout.Kept total = spaced (codes "copied" ∷ decimal total ∷ codes "sectors" ∷ [])
 
--- the total of such an image is written
+-- an image was written in a new layout, and its size was written
 abbrev pub UpgradesAndTells : {D E : Type 0} → NewLayout → (D → Disk) → (E → Disk) → D → E → E → (List ℕ → Type 0) →
     Type 0
 UpgradesAndTells l disk new_disk old before new Reported =
     (done : Upgrades l (disk old) (new_disk before) (new_disk new)) × Reported
     (line_of (upgraded_text l (new_plan l done.state.plan).total))
 
--- an image was written in a new layout, and its total; or the total couldn't be written whole; or no image was written
+-- an image was written in a new layout, and its size written; or the size couldn't be written whole; or no image was
+-- written
 abbrev pub UpgradesImage : {D E : Type 0} → NewLayout → (D → Disk) → (E → Disk) → D → E → E → Written → Written →
     Result (Unit {0}) Fault → Type 0
 UpgradesImage l disk new_disk old before new output output_left (Ok a) = UpgradesAndTells l disk new_disk old before new
@@ -68,14 +70,14 @@ UpgradesImage l disk new_disk old before new output output_left (Err (fault.Upgr
     × ((why ≡ upgrade.Failed) ↔ ((new_disk before).failures < (new_disk new).failures)) × (output_left ≡ output)
 UpgradesImage l disk new_disk old before new output output_left (Err _) = ⊥
 
--- the fault where the old device failed
+-- the fault if the old device failed
 abbrev pub old_failed : Fault
 old_failed = fault.Upgrade (upgrade.Old opening.Failed)
 
--- The parameters are ghost members of a device and of an object store.
+-- The parameters: the ghost members of a device and of an object store.
 module _ {D S : Type 0} (disk : D → Disk) (view : S → View D) (parts : S → Parts) where
-  -- a kernel was opened, and a script run over it with this outcome; the device that is given back is that of the
-  -- kernel after the run
+  -- a kernel was opened on the device, and a script run over it with this outcome; `back` is the kernel's device
+  -- after the run
   abbrev pub OpensAndRuns : D → D → Option (List ℕ) → Option (List ℕ) → Written → Written →
       Result (Unit {0}) RunFault → Type 0
   OpensAndRuns device back input input_left output output_left outcome =
@@ -83,7 +85,7 @@ module _ {D S : Type 0} (disk : D → Disk) (view : S → View D) (parts : S →
       last input input_left output output_left outcome
       × IsDeviceOf disk view parts last back
 
-  -- a kernel was opened and a script run over it in this way, and an observer saw each turn
+  -- a kernel was opened on the device, and an observer saw a script run over it with this outcome
   abbrev pub OpensAndSees : {O : Type 0} → (Geometry → Turn → O → O → Bool → Type 0) → D → D → O → O
       → Option (List ℕ) → Option (List ℕ) → Written → Written → Result (Unit {0}) RunFault → Type 0
   OpensAndSees sees device back before after input input_left output output_left outcome =
@@ -91,7 +93,8 @@ module _ {D S : Type 0} (disk : D → Disk) (view : S → View D) (parts : S →
       × RunsSeen disk view parts sees first last before after input input_left output output_left outcome × IsDeviceOf
       disk view parts last back
 
-  -- a script was run and seen in this way; or the device wasn't opened, and nothing was read, written or seen
+  -- an observer saw a script run over the image; or the device wasn't opened, and nothing was read, written or
+  -- observed
   abbrev pub SeesImage : {O : Type 0} → (Geometry → Turn → O → O → Bool → Type 0) → D → D → O → O
       → Option (List ℕ) → Option (List ℕ) → Written → Written →
       Result (Result (Unit {0}) RunFault) OpenFault → Type 0
@@ -100,14 +103,14 @@ module _ {D S : Type 0} (disk : D → Disk) (view : S → View D) (parts : S →
   SeesImage sees device back before after input input_left output output_left (Err why) =
       RefusesToOpen disk device back why × (input_left ≡ input) × (output_left ≡ output) × (after ≡ before)
 
-  -- the outcome of a command that runs a script: the run that its observer saw, and where the observer ended it
+  -- how a command that runs a script ends: the run that its observer saw, and where the observer ended it
   abbrev pub EndsAs : {O : Type 0} → (Geometry → Turn → O → O → Bool → Type 0) → (O → Option Stop) → D → D → O → O
       → Option (List ℕ) → Option (List ℕ) → Written → Written → Result (Unit {0}) Fault → Type 0
   EndsAs sees stop device back before after input input_left output output_left result =
       (outcome : Result (Result (Unit {0}) RunFault) OpenFault) × IsRunEnd outcome (stop after) result
       × SeesImage sees device back before after input input_left output output_left outcome
 
-  -- a script was run over a kernel in this way; or the device wasn't opened, and nothing was read or written
+  -- a script was run over a kernel; or the device wasn't opened, and nothing was read or written
   abbrev pub RunsImage : D → D → Option (List ℕ) → Option (List ℕ) → Written → Written →
       Result (Unit {0}) Fault → Type 0
   RunsImage device back input input_left output output_left (Ok a) = OpensAndRuns device back input input_left output
@@ -120,15 +123,14 @@ module _ {D S : Type 0} (disk : D → Disk) (view : S → View D) (parts : S →
       × (input_left ≡ input) × (output_left ≡ output)
   RunsImage device back input input_left output output_left (Err _) = ⊥
 
--- a device was opened with no failure, nothing was written to it at any moment, and `Reported` holds of the line about
--- what it saves
+-- a device was opened without a failure and only read, and `Reported` holds of the line about its saved state
 abbrev pub TellsSaved : {D : Type 0} → Format → (D → Disk) → D → D → (List ℕ → Type 0) → Type 0
 TellsSaved f disk device back Reported =
     (geometry : Geometry) × (saved : Saved) × Denotes geometry (disk device).sectors (disk device).seen saved × Reported
     (line_of (checked_text f saved.generation saved.world.age saved.entries))
     × OnlyReads (disk device) (disk back) × ((disk back).failures ≡ (disk device).failures)
 
--- the line about a device was written; or couldn't be written whole; or the device wasn't opened
+-- the line about a device was written; or it couldn't be written whole; or the device wasn't opened
 abbrev pub ChecksImage : {D : Type 0} → Format → (D → Disk) → D → D → Written → Written →
     Result (Unit {0}) Fault → Type 0
 ChecksImage f disk device back output output_left (Ok a) = TellsSaved f disk device back (Wrote output output_left)

@@ -1,4 +1,4 @@
--- A script after which all is saved.
+-- Running a script, and then saving the present state.
 use Rattle.jobs.specs.Names.{Answer, Bool, Err, Geometry, IsDeviceOf, List, Ok, OpenFault, Opens, Option, Parts, Power}
 use Rattle.jobs.specs.Names.{Refusal, RefusesToOpen, Result, RunFault, RunsSeen, Saves, Stop, Turn, View, Disk, Writes}
 use Rattle.jobs.specs.Names.{Written, line_of, printed, refusal_text, ℕ}
@@ -12,33 +12,33 @@ abbrev pub saved_text : Result Answer Refusal → List ℕ
 saved_text (Ok a) = printed a
 saved_text (Err why) = line_of (refusal_text why)
 
--- how the command ends: by whether this text was written, and then by whether all was saved
+-- how the command ends: `cannot write output` if the answer wasn't written; else by whether saving was refused
 abbrev pub saved_end : Result Answer Refusal → Result (Unit {0}) RunFault → Result (Unit {0}) Fault
 saved_end saved (Err e) = Err fault.CannotWriteOutput
 saved_end (Ok a) (Ok u) = Ok u
 saved_end (Err why) (Ok u) = Err (fault.NotSaved why)
 
--- the fault of the run if it has one, else the end of saving
+-- the fault of the run, if it has one; else the outcome of saving
 abbrev pub first_fault : Result (Unit {0}) Fault → Result (Unit {0}) Fault → Result (Unit {0}) Fault
 first_fault (Ok a) saved = saved
 first_fault (Err why) saved = Err why
 
--- The parameters are ghost members of a device and of an object store.
+-- The parameters: the ghost members of a device and of an object store.
 module _ {D S : Type 0} (disk : D → Disk) (view : S → View D) (parts : S → Parts) where
-  -- all was saved, or a stage was refused, and the answer was written
+  -- the present state was saved, or a stage was refused, and the answer was written
   abbrev pub SavesAndTells : Power D S → Power D S → Written → Written → Result (Unit {0}) Fault → Type 0
   SavesAndTells old new output output_left end =
       (saved : Result Answer Refusal) × Saves disk view parts old new saved
       × (wrote : Result (Unit {0}) RunFault) × Writes output output_left wrote (saved_text saved) × (end ≡ saved_end saved wrote)
 
-  -- if the script was read to its end, all was saved in this way; else nothing more was done
+  -- if the script was read to its end, the present state was saved; else nothing more was done
   abbrev pub SavesIf : Result (Unit {0}) RunFault → Power D S → Power D S → Written → Written → Result (Unit {0}) Fault →
       Type 0
   SavesIf (Ok a) old new output output_left end = SavesAndTells old new output output_left end
   SavesIf (Err e) old new output output_left end = (new ≡ old) × (output_left ≡ output) × (end ≡ Ok tt)
 
-  -- a kernel was opened, an observer saw a script that ran over it, and all was saved if the script was read to its end;
-  -- or the device wasn't opened, and nothing was read or written
+  -- a kernel was opened, and an observer saw a script run over it; if the script was read to its end, the present
+  -- state was saved. Or the device wasn't opened, and nothing was read or written
   abbrev pub SavesImage : {O : Type 0} → (Geometry → Turn → O → O → Bool → Type 0) → D → D → O → O
       → Option (List ℕ) → Option (List ℕ) → Written → Written →
       Result (Result (Unit {0}) RunFault) OpenFault → Result (Unit {0}) Fault → Type 0
@@ -49,7 +49,7 @@ module _ {D S : Type 0} (disk : D → Disk) (view : S → View D) (parts : S →
   SavesImage sees device back before after input input_left output output_left (Err why) end =
       RefusesToOpen disk device back why × (input_left ≡ input) × (output_left ≡ output) × (after ≡ before)
 
-  -- the outcome of a command that runs a script and then saves all
+  -- how a command that runs a script and then saves ends
   abbrev pub EndsSaved : {O : Type 0} → (Geometry → Turn → O → O → Bool → Type 0) → (O → Option Stop) → D → D → O → O
       → Option (List ℕ) → Option (List ℕ) → Written → Written → Result (Unit {0}) Fault → Type 0
   EndsSaved sees stop device back before after input input_left output output_left result =

@@ -1,4 +1,4 @@
--- The command that serves a shell.
+-- The command that runs a shell.
 use Rattle.jobs.specs.Names.{Written, Bool, true, false, List, codes, Result, ℕ, line_of, Unsaved, RunFault, Writes}
 use Rattle.jobs.specs.Names.{Disk, Err, IsDeviceOf, Ok, OpenFault, Opens, Option, Parts, Power, RefusesToOpen, View}
 use Rattle.jobs.specs.Names.{Inspects, ServesFrom, session_at, Shell}
@@ -7,12 +7,12 @@ use Rattle.std.specs.Prelude.{◌≡◌, ◌||◌}
 abbrev pub unsaved_text : List ℕ
 unsaved_text = codes "eros: some invocations or stores are not committed"
 
--- if the flag is set, a line is written, as far as it can be written
+-- if the flag is set, a line was written, whole or in part
 abbrev pub TellsIf : Bool → List ℕ → Written → Written → Type 0
 TellsIf true text old new = (wrote : Result (Unit {0}) RunFault) × Writes old new wrote (line_of text)
 TellsIf false text old new = new ≡ old
 
--- a line is written if something isn't committed
+-- if something isn't committed, a line that says so was written
 abbrev pub TellsUnsaved : Unsaved → Written → Written → Type 0
 TellsUnsaved unsaved old new = TellsIf (unsaved.present || unsaved.frozen) unsaved_text old new
 

@@ -35,12 +35,13 @@ fn build_and_tell<D: Device, W: Output>(
     of_write(line.write_to(writer))
 }
 
-/// Builds the image of a description on a device, and writes `built T sectors`. Before a fault is returned, one line
-/// is written to `errors`: `bad description` with a number from 1 to 6, `cannot write image` if the device is too
-/// small, `device failed`, `no memory`, or `cannot write output` if the writer fails; in the last case the image is
-/// built.
+/// Builds the image of a description on a device, and writes `built T sectors`.
 ///
-/// A crash at any moment leaves the old image unchanged; or nothing that can be opened; or the whole described image.
+/// Before it returns a fault it writes one line to `errors`: `bad description` with a number from 1 to 6; `cannot
+/// write image` if the device is too small; `device failed`; `no memory`; or, if the writer fails, `cannot write
+/// output`, and then the image is built.
+///
+/// A crash at any moment leaves the old image unchanged, an image that doesn't open, or the whole new image.
 pub fn build_image<D: Device, W: Output, V: Output>(
     alloc: Global,
     blueprint: &Blueprint,

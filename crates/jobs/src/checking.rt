@@ -24,7 +24,7 @@ fn checked_line(saved: Checkpoint) -> LineText
     line
 }
 
-// Returns this line in a format.
+// Returns that line in a format.
 fn line_of_saved(format: Format, saved: Checkpoint) -> LineText
     ensures text { result ≡ checked_text format saved.generation saved.age saved.entries }
     ensures short { length result ≤ 300 }
@@ -42,11 +42,12 @@ fn line_of_saved(format: Format, saved: Checkpoint) -> LineText
 }
 
 /// Opens a device as a run does, and writes `ok generation G age A entries E` of its checkpoint, or these values as a
-/// JSON object; then the status is 0. After a fault one line is written to `errors`, and the status is 1: `bad image`
-/// with a number from 1 to 10, `device failed` or `no memory` if the device isn't opened, and `cannot write output`
-/// if the writer fails.
+/// JSON object. The status is 0.
 ///
-/// The device is returned. Nothing is written to it at any moment.
+/// After a fault the status is 1, and one line is written to `errors`: `bad image` with a number from 1 to 10,
+/// `device failed` or `no memory` if the device isn't opened, `cannot write output` if the writer fails.
+///
+/// Returns the device, and writes nothing to it.
 pub fn check_image<D: Device, S: ObjectStore<D>, W: Output, V: Output>(
     alloc: Global,
     device: D,

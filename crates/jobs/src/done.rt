@@ -11,14 +11,14 @@ use script::Output;
 pub struct Done<D> {
     /// 0 for success, and 1 for a fault.
     pub status: u8,
-    /// The fault, if there was one. Its message was written.
+    /// The fault, if there was one. Its message is written already.
     pub fault: Option<Fault>,
     /// The device, as the command left it.
     pub device: D,
 }
 
 impl<D> Done<D> {
-    /// Returns the result of a command with this outcome. If this is a fault, writes its message first.
+    /// Returns the result of a command with this outcome. Before that, writes the message of a fault.
     pub fn report<V: Output>(outcome: Result<(), Fault>, device: D, errors: &mut V) -> Done<D>
         ensures status { result.status ≡ status_of outcome }
         ensures fault { result.fault ≡ fault_in outcome }
@@ -32,7 +32,8 @@ impl<D> Done<D> {
         }
     }
 
-    /// Returns the result of a command whose device can't be opened. Writes the message first.
+    /// Returns the result of a command whose device can't be opened. Before that, writes the
+    /// message.
     pub fn unopened<V: Output>(refused: OpenRefused<D>, errors: &mut V) -> Done<D>
         ensures status { result.status ≡ status_of (Err (Fault.Open refused.fault)) }
         ensures fault { result.fault ≡ fault_in (Err (Fault.Open refused.fault)) }

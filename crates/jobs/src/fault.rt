@@ -50,7 +50,8 @@ pub enum Fault {
     NotSaved(Refusal),
 }
 
-/// Returns the outcome of a run as the outcome of its command. If an observer ended the run, `stop` is where.
+/// Returns the outcome of a run as the outcome of its command. If an observer ended the run, `stop` says
+/// where.
 pub(crate) fn of_run(
     outcome: Result<Result<(), RunFault>, OpenFault>,
     stop: Option<Stop>,
@@ -160,7 +161,7 @@ fn sizes_line(fault: GrowthFault) -> LineText
     }
 }
 
-// Returns the message for a strict run that ended.
+// Returns the message for where a strict run ended.
 fn stop_line(stop: Stop) -> LineText
     ensures text { result ≡ stop_text stop }
     ensures short { length result ≤ 120 }
@@ -206,7 +207,8 @@ impl Fault {
         }
     }
 
-    // Returns the JSON object of this fault. For faults of commands without `--json` it has only a name.
+    // Returns the fault as a JSON object. If no command with `--json` has this fault, the object has
+    // only a name.
     fn json(self) -> LineText
         ensures text { result ≡ fault_json self }
         ensures short { length result ≤ 300 }
@@ -250,8 +252,8 @@ impl Fault {
     }
 }
 
-/// Returns the exit status of a command with this outcome: 0 for success and 1 for a fault. Writes the message of a
-/// fault first.
+/// Returns the exit status of a command with this outcome: 0 for success, 1 for a fault. Before that, writes the
+/// message of a fault.
 pub fn status<V: Output>(outcome: Result<(), Fault>, errors: &mut V) -> u8
     ensures status { result ≡ status_of outcome }
     ensures reported { IsReported outcome (V.written errors.old) (V.written errors.new) }

@@ -1,9 +1,9 @@
-//! The law of built images: the contract of a function that does nothing.
+//! The law of built images: the contract of an empty function.
 
 ghost use Rattle.jobs.specs.Laws.{BuiltIsDenoted};
 
-/// The image that `build_image` leaves on a device, and the image that each later crash leaves, can be opened and
-/// run: it denotes the described world, of generation 0 and with nothing in the log.
+/// The image that `build_image` leaves on a device can be opened and run, and so can the image that a later crash
+/// leaves. It denotes the described world, at generation 0 and with an empty log.
 pub fn built_is_denoted()
     ensures { BuiltIsDenoted }
 {}

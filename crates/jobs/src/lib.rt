@@ -1,5 +1,5 @@
-//! The commands of `eros` that run, build, check or upgrade an image, from the moment that their files are open; over
-//! any device, reader and writer. Also the faults and the status of every command.
+//! The commands of `eros` that run, build, check or upgrade an image, once their files are open. They work over any
+//! device, reader and writer. Also the faults and the exit status of every command.
 #![tactic(auto)]
 
 mod building;

@@ -7,10 +7,10 @@ ghost use Rattle.jobs.specs.Faults.{IsReported, PassesOn};
 use crate::fault::{Fault, status};
 use script::Output;
 
-/// Passes on the buffered output of a command with the status `before`, and returns its final status.
+/// Passes on the buffered output of a command with status `before`, and returns its final status.
 ///
-/// If passing on fails after status 0, it writes `cannot write output` to `errors` and returns 1.
-/// Otherwise it returns `before`.
+/// If passing on fails after status 0, writes `cannot write output` to `errors` and returns 1.
+/// Otherwise returns `before`.
 pub fn finish<W: Output, V: Output>(writer: &mut W, before: u8, errors: &mut V) -> u8
     ensures { (passed : Result (Unit {0}) RunFault) × (outcome : Result (Unit {0}) Fault)
         × Writes (W.written writer.old) (W.written writer.new) passed []

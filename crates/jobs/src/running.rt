@@ -33,12 +33,14 @@ fn open_and_run<D: Device, S: ObjectStore<D>, R: Script, W: Output, O: Observer>
     (Ok(outcome), kernel.into_device())
 }
 
-/// Opens a device that holds an image, runs a script over it, and writes the answers; then the status is 0, whatever
-/// the answers are. After a fault one line is written to `errors`, and the status is 1: `bad image` with a number
-/// from 1 to 10, `device failed` or `no memory` if the device isn't opened, and then nothing was read or written;
-/// `cannot read script` or `cannot write output` if the reader or the writer fails.
+/// Opens a device that holds an image, runs a script over it, and writes the answers. The status is 0, whatever the
+/// answers are.
 ///
-/// The device is returned as the last answer left it. A device that can't be opened is returned unchanged.
+/// After a fault the status is 1, and one line is written to `errors`: `bad image` with a number from 1 to 10,
+/// `device failed` or `no memory` if the device isn't opened (then nothing was read or written); `cannot read
+/// script` or `cannot write output` if the reader or the writer fails.
+///
+/// Returns the device as the last answer left it; if it can't be opened, unchanged.
 pub fn run_image<D: Device, S: ObjectStore<D>, R: Script, W: Output, V: Output>(
     alloc: Global,
     device: D,
@@ -65,10 +67,10 @@ pub fn run_image<D: Device, S: ObjectStore<D>, R: Script, W: Output, V: Output>(
 }
 
 /// Runs a script as `run_image` does, and traces it. A strict run ends at the first line that is bad or refused, or
-/// whose order has a result code other than 0. Then all answers up to that of this line are written, the line
-/// `stopped at line` with its number and the reason is written to `errors`, and the status is 1.
+/// whose order has a result code other than 0. Then all answers up to that line's are written, `stopped at line`
+/// with its number and the reason is written to `errors`, and the status is 1.
 ///
-/// The text written to `writer`, and the changes of the device, are those of `run_image` for the lines taken.
+/// The text written to `writer` and the changes of the device are those of `run_image` for the lines taken.
 pub fn run_traced<D: Device, S: ObjectStore<D>, R: Script, W: Output, T: Output, V: Output>(
     alloc: Global,
     device: D,

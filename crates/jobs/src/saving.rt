@@ -14,7 +14,7 @@ use runs::{Script, Tracer, run_observed, save};
 use script::{Output, RunFault, print_answer, refusal_line};
 use std::alloc::Global;
 
-// Returns the fault of a command whose saving was refused. `wrote` is whether the refusal could be written.
+// Returns the fault of a command if saving was refused. `wrote` says whether the refusal was written.
 fn of_refusal(refusal: Refusal, wrote: Result<(), RunFault>) -> Result<(), Fault>
     ensures { result ≡ saved_end (Err refusal) wrote }
 {
@@ -37,7 +37,8 @@ fn save_and_tell<D: Device, S: ObjectStore<D>, W: Output>(
     }
 }
 
-// Opens a device, runs a script over it, saves if the script was read to its end, and returns the device.
+// Opens a device, runs a script over it, and returns it. If the script was read to its end, saves the
+// present state.
 fn open_run_and_save<D: Device, S: ObjectStore<D>, R: Script, W: Output, T: Output>(
     alloc: Global,
     device: D,
@@ -78,7 +79,7 @@ fn end_of(ran: Result<(), Fault>, saved: Result<(), Fault>) -> Result<(), Fault>
 
 /// Runs a script as `run_traced` does. If the script was read to its end, saves the present state: a checkpoint, its
 /// commit and its migration. The last line written is the answer to the commit. If a stage is refused, the last line
-/// is the refusal, the line `not saved` with it is written to `errors`, and the status is 1.
+/// is the refusal, `not saved` with it is written to `errors`, and the status is 1.
 ///
 /// If the run ends before the script does, only what the script committed is saved.
 pub fn run_and_save<D: Device, S: ObjectStore<D>, R: Script, W: Output, T: Output, V: Output>(

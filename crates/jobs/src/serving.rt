@@ -46,7 +46,8 @@ fn open_and_serve<
     (Ok(outcome), kernel.into_device())
 }
 
-// Writes a line if there are uncommitted invocations or stores. A failure to write it is ignored.
+// If there are uncommitted invocations or stores, writes a line that says so. Ignores failures to
+// write.
 fn tell_unsaved<V: Output>(unsaved: Unsaved, errors: &mut V)
     ensures { TellsUnsaved unsaved (V.written errors.old) (V.written errors.new) }
 {

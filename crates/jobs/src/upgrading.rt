@@ -62,17 +62,17 @@ fn write_and_tell<D: ClosableDevice, S: WholeStore<D>, E: Device, W: Output>(
     }
 }
 
-/// Writes the saved state of an opened image over a new device, in a new layout, and closes the old device. Then
-/// writes `upgraded T sectors`, or `copied T sectors` if the version of the layout is kept, where T is the size of
+/// Writes the saved state of an opened image to a new device in a new layout, over any content, and closes the old
+/// device. Then writes `upgraded T sectors`, or `copied T sectors` if the layout version stays. T is the size of
 /// the new image.
 ///
-/// A fault is returned after one line was written to `errors`:
-/// - `cannot write image` if the new device is too small;
+/// Before it returns a fault it writes one line to `errors`:
+/// - `cannot write image`: the new device is too small;
 /// - `device failed` or `no memory`;
-/// - `cannot write output` if the writer fails; the new image is written.
+/// - `cannot write output`: the writer failed; the new image is written.
 ///
-/// A crash of the new device at any moment leaves its old image unchanged; or nothing that can be opened; or the
-/// whole new image. Nothing is written to the old device at any moment.
+/// A crash of the new device at any moment leaves its old image unchanged, an image that doesn't open, or the
+/// whole new image. The old device is only read.
 pub fn upgrade_opened<D: ClosableDevice, S: WholeStore<D>, E: Device, W: Output, V: Output>(
     alloc: Global,
     image: OldImage<D, S>,

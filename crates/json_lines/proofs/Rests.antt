@@ -1,4 +1,4 @@
--- The members that follow the first, one by one.
+-- The members after the first, one by one.
 use Rattle.std.proofs.Common.{ℕ, List, length, get_or, take, add-one, append-nil, append_assoc, arith, ◌≡◌, ◌+◌, ◌<◌, ◌≤◌, ◌++◌}
 use Rattle.std.proofs.Math.Seq.{take-suc}
 use Rattle.std.proofs.lemmas.Grind.{common_steps, flat_map-append}

@@ -1,4 +1,4 @@
--- Objects in JSON, each on a line. A text between quotes has only letters, digits and spaces, so nothing is escaped.
+-- Objects in JSON, one in a line. Quoted texts have only letters, digits and spaces, so none is escaped.
 use Rattle.std.specs.Prelude.{ℕ, List, [], codes, decimal, ◌++◌, ◌∷◌}
 use Rattle.std.specs.List.{flat_map}
 use Rattle.model.specs.Text.{spaced}
@@ -34,27 +34,29 @@ quoted text = codes "\"" ++ text ++ codes "\""
 abbrev pub named_value : List ℕ → List ℕ → List ℕ
 named_value name value = quoted name ++ codes ": " ++ value
 
+-- a member of an object: its name and value
 abbrev pub member_text : Member → List ℕ
 member_text (member.Number k n) = named_value (key_text k) (decimal n)
 member_text (member.Capability k c) = named_value (key_text k) (quoted (capability_text c))
 member_text (member.No k) = named_value (key_text k) (codes "false")
 
--- the text of a member that isn't the first
+-- a member after the first
 abbrev pub next_text : Member → List ℕ
 next_text m = codes ", " ++ member_text m
 
--- the members that follow the first, and the end of the object
+-- the members after the first, and the end of the object
 abbrev pub rest_text : List Member → List ℕ
 rest_text rest = flat_map next_text rest ++ codes "}"
 
--- an object whose first member is a text, or a number
+-- an object whose first member is a text
 abbrev pub text_object : List ℕ → List ℕ → List Member → List ℕ
 text_object name text rest = codes "{" ++ named_value name (quoted text) ++ rest_text rest
 
+-- an object whose first member is a number
 abbrev pub number_object : List ℕ → ℕ → List Member → List ℕ
 number_object name n rest = codes "{" ++ named_value name (decimal n) ++ rest_text rest
 
--- a number after its name: `closed 3`, or `{"closed": 3}`
+-- a name and its number as a line in this format: `closed 3`, or `{"closed": 3}`
 abbrev pub number_line : Format → List ℕ → ℕ → List ℕ
 number_line format.Text name n = spaced (name ∷ decimal n ∷ [])
 number_line format.Json name n = number_object name n []

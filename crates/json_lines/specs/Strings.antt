@@ -1,8 +1,8 @@
--- Objects in JSON with a text of any characters.
+-- Objects in JSON whose text may have any characters.
 use Rattle.std.specs.Prelude.{◌+◌, ◌-◌, ◌/◌, ◌%◌, ◌==◌, ◌++◌, ◌∷◌, if◌then◌else◌, ℕ, List, [], codes, nat_lt}
 use Rattle.std.specs.List.{flat_map}
 
--- a digit of a number in base 16
+-- the hexadecimal digit for a number below 16
 abbrev pub hex_digit : ℕ → ℕ
 hex_digit d = if nat_lt d 10 then 48 + d else 97 + (d - 10)
 
@@ -14,6 +14,6 @@ escaped b =
     else if nat_lt b 32 then 92 ∷ 117 ∷ 48 ∷ 48 ∷ hex_digit (b / 16) ∷ hex_digit (b % 16) ∷ []
     else b ∷ []
 
--- the object whose one member is a text: `{"explanation": "ok"}`
+-- the object whose only member is a text: `{"explanation": "ok"}`
 unfoldable pub string_object : List ℕ → List ℕ → List ℕ
 string_object name text = codes "{\"" ++ name ++ codes "\": \"" ++ flat_map escaped text ++ codes "\"}"

@@ -1,8 +1,8 @@
-// The names of members of a JSON object, except the first member's.
+// The names of the members after the first in a JSON object.
 ghost use Rattle.std.specs.Prelude.{◌≡◌, ◌≤◌, length};
 ghost use Rattle.json_lines.specs.Objects.{key_text};
 
-/// The name of a member of a JSON object, except the first.
+/// The name of a member of a JSON object, other than the first.
 #[derive(Clone, Copy)]
 pub enum Key {
     Age,

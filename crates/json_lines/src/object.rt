@@ -8,7 +8,7 @@ use crate::key::Key;
 use model::Capability;
 use script::LineText;
 
-/// A member of a JSON object, except the first.
+/// A member of a JSON object, other than the first.
 #[derive(Clone, Copy)]
 pub enum Member {
     /// A number.
@@ -43,7 +43,7 @@ fn add_capability(line: &mut LineText, capability: Capability)
     line.push(b"\"");
 }
 
-// Appends a member that isn't the first.
+// Appends a member after the first.
 fn add_member(line: &mut LineText, member: Member)
     requires { length line.old ≤ 220 }
     ensures text { line.new ≡ line.old ++ next_text member }
@@ -66,7 +66,7 @@ fn add_member(line: &mut LineText, member: Member)
     }
 }
 
-// Appends all members but the first, and ends the object.
+// Appends the members after the first, and ends the object.
 fn add_rest(mut line: LineText, rest: &[Member]) -> LineText
     requires first { length line ≤ 70 }
     requires few { length rest.now ≤ 3 }
@@ -80,7 +80,8 @@ fn add_rest(mut line: LineText, rest: &[Member]) -> LineText
     line
 }
 
-/// Returns the object whose first member is a string. The string must have no character that JSON escapes.
+/// Returns the object whose first member is this string. The string may have no character that JSON
+/// escapes.
 pub fn text_object(name: &[u8], text: &[u8], rest: &[Member]) -> LineText
     requires name { length name.now ≤ 20 }
     requires first { length text.now ≤ 40 }
@@ -109,7 +110,7 @@ pub fn number_object(name: &[u8], number: u64, rest: &[Member]) -> LineText
     add_rest(line, rest)
 }
 
-/// Returns the line of a number after its name, in a format.
+/// Returns a name and its number as a line in this format.
 pub fn number_line(format: Format, name: &[u8], number: u64) -> LineText
     requires { length name.now ≤ 20 }
     ensures text { result ≡ number_line format name.now number }

@@ -4,7 +4,7 @@ ghost use Rattle.json_lines.specs.Strings.{escaped, hex_digit, string_object};
 
 use std::alloc::{AllocError, Global};
 
-// Returns the byte of a digit in base 16.
+// Returns the hexadecimal digit for a number below 16.
 fn hex_digit(digit: u8) -> u8
     requires { digit < 16 }
     ensures { result ≡ hex_digit digit }

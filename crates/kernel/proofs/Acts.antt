@@ -1,4 +1,4 @@
--- How a command ends: refused, carried out, or in a failure of the device.
+-- Commands that are served (`ServesUp`): refused, carried out, or ended by a failure of the device.
 use Rattle.kernel.proofs.Names.{nat_tests, ℕ, Bool, Option, None, Some, Err, List, [], length, refl, sym, ap, subst, arith, Answer, Refusal, Command, Geometry}
 use Rattle.kernel.proofs.Names.{AreKeepable, IsSoundFrames, world_at, Frozen, Running, Saved, Up, touched_count, untouched, Step, refusal_of, second, Image}
 use Rattle.kernel.proofs.Names.{Disk, IsCommitAnswer, IsFreezeAnswer, IsRefused, Holds, LeavesSaved, LeavesEither, Parts, frames_of, objects_in, keepable_count}
@@ -19,21 +19,21 @@ use Rattle.kernel.proofs.Stages.{same_running, saved_moved, some_left, some_ther
 use Rattle.kernel.proofs.Stages.{evict_step, migrate_step, none_to_commit, none_to_stabilize, not_home, not_stable, running_already, second_of_commit}
 use Rattle.kernel.proofs.Stages.{stabilize_step}
 
--- a kernel's state with another store
+-- the state of a kernel after its store was replaced
 abbrev pub with_store : {S : Type 0} → Live S → S → Live S
 with_store l s = record { store = s; banks = l.banks; age = l.age; frozen_age = l.frozen_age }
 
--- The parameters are ghost members and laws of a device and of an object store.
+-- The parameters: the ghost members of a device and of an object store, and two of their laws.
 module _ {D S : Type 0} (disk : D → Disk) (view : S → View D) (parts : S → Parts)
     (only_now : (d : D) (c : Image) → (disk d).left_since (disk d).moment c → (disk d).may_leave c)
     (sound_holds : (s : S) (c : Image) → (view s).usable → (disk (view s).beneath).may_leave c →
     Holds (disk (view s).beneath).sectors c (view s).snapshots.saved) where
-  -- a store that can be used serves
+  -- if a store is usable and sound, a kernel with it is up
   pub is_up : (g : Geometry) (l : Live S) → (view l.store).usable → AreSoundTogether g (parts l.store) (view l.store).snapshots l.banks
       l.age l.frozen_age → IsUp disk view parts g l
   is_up g l store sound = search (arith, nat_tests, leaves_saved)
 
-  -- a refusal that applies
+  -- if a refusal applies and nothing changes, the kernel served the command
   pub refused : (l : Live S) (c : Command) (why : Refusal) → ((g : Geometry) → IsUp disk view parts g l →
       refusal_of g (running disk view parts l) c ≡ Some why) →
       ServesUp disk view parts l c (answer.Refused why) l
@@ -45,13 +45,13 @@ module _ {D S : Type 0} (disk : D → Disk) (view : S → View D) (parts : S →
         (only_now (view l.store).beneath) up.leaves;
   }
 
-  -- a refusal that leaves the store unchanged
+  -- a refusal is served if the store after it equals the one before
   pub refused_again : (l : Live S) (s : S) (c : Command) (why : Refusal) → s ≡ l.store →
       ((g : Geometry) → IsUp disk view parts g l → refusal_of g (running disk view parts l) c ≡ Some why) →
       ServesUp disk view parts l c (answer.Refused why) (with_store l s)
   refused_again l s c why same applies = search (arith, nat_tests, refused)
 
-  -- a failure of the device
+  -- a command that fails is served if a crash during it leaves only states that it may leave
   pub failed : (old new : Live S) (c : Command) →
       ((g : Geometry) → IsUp disk view parts g old → LeavesOne g (disk_at disk view parts old) (disk_at disk view parts new)
       (saved_of (view old.store).snapshots.saved ∷ second (Up (running disk view parts old)) c)) →
@@ -74,7 +74,7 @@ module _ {D S : Type 0} (disk : D → Disk) (view : S → View D) (parts : S →
       on_disk : (parts s).failures ≡ (parts l.store).failures → (disk (view s).beneath).failures ≡ (disk (view l.store).beneath).failures
       on_disk stayed = sym after ∙ stayed ∙ before
 
-      -- processes act, at an age that doesn't fall
+      -- a command of a process is served if the process performs it (`Performs`) and the age doesn't fall
       pub acted : (banks : BanksState) (age : ℕ) (c : Command) (a : Answer) → l.age ≤ age →
           Performs l.age (parts l.store) c a age (parts s) → ((parts s).failures ≡ (parts l.store).failures →
           AreCounted (parts s).geometry (objects_in (parts s)) banks) → ServesUp disk view parts l c a
@@ -109,7 +109,7 @@ module _ {D S : Type 0} (disk : D → Disk) (view : S → View D) (parts : S →
           beside : (a ≡ answer.Refused refusal.Fault → ⊥) → (view s).snapshots ≡ (view l.store).snapshots
           beside other = continues.snapshots (on_disk (stayed other))
 
-      -- an object was evicted
+      -- an eviction is served if the present objects stay the same
       pub evicted : parts s ≡ parts l.store → (n : ℕ) → n < length (parts l.store).headers →
           ServesUp disk view parts l (command.Evict n) answer.Done (with_store l s)
       evicted same n within g up =
@@ -133,7 +133,7 @@ module _ {D S : Type 0} (disk : D → Disk) (view : S → View D) (parts : S →
 
   -- ---- the stages of a checkpoint
 
-  -- all was frozen
+  -- a checkpoint is served if all objects are frozen, and the device isn't called
   pub begun : (l : Live S) (s : S) (n : ℕ) → l.age < 2 ^ 62 → (view l.store).snapshots.frozen ≡ None →
       (view l.store).snapshots.saved.entries ≡ 0 → parts s ≡ all_untouched (parts l.store) → n ≡ touched_count (parts l.store).touched →
       (view s).snapshots ≡ freezing (all_frozen (frames_of (parts l.store)) (touched_count (parts l.store).touched))
@@ -180,10 +180,10 @@ module _ {D S : Type 0} (disk : D → Disk) (view : S → View D) (parts : S →
         to_move = (beside i).to_move;
       }
 
-  -- a stage that writes: the present objects afterwards, and what a crash leaves
+  -- the parameters: the kernel before a stage that calls the device, and the store after it
   module _ (l : Live S) (s : S) (size : (disk (view s).beneath).sectors ≡ (disk (view l.store).beneath).sectors)
     where
-      -- the store has other snapshots and the same objects
+      -- if only the snapshots changed, and they are sound, the kernel is still up
       came : parts s ≡ parts l.store → (g : Geometry) (b : Snapshots FrozenFrames) → (view s).snapshots ≡ b → (view s).usable →
           AreSoundTogether g (parts l.store) b l.banks l.age l.frozen_age → IsUp disk view parts g (with_store l s)
       came same g b beside store sound = is_up g (with_store l s) store (stays_sound same beside sound)
@@ -203,7 +203,7 @@ module _ {D S : Type 0} (disk : D → Disk) (view : S → View D) (parts : S →
         unfolding now_frozen
         is_frozen = frozen_some (view l.store).snapshots.frozen f l.frozen_age frozen
 
-        -- more frozen frames are in the log
+        -- `stabilize`: after a crash at any moment the image denotes the saved state
         module _ (moments : LeavesSaved (disk (view l.store).beneath) (disk (view s).beneath) (view l.store).snapshots.saved) (n : ℕ)
           where
             stabilize_along : (g : Geometry) → IsUp disk view parts g l →
@@ -229,7 +229,7 @@ module _ {D S : Type 0} (disk : D → Disk) (view : S → View D) (parts : S →
             pub stabilize_failed : ServesUp disk view parts l (command.Stabilize n) (answer.Refused refusal.Fault) (with_store l s)
             stabilize_failed = failed l (with_store l s) (command.Stabilize n) stabilize_along
 
-        -- all frozen frames are saved
+        -- `commit`: after a crash at any moment the image denotes the saved state or the frozen one
         module _ (stable : f.left ≡ 0)
             (moments : LeavesEither (disk (view l.store).beneath) (disk (view s).beneath) (view l.store).snapshots.saved
             (next_saved whole l.frozen_age f (view l.store).snapshots.saved)) where
@@ -264,7 +264,7 @@ module _ {D S : Type 0} (disk : D → Disk) (view : S → View D) (parts : S →
           pub commit_failed : ServesUp disk view parts l command.Commit (answer.Refused refusal.Fault) (with_store l s)
           commit_failed = failed l (with_store l s) command.Commit commit_along
 
-      -- saved frames go home
+      -- `migrate`: after a crash at any moment the image denotes the saved state, with its entries or without
       module _ (n : ℕ) (moments : LeavesEither (disk (view l.store).beneath) (disk (view s).beneath) (view l.store).snapshots.saved
           (moved_saved n (view l.store).snapshots)) where
         migrate_along : (g : Geometry) → IsUp disk view parts g l →
@@ -294,7 +294,7 @@ module _ {D S : Type 0} (disk : D → Disk) (view : S → View D) (parts : S →
   -- ---- refusals of a store
 
   module _ (l : Live S) (s : S) where
-    -- the freeze is refused
+    -- a `checkpoint` that the store refuses is served
     pub freeze_refused : (why : Refusal) → s ≡ l.store → l.age < 2 ^ 62 →
         IsFreezeAnswer {T = ℕ} (left_in whole (view l.store).snapshots) (view l.store).snapshots.saved.entries (Err why) →
         ServesUp disk view parts l command.Checkpoint (answer.Refused why) (with_store l s)
@@ -308,7 +308,7 @@ module _ {D S : Type 0} (disk : D → Disk) (view : S → View D) (parts : S →
     freeze_refused why same young reported = absurd reported
 
     module _ (size : (disk (view s).beneath).sectors ≡ (disk (view l.store).beneath).sectors) where
-      -- the stage fails: no frame, or not all of them, got into the log
+      -- a `stabilize` that the store refuses, or that fails, is served
       pub stabilize_refused : (why : Refusal) (n : ℕ) → IsStabilizeAnswer (disk (view l.store).beneath) (disk (view s).beneath)
           (left_in whole (view l.store).snapshots) n (Err why) → (IsRefused {T = ℕ} (Err why) → s ≡ l.store) →
           LeavesSaved (disk (view l.store).beneath) (disk (view s).beneath) (view l.store).snapshots.saved →
@@ -319,7 +319,7 @@ module _ {D S : Type 0} (disk : D → Disk) (view : S → View D) (parts : S →
       stabilize_refused refusal.Fault n reported again moments = search (arith, nat_tests, some_there, stabilize_failed)
       stabilize_refused why n reported again moments = absurd reported
 
-      -- the commit fails: nothing was saved, or it was but isn't reported
+      -- a `commit` that the store refuses, or that fails, is served
       pub commit_refused : (why : Refusal) → IsCommitAnswer (disk (view l.store).beneath) (disk (view s).beneath)
           (left_in whole (view l.store).snapshots) (view l.store).snapshots.saved.generation (Err why) →
           (IsRefused {T = ℕ} (Err why) → s ≡ l.store) → ((f : FrozenFrames) → (view l.store).snapshots.frozen ≡ Some f → f.left ≡ 0 →
@@ -367,7 +367,7 @@ pub commit_cause : (old new : Disk) (left : Option ℕ) (saved : ℕ) (why : Ref
     IsCaused old new (answer.Refused why)
 commit_cause old new left saved why reported = search (arith, nat_tests, other_cause, failed_cause)
 
--- these refusals come before any look at an object
+-- if `freeze` refuses, the refusal isn't one that needs no device call
 pub freeze_looks : (left : Option ℕ) (entries : ℕ) (why : Refusal) → IsFreezeAnswer {T = ℕ} left entries (Err why) →
     MakesNoDeviceCall (answer.Refused why) → ⊥
 freeze_looks left entries why reported is = search (arith, nat_tests)
@@ -380,7 +380,7 @@ pub commit_looks : (old new : Disk) (left : Option ℕ) (saved : ℕ) (why : Ref
     MakesNoDeviceCall (answer.Refused why) → ⊥
 commit_looks old new left saved why reported is = search (arith, nat_tests)
 
--- a frozen state may be committed at its age
+-- the frozen state of a kernel that is up may be committed at the frozen age
 pub may_commit : {D S : Type 0} (disk : D → Disk) (view : S → View D) (parts : S → Parts) (l : Live S) →
     ((g : Geometry) × IsUp disk view parts g l) → (f : FrozenFrames) → (view l.store).snapshots.frozen ≡ Some f →
     MayCommit whole l.frozen_age f (view l.store).snapshots.saved
@@ -392,7 +392,7 @@ may_commit disk view parts l up f frozen =
       keepable = λ stable. subst (λ (g : Geometry). AreKeepable g l.frozen_age f.frames) (sym sound.saved.geometry) held.sound.keepable;
     }
 
--- the store and its device count the same failures, and neither count rose
+-- if two counts of failures agree before and after, and one of them stayed, so did the other
 pub unfailed : {old new p q : ℕ} → p ≡ old → q ≡ new → new ≡ old → q ≡ p
 unfailed before after stayed = after ∙ stayed ∙ sym before
 

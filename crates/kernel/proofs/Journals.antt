@@ -1,4 +1,4 @@
--- A page is journaled: the machine after it, what a crash leaves, and how it ends: refused, done, or in a failure of the device.
+-- Journaling a page: the machine after it, what a crash leaves, and its outcomes.
 use Rattle.kernel.proofs.Names.{ℕ, Bool, true, false, not, Option, None, Some, List, [], map, length, set, length-set, refl, sym, ap, subst, arith, nat_lt}
 use Rattle.kernel.proofs.Names.{slice_index_or, All, get_or-map, map-set_same, nat_tests, get_or_past, map-set, All-nil, Refusal, NotPage, Renewed, Cap}
 use Rattle.kernel.proofs.Names.{Capability, Frame, ObjectHeader, Geometry, Content, Object, Role, blank_frame, conveyed, frame_at, header_at, headers, held_at}
@@ -70,7 +70,7 @@ module _ (g : Geometry) (s : Running) (n : ℕ) where
             unfolding refusal_of carried_out
             journal_step saved = search (arith, nat_tests, done_step)
 
-        -- the state that a journal may have saved
+        -- the state that `journal` may save: the journaled one, or none if a refusal applies
         abbrev seconds : Bool → Option Frozen → Bool → Bool → Bool → List Saved
         seconds young frozen home page saved = elim (unless young refusal.Worn (elim frozen [
           | Some f ↦ Some refusal.CheckpointRunning
@@ -107,7 +107,7 @@ content_is : (fs : List Frame) (n : ℕ) → content_at (objects_of fs) n ≡ ma
 unfolding objects_of
 content_is fs n = ap (λ (o : Object). o.content) (get_or-map (object_of (headers fs)) fs n blank_frame)
 
--- whether a number is that of a page
+-- an object is a page exactly if its frame's content is one
 module _ (g : Geometry) (age : ℕ) (fs : List Frame) (n : ℕ) (keepable : AreKeepable g age fs) where
   content_page : is_page (frame_at fs n).content ≡ is_page (content_at (objects_of fs) n)
   content_page = sym (page_through (conveyed (headers fs)) (frame_at fs n).content) ∙ ap is_page (sym (content_is fs n))
@@ -266,24 +266,24 @@ module _ {g : Geometry} {p : Parts} {a : Snapshots FrozenFrames} {banks : BanksS
             (running_of p a age frozen_age) { now = now; saved = machine.journaled (running_of p a age frozen_age) n; to_move = 1 } in x)
         running_next = search (arith, nat_tests, base_next, renewed_after, base_saved, saved_next)
 
--- the state that is saved next, if nothing refuses the journal
+-- if no refusal applies, `journal` saves the state with the page's present words
 pub next_is : {F : Type 0} (age n : ℕ) (words : List ℕ) (o : Option F) (s : SavedFrames) (page saved b : Bool) → o ≡ None → s.entries ≡ 0 →
     page ≡ true → saved ≡ b →
     next_journaled age n words o s page saved ≡ (if b then Some (journaled_saved age n words s) else None)
 next_is age n words o s page saved b none home is_page is_saved = search (arith, nat_tests)
 
--- a kernel's state with another store and another age
+-- the state of a kernel after its store and its age changed
 abbrev pub with_age : {S : Type 0} → Live S → S → ℕ → Live S
 with_age l s age = record { store = s; banks = l.banks; age = age; frozen_age = l.frozen_age }
 
--- if the journal was done, the store can be used
+-- a `journal` that succeeded isn't `Fault`, so the other case holds
 pub done_usable : {P : Type 0} (n : ℕ) → IsErrOf {T = ℕ} (Ok n) refusal.Fault ⊎ P → P
 done_usable n either = search (arith, nat_tests)
 
 still_usable : {P : Type 0} → IsErrOf {T = ℕ} (Err (refusal.NotJournaled Renewed)) refusal.Fault ⊎ P → P
 still_usable either = search (arith, nat_tests)
 
--- a refusal before any look at an object leaves the store unchanged
+-- a refusal that needs no device call leaves the store unchanged
 pub unlooked_same : {S : Type 0} (was now : Disk) (left : Option ℕ) (s : SavedFrames) (known page saved : Bool) (why : Refusal)
     {old new : S} → IsJournalAnswer was now left s known page saved (Err why) → (IsTurnedAway (Err why) → new ≡ old) →
     MakesNoDeviceCall (answer.Refused why) → new ≡ old
@@ -310,7 +310,7 @@ module _ {D S : Type 0} (disk : D → Disk) (view : S → View D) (parts : S →
     abbrev new : Disk
     new = disk (view s).beneath
 
-    -- no device call was made
+    -- a refusal that leaves the store unchanged is served
     turned_away : (why : Refusal) → s ≡ l.store →
         ((g : Geometry) → IsUp disk view parts g l → machine.refusal_of g (running disk view parts l) (command.Journal n) ≡ Some why) →
         ServesUp disk view parts l (command.Journal n) (answer.Refused why) (with_store l s)
@@ -327,7 +327,7 @@ module _ {D S : Type 0} (disk : D → Disk) (view : S → View D) (parts : S →
           LeavesOneOf old new a.saved (if b then Some (journaled_saved age n (words_now (parts l.store) n) a.saved) else None)
       run_by b is = search (arith, nat_tests, next_is)
 
-      -- what a crash leaves during the journal
+      -- after a crash at any moment of `journal` the image denotes the old saved state or the new one
       along : (b : Bool) → is_still_saved (parts l.store) a.saved n ≡ b → (g : Geometry) → IsUp disk view parts g l →
           LeavesOne g (disk_at disk view parts l) (disk (view s).beneath)
           (saved_of (view l.store).snapshots.saved ∷ second (Up (running disk view parts l)) (command.Journal n))
@@ -344,7 +344,7 @@ module _ {D S : Type 0} (disk : D → Disk) (view : S → View D) (parts : S →
       journal_failed = failed disk view parts only_now sound_holds l (with_store l s) (command.Journal n)
           (along (is_still_saved (parts l.store) a.saved n) refl)
 
-      -- the page isn't saved, or was freed since
+      -- `journal` refuses a page with `Renewed` if no page is saved at its number, or the saved one was freed since
       pub not_saved : parts s ≡ parts l.store → is_still_saved (parts l.store) (view l.store).snapshots.saved n ≡ false →
           (view s).snapshots ≡ (view l.store).snapshots → (view s).usable →
           ServesUp disk view parts l (command.Journal n) (answer.Refused (refusal.NotJournaled Renewed)) (with_store l s)
@@ -361,7 +361,7 @@ module _ {D S : Type 0} (disk : D → Disk) (view : S → View D) (parts : S →
             leaves = along false other g up;
           }
 
-      -- the page is journaled
+      -- `journal` of a page that is still saved is served
       pub journal_went : parts s ≡ parts l.store → is_still_saved (parts l.store) (view l.store).snapshots.saved n ≡ true →
           (generation : ℕ) → generation ≡ (view l.store).snapshots.saved.generation + 2 →
           (view s).snapshots ≡ journaled ((view l.store).snapshots.saved.age + 1) n (words_now (parts l.store) n) (view l.store).snapshots →
@@ -382,7 +382,7 @@ module _ {D S : Type 0} (disk : D → Disk) (view : S → View D) (parts : S →
             leaves = along true is g up;
           }
 
-    -- the journal is refused
+    -- a refused or failed `journal` is served
     pub journal_refused : (why : Refusal) → (disk (view s).beneath).sectors ≡ (disk (view l.store).beneath).sectors →
         IsJournalAnswer (disk (view l.store).beneath) (disk (view s).beneath) (left_in whole (view l.store).snapshots)
         (view l.store).snapshots.saved
@@ -425,7 +425,7 @@ module _ {D S : Type 0} (disk : D → Disk) (view : S → View D) (parts : S →
         journal_failed size run (none_there a.frozen reported.1) reported.2 reported.3
     journal_refused why size reported away beside same usable run = absurd reported
 
--- a refusal is `Fault` exactly if the device failed
+-- `journal` answers `Fault` exactly if the device failed
 pub journal_cause : (old new : Disk) (left : Option ℕ) (s : SavedFrames) (known page saved : Bool) (why : Refusal) →
     IsJournalAnswer old new left s known page saved (Err why) → IsCaused old new (answer.Refused why)
 journal_cause old new left s known page saved why reported = search (arith, nat_tests, failed_cause, other_cause)

@@ -1,4 +1,5 @@
--- Which numbers were renewed since the last checkpoint or restart. The machine of a store, up or down, and what a crash leaves.
+-- Which numbers were renewed since the last checkpoint or restart. The machine that a kernel stands for, up or down, and what a crash
+-- leaves.
 use Rattle.kernel.proofs.Names.{ℕ, Bool, true, false, not, List, length, map, refl, sym, ap, arith, range_with_len, get_or-map, ne_eqb, ext_get_or}
 use Rattle.kernel.proofs.Names.{get_or-map-range_with_len, length-map-range_with_len, Cap, Frame, ObjectHeader, Content, blank_frame, frame_at, frames_in}
 use Rattle.kernel.proofs.Names.{header_at, renewing, is_given_up, Parts, Renews, frames_of, objects_in, headers_in, Snapshots, moved_saved, FrozenFrames}
@@ -22,12 +23,12 @@ pub header_in : (hs : List ObjectHeader) (cs : List (Content Cap)) (n : ℕ) →
 header_in hs cs n = sym (get_or-map (λ (f : Frame). f.header) (frames_in hs cs) n blank_frame) ∙
     ap (λ (ks : List ObjectHeader). header_at ks n) (headers_in hs cs)
 
--- a count differs from the saved one if it did before, or rises now
+-- a count differs from the saved one exactly if it differed before or rises now
 differs : (gone : Bool) (base old new : ℕ) → base ≤ old → new ≡ old + (if gone then 1 else 0) →
     (not (old == base) || gone) ≡ not (new == base)
 differs gone base old new le is = search (arith, nat_tests, ne_eqb)
 
--- counts through an invocation
+-- the parameters: the frames at the last checkpoint, and the objects before and after a step that raises counts only by `Renews`
 module _ (base : List Frame) (p q : Parts) (renews : Renews p q) (risen : (n : ℕ) → allocations_at base n ≤ allocations_at (frames_of p) n)
   where
     abbrev gone : ℕ → Bool
@@ -62,21 +63,21 @@ frames_if b fs = search (arith, nat_tests)
 pub base_moved : (a : Snapshots FrozenFrames) (n : ℕ) → base_of (moved n a) ≡ base_of a
 base_moved a n = ap (λ (fs : List Frame). base_by fs a.frozen) (frames_if (a.to_move - n == 0) a.saved)
 
--- a candidate among the first is one among all
+-- an image that denotes one of some states denotes one of a longer list
 pub among : (g : Geometry) (size : ℕ) (c : Image) (ss ts : List Saved) → DenotesOne g size ss c → DenotesOne g size (ss ++ ts) c
 among g size c [] ts one = absurd one
 among g size c (s ∷ ss) ts one = ⊎_elim (λ here. inl here) (λ there. inr (among g size c ss ts there)) one
 
--- no call was made
+-- if no call was made, a crash leaves what it left before
 pub leaves_here : (g : Geometry) (disk : Disk) (ss ts : List Saved) → OnlyNow disk → Leaves g disk ss → LeavesOne g disk disk (ss ++ ts)
 leaves_here g disk ss ts only_now here = search (arith, nat_tests, started, among)
 
--- a crash leaves what was saved throughout
+-- if the sectors hold the saved frames at every moment, a crash leaves the saved state
 pub leaves_along : {g : Geometry} {old new : Disk} {fs : SavedFrames} {ts : List Saved} → IsSoundSaved g fs → new.sectors ≡ old.sectors →
     LeavesSaved old new fs → LeavesOne g old new (saved_of fs ∷ ts)
 leaves_along {g} {old} {new} {fs} {ts} sound size moments = search (arith, nat_tests, leaves_weaker, denoted_by)
 
--- or the state that is saved next
+-- if they hold the saved or the next frames at every moment, a crash leaves one of these two states
 pub leaves_either : {g : Geometry} {old new : Disk} {fs next : SavedFrames} → IsSoundSaved g fs → IsSoundSaved g next →
     new.sectors ≡ old.sectors → LeavesEither old new fs next →
     LeavesOne g old new (saved_of fs ∷ saved_of next ∷ [])
@@ -88,7 +89,7 @@ leaves_either {g} {old} {new} {fs} {next} sound sound_next size moments = record
       (λ is. inr (inl (denoted_by g old.sectors c next sound_next is))) held) moments;
 }
 
--- a crash at the end of a run leaves no more than a crash during the run
+-- if a crash at any moment of a run leaves one of some states, so does a crash at its end
 pub leaves_end : (g : Geometry) (old new : Disk) (ss : List Saved) → CountsNow new → LeavesOne g old new ss → Leaves g new ss
 leaves_end g old new ss counts_now run c left = search (arith, nat_tests)
 
@@ -124,12 +125,12 @@ leaves_home g old new a n sound size moments =
 only_one : (s t : Saved) → Contains (s ∷ []) t → t ≡ s
 only_one s t there = search (arith, nat_tests)
 
--- a machine that is up reopens at the saved state
+-- if a machine that is up is restarted, the outcome is that of opening the saved state
 up_again : (g : Geometry) (r : Running) (a : Answer) (after : Machine) → Reopens g (r.saved ∷ []) a after →
     (a ≡ answer.At r.saved.generation r.saved.world.age) × (after ≡ Up (opened g r.saved))
 up_again g r a after again = search (arith, nat_tests, only_one)
 
--- the device was opened again, or the machine is down for want of memory or after a failure
+-- a `restart` of a machine that is down at m's candidates is also a `restart` of m
 restarts : (g : Geometry) (m : Machine) (a : Answer) (after : Machine) → Step g (Down (candidates m)) command.Restart a after →
     Step g m command.Restart a after
 unfolding refusal_of carried_out
@@ -148,15 +149,15 @@ reopens_step g m c a after which again = search (arith, nat_tests, restarts, is_
 
 -- ---- crashes
 
--- a run with more candidates
+-- a crash that leaves one of some candidates leaves one of more candidates
 more_left : (g : Geometry) (old new : Disk) (ss ts : List Saved) → LeavesOne g old new ss → LeavesOne g old new (ss ++ ts)
 more_left g old new ss ts run = search (arith, nat_tests, leaves_weaker, among)
 
--- one run after another
+-- two runs, one after the other, are a run
 left_on : (g : Geometry) (old mid new : Disk) (ss : List Saved) → LeavesOne g old mid ss → LeavesOne g mid new ss → LeavesOne g old new ss
 left_on g old mid new ss first next = search (arith, nat_tests, leaves_on)
 
--- after a power cut, a crash leaves what the cut left
+-- the parameters: the disk before and after a power cut, which leaves an image that a crash may leave
 module _ (g : Geometry) (old new : Disk) (ss : List Saved) (left : old.may_leave new.seen) (durable : Only new.seen new)
     (size : new.sectors ≡ old.sectors)
     (before : Leaves g old ss) where
@@ -169,7 +170,7 @@ module _ (g : Geometry) (old new : Disk) (ss : List Saved) (left : old.may_leave
 module _ {D S : Type 0} (disk : D → Disk) (view : S → View D) (parts : S → Parts) where
   -- ---- a command that goes on
 
-  -- the store of a kernel is up
+  -- a kernel with a store is up
   pub some_up : (o : Option (Live S)) (d : Option D) (l : Live S) → o ≡ Some l → IsSomeMachine disk view parts (power_of o d) →
       IsSomeMachine disk view parts (power.Up l)
   some_up o d l is some = subst (λ (x : Option (Live S)). IsSomeMachine disk view parts (power_of x d)) is some
@@ -178,7 +179,7 @@ module _ {D S : Type 0} (disk : D → Disk) (view : S → View D) (parts : S →
       IsSomeUp disk view parts l
   requested_up o d l is some = search (arith, nat_tests, some_up)
 
-  -- a kernel that answered stays up
+  -- if the answer isn't `Fault`, the kernel stays up
   pub stays_up : (l k : Live S) (c : Command) (a : Answer) → (a ≡ answer.Refused refusal.Fault → ⊥) → ServesUp disk view parts l c a k →
       Serves disk view parts (power.Up l) c a (power.Up k)
   stays_up l k c a fine serves g (Up r) stands =
@@ -191,11 +192,11 @@ module _ {D S : Type 0} (disk : D → Disk) (view : S → View D) (parts : S →
       })
   stays_up l k c a fine serves g (Down saved) stands = absurd stands
 
-  -- a kernel has only one device beneath
+  -- the device beneath a kernel is unique
   pub one_device : (p : Power D S) (d e : D) → IsDeviceOf disk view parts p d → IsDeviceOf disk view parts p e → d ≡ e
   one_device p d e is other = search (arith, nat_tests)
 
-  -- the device failed, and was given back
+  -- if the answer is `Fault`, the kernel goes down with the store's device
   pub goes_down : (l k : Live S) (c : Command) (d : D) → CountsNow (disk d) →
       ServesUp disk view parts l c (answer.Refused refusal.Fault) k → d ≡ (view k.store).beneath →
       Serves disk view parts (power.Up l) c (answer.Refused refusal.Fault) (power.Down d)
@@ -214,12 +215,12 @@ module _ {D S : Type 0} (disk : D → Disk) (view : S → View D) (parts : S →
       })
   goes_down l k c d counts_now serves is g (Down saved) stands = absurd stands
 
-  -- a kernel that carried out a command stands for a machine
+  -- a kernel that stood for some machine still does after a command
   pub some_after : (p q : Power D S) (c : Command) (a : Answer) → Serves disk view parts p c a q → IsSomeMachine disk view parts p →
       IsSomeMachine disk view parts q
   some_after p q c a serves some = let s = serves some.0 some.1 some.2 in (some.0, s.after, s.stands)
 
-  -- only a command that shows an object or opens the device may be answered `no memory`
+  -- if the answer is `NoMemory`, the command shows an object or opens the device
   pub memory_taken : (p q : Power D S) (c : Command) (a : Answer) → Serves disk view parts p c a q → IsSomeMachine disk view parts p →
       a ≡ answer.Refused refusal.NoMemory → takes_memory c ≡ true
   memory_taken p q c a serves some is = search (arith, nat_tests, wants_memory_to_show)
@@ -293,7 +294,7 @@ module _ {D S : Type 0} (disk : D → Disk) (view : S → View D) (parts : S →
         reported (fault.Bad reason) r = absurd
             (one_not_bad g (disk device).sectors (disk device).seen ss reason (leaves (disk device).seen seen_left) r.is_why.1)
 
-  -- after a crash of a kernel its device holds a valid image
+  -- if a crash of a kernel left the device's image, `recover` can't refuse it as bad
   pub no_reason : (device back : D) (why : OpenFault) → (disk device).may_leave (disk device).seen → IsSomeDown disk device →
       RefusesToOpen disk device back why → IsNoReason why
   no_reason device back (fault.Bad reason) seen_left down refuses =
@@ -320,7 +321,7 @@ module _ {D S : Type 0} (disk : D → Disk) (view : S → View D) (parts : S →
 
   module _ (p q : Power D S) (d : D) (c : Command) (a : Answer) (is : IsDeviceOf disk view parts p d)
       (which : (c ≡ command.Restart) ⊎ (c ≡ command.Cut)) where
-    -- the device was opened again, after a crash
+    -- if opening the device again leaves only what a crash left before, it serves the command
     pub opened_again : (e : D) → ((g : Geometry) (ss : List Saved) → Leaves g (disk d) ss →
         LeavesOne g (disk d) (disk e) ss × Leaves g (disk e) ss) → ((g : Geometry) (ss : List Saved) → Leaves g (disk e) ss →
         Reopened disk view parts g ss e a q) → Serves disk view parts p c a q
@@ -341,7 +342,7 @@ module _ {D S : Type 0} (disk : D → Disk) (view : S → View D) (parts : S →
         IsCaused (disk_of disk view parts p) (disk_of disk view parts q) a
     again_caused e same caused = search (arith, nat_tests, disk_is)
 
-  -- the device wasn't called, or its power was cut
+  -- if the device wasn't called, a crash leaves what it left before
   pub left_alone : (d : D) → OnlyNow (disk d) → (g : Geometry) (ss : List Saved) → Leaves g (disk d) ss →
       LeavesOne g (disk d) (disk d) ss × Leaves g (disk d) ss
   left_alone d only_now g ss leaves = search (arith, nat_tests, append-nil, leaves_here)
@@ -355,7 +356,7 @@ module _ {D S : Type 0} (disk : D → Disk) (view : S → View D) (parts : S →
       (disk e).sectors ≡ (disk d).sectors → Elapses (disk d) (disk e) → IsSomeDown disk d → IsSomeDown disk e
   some_cut d e only_now counts_now left durable size time down = search (arith, nat_tests, left_cut)
 
--- the result code of an invocation in a store that is up is that of its objects
+-- the result code that an invocation reports is that of the machine's objects
 module _ {D S : Type 0} (disk : D → Disk) (view : S → View D) (parts : S → Parts) where
   invoked_code : (l : Live S) (i : Invocation) (code : Option ResultCode) →
       code ≡ code_with (parts l.store).geometry (objects_in (parts l.store)) i answer.Done →

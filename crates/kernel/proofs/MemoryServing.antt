@@ -1,4 +1,4 @@
--- Loads and stores as steps of the machine. Their outcome over present frames, from what each part of them reported.
+-- Loads and stores as steps of the machine, over present frames.
 use Rattle.kernel.proofs.Names.{ℕ, Bool, true, [], Option, None, Some, Result, Ok, Err, refl, sym, ap, arith, nat_tests, Answer, MemoryFault, Refusal, Command}
 use Rattle.kernel.proofs.Names.{Geometry, Running, Up, touching, touched_count, Step, refusal_of, carried_out, reached, writable, writing, is_process}
 use Rattle.kernel.proofs.Names.{is_running_process, with_word, IsLoaded, IsEarly, List, subst, IsErrOf, ObjectHeader, Object, header_at, IsSoundFrames, Frozen}
@@ -17,7 +17,7 @@ abbrev pub loaded_answer : Result ℕ MemoryFault → Answer
 loaded_answer (Ok word) = answer.Value word
 loaded_answer (Err why) = answer.MemoryFault why
 
--- a load
+-- what a load answers: a refusal, or the word or memory fault at its address
 module _ (g : Geometry) (s : Running) (p address : ℕ) where
   pub load_early : (why : Refusal) → IsEarly s.now.objects p (Some why) →
       Step g (Up s) (command.Load p address) (answer.Refused why) (Up s)
@@ -30,7 +30,7 @@ module _ (g : Geometry) (s : Running) (p address : ℕ) where
     unfolding refusal_of carried_out
     load_step loaded is = search (arith, nat_tests, done_step)
 
--- a store
+-- what a store answers: a refusal, `Done` or a memory fault
 module _ (g : Geometry) (s : Running) (p address word : ℕ) where
   pub store_early : (why : Refusal) → IsEarly s.now.objects p (Some why) →
       Step g (Up s) (command.Store p address word) (answer.Refused why) (Up s)
@@ -66,13 +66,13 @@ loaded_unfailed loaded e = search (arith, nat_tests)
 stored_unfailed : (stored : Result (Unit {0}) MemoryFault) → stored_answer stored ≡ answer.Refused refusal.Fault → ⊥
 stored_unfailed stored e = search (arith, nat_tests)
 
--- the machine with these objects and these touched numbers
+-- two machines are equal if their objects, touched numbers and age are
 machine_is : (age : ℕ) (new : Parts) (renewed now : List Bool) (frozen : Option Frozen) (saved : Saved) (to_move : ℕ) (os : List Object)
     (ts : List Bool) → objects_in new ≡ os → new.touched ≡ ts → renewed ≡ now →
     standing age renewed frozen saved to_move os ts ≡ machine_at age new now frozen saved to_move
 machine_is age new renewed now frozen saved to_move os ts objects touched same = search (arith, nat_tests)
 
--- a process that can't act
+-- if a process can't act, a load or store of it is refused and changes nothing
 module _ {S : Type 0} {parts : S → Parts} {Continues : S → S → Type 0} {age : ℕ} {old new : S} (p address : ℕ) (why : Refusal)
     (sound : IsSoundFrames (parts old).geometry age (frames_of (parts old))) (early : IsEarly (objects_in (parts old)) p (Some why))
     (snapshots : OnlyFetches parts Continues old new) (stayed : (parts old).failures < (parts new).failures → ⊥) where
@@ -89,10 +89,10 @@ module _ {S : Type 0} {parts : S → Parts} {Continues : S → S → Type 0} {ag
       refused_serves snapshots.same sound snapshots.later
       why_cause (λ renewed frozen saved to_move other. store_early (parts old).geometry _ p address word why early)
 
--- the answer to a load or store of a running process, after a call that only reads
+-- the outcome of a load or store of a running process, once a read has fetched its objects
 module _ {age : ℕ} {old mid : Parts} (new : Parts) (p address : ℕ) (sound : IsSoundFrames old.geometry age (frames_of old))
     (acts : IsEarly (objects_in old) p None) (same : mid ≡ old) where
-  -- an answer after the call that only reads is one before it
+  -- a command performed after a read that changed nothing is performed from the state before the read
   back : {c : Command} {a : Answer} → Performs age mid c a age new → Performs age old c a age new
   back {c} {a} performs = subst (λ (q : Parts). Performs age q c a age new) same performs
 
@@ -118,7 +118,7 @@ module _ {age : ℕ} {old mid : Parts} (new : Parts) (p address : ℕ) (sound : 
         cause = (λ e. absurd (loaded_unfailed loaded e), λ rose. absurd (omega (arith, rose, ap (λ (q : Parts). q.failures) read)));
       }))
 
-  -- a store that isn't carried out
+  -- if a store can't be prepared, it is refused and nothing changes
   pub store_refused : (word : ℕ) (why : Refusal) → IsUnprepared why → AreSameUnlessFailed mid new → mid.failures ≤ new.failures →
       (let r : Result (Result (Unit {0}) MemoryFault) Refusal = Err why in IsErrOf r refusal.Fault ↔ (mid.failures < new.failures)) →
       (let r : Result (Result (Unit {0}) MemoryFault) Refusal = Err why in IsErrOf r refusal.LogFull →
@@ -133,10 +133,10 @@ module _ {age : ℕ} {old mid : Parts} (new : Parts) (p address : ℕ) (sound : 
       (λ renewed frozen saved to_move other. absurd (other refl)))
   store_refused word c of unchanged later cause full = absurd of
 
-  -- a store
+  -- the parameters: a store that was prepared, with its word and the headers unchanged
   module _ (word : ℕ) (geometry : new.geometry ≡ mid.geometry) (headers : new.headers ≡ mid.headers) (later : mid.failures ≤ new.failures)
     where
-      -- a store leaves the frame of the objects
+      -- a store changes at most one page, and sound frames stay sound
       stored_frame : (stored : Result (Unit {0}) MemoryFault) →
           IsStored mid.geometry.log (objects_in mid) mid.touched p address word (objects_in new) new.touched stored →
           SameFrame (objects_in mid) (objects_in new)
@@ -189,7 +189,7 @@ module _ {age : ℕ} {old mid : Parts} (new : Parts) (p address : ℕ) (sound : 
 abbrev IsCountedAt : Parts → BanksState → Type 0
 IsCountedAt p s = AreCounted p.geometry (objects_in p) s
 
--- the counts of banks after a store
+-- after a store the banks' counts still match the objects
 pub stored_counted : (before after : Parts) (s : BanksState) (p address word : ℕ) (r : Result (Unit {0}) MemoryFault) →
     after.geometry ≡ before.geometry → IsStored before.geometry.log (objects_in before) before.touched p address word (objects_in after)
     after.touched r → IsCountedAt before s → IsCountedAt after s
@@ -198,7 +198,7 @@ stored_counted before after s p address word (Ok done) geometry stored h =
     (counted_on (word_frame (objects_in before) stored.0 _ word) h)
 stored_counted before after s p address word (Err why) geometry stored h = search (arith, nat_tests)
 
--- an object was shown, or not
+-- what `show` answers, for the objects before and after it
 module _ {S : Type 0} {parts : S → Parts} {Continues : S → S → Type 0} (before after : S) (n : ℕ) where
   pub shows : (age : ℕ) (r : Result Answer Refusal) → n < length (parts before).headers →
       IsSoundFrames (parts before).geometry age (frames_of (parts before)) → IfOk r (λ a. a ≡ shown (objects_in (parts before)) n) →

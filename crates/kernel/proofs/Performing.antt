@@ -1,5 +1,4 @@
--- Steps of the machine: which refusal applies, and what is carried out. The outcome of a command over present frames, from what each part
--- reported.
+-- Steps of the machine: which refusal applies, and what is carried out, over present frames.
 use Rattle.kernel.proofs.Names.{ℕ, Bool, true, false, List, Option, None, Some, refl, sym, ap, subst, inl, arith, nat_tests, Answer, Refusal, Command}
 use Rattle.kernel.proofs.Names.{Invocation, Geometry, Object, Effect, invoke, Running, Machine, Up, renewing, touching, touched_count, object_count, Step}
 use Rattle.kernel.proofs.Names.{refusal_of, carried_out, writing, shown, is_process, is_running_process, IsEarly, length, Result, Ok, Err, ResultCode}
@@ -12,7 +11,7 @@ use Rattle.model.specs.declared.answer.Answer.TheVariants as answer
 use Rattle.model.specs.declared.answer.Refusal.TheVariants as refusal
 use Rattle.model.specs.declared.command.Command.TheVariants as command
 
--- the answer by the refusal that applies
+-- the answer is the refusal that applies; or, if none does, the command is carried out
 abbrev AnswersBy : Geometry → Running → Command → Answer → Machine → Option Refusal → Type 0
 AnswersBy g s c a after r = elim r [
   | Some why ↦ (a ≡ answer.Refused why) × (after ≡ Up s)
@@ -27,9 +26,9 @@ pub done_step : (g : Geometry) (s : Running) (c : Command) (a : Answer) (after :
     a ≡ (carried_out g s c).answer → after ≡ Up (carried_out g s c).after → Step g (Up s) c a after
 done_step g s c a after none reported then = inl (subst (AnswersBy g s c a after) (sym none) (reported, then))
 
--- an invocation, by the facts about its process, the age and its effect
+-- how an invocation steps, from its process, the age and its effect
 module _ (g : Geometry) (s : Running) (i : Invocation) where
-  -- a process that can't act
+  -- if a process can't act, its invocation is refused for that reason
   pub early_step : (why : Refusal) → IsEarly s.now.objects i.process (Some why) →
       Step g (Up s) (command.Invoke i) (answer.Refused why) (Up s)
   unfolding refusal_of
@@ -56,7 +55,7 @@ module _ (g : Geometry) (s : Running) (i : Invocation) where
       unfolding refusal_of carried_out
       invoke_step e is within = search (arith, nat_tests, done_step)
 
--- show
+-- `show` answers with the object's parts
 module _ (g : Geometry) (s : Running) (n : ℕ) where
   pub show_step : n < object_count g → (a : Answer) → a ≡ shown s.now.objects n → Step g (Up s) (command.Show n) a (Up s)
   unfolding refusal_of carried_out
@@ -70,18 +69,18 @@ module _ (g : Geometry) (s : Running) (n : ℕ) where
   unfolding refusal_of
   show_no_memory within = search (arith, nat_tests)
 
--- no early refusal is a failure
+-- why a process can't act is never `Fault`
 pub early_fine : (os : List Object) (p : ℕ) (why : Refusal) → IsEarly os p (Some why) → why ≡ refusal.Fault → ⊥
 early_fine os p why early is = search (arith, nat_tests)
 
--- a process that isn't refused early is running
+-- if there is no reason why a process can't act, it is running
 pub early_none : (os : List Object) (p : ℕ) (o : Option Refusal) → ((why : Refusal) → o ≡ Some why → ⊥) → IsEarly os p o → IsEarly os p None
 early_none os p o other early = search (arith, nat_tests)
 
 none_renewed : (p : Parts) (renewed : List Bool) → renewed_by renewed p p ≡ renewed
 none_renewed p renewed = search (arith, nat_tests, renewing_none, none_given_up)
 
--- the same parts before and after
+-- if the parts stay the same, the machine does
 module _ {old new : Parts} (same : new ≡ old) where
   pub still_machine : (age : ℕ) (renewed : List Bool) (frozen : Option Frozen) (saved : Saved) (to_move : ℕ) →
       machine_at age new (renewed_by renewed old new) frozen saved to_move ≡ machine_at age old renewed frozen saved to_move
@@ -93,7 +92,7 @@ module _ {old new : Parts} (same : new ≡ old) where
   still_sound {age} sound = subst (λ (p : Parts). StaysSound old p age) (sym same)
       (record { renews = renews_none old old (λ n. refl) (λ n used. used); sound = sound; geometry = refl })
 
--- a refusal that changes nothing
+-- a refusal that changes nothing is performed, if the frames are sound
 pub refused_serves : {age : ℕ} {old new : Parts} {c : Command} {why : Refusal} → AreSameUnlessFailed old new →
     IsSoundFrames old.geometry age (frames_of old) → old.failures ≤ new.failures → ((why ≡ refusal.Fault) ↔ (old.failures < new.failures)) →
     ((renewed : List Bool) (frozen : Option Frozen) (saved : Saved) (to_move : ℕ) → (why ≡ refusal.Fault → ⊥) →
@@ -112,7 +111,7 @@ refused_serves {age} {old} {new} {c} {why} unless sound later cause step = recor
     same : (answer.Refused why ≡ answer.Refused refusal.Fault → ⊥) → new ≡ old
     same other = unless (unrisen old.failures new.failures later (λ rose. other (ap answer.Refused (cause.1 rose))))
 
--- a refusal other than for a failure, where the count of failures didn't rise
+-- if no call failed, a refusal other than `Fault` reports the cause correctly
 pub reported_cause : (why : Refusal) {X : Type 0} → (why ≡ refusal.Fault → ⊥) → (X → ⊥) → (why ≡ refusal.Fault) ↔ X
 reported_cause why other stayed = (λ e. absurd (other e), λ x. absurd (stayed x))
 
@@ -127,7 +126,7 @@ standing age renewed frozen saved to_move os ts = Up
       to_move = to_move;
     })
 
--- an invocation that was carried out
+-- if an invocation had its effect, the process performs it, with the answer `Done`
 done_serves : {age : ℕ} {old new : Parts} {i : Invocation} → age < 2 ^ 62 → is_process (objects_in old) i.process ≡ true →
     is_running_process (objects_in old) i.process ≡ true → IsSoundFrames old.geometry age (frames_of old) →
     Invokes old.geometry i (objects_in old) old.touched (objects_in new) new.touched → KeepsSoundFrames old new → Renews old new →
@@ -156,7 +155,7 @@ done_serves {age} {old} {new} {i} young process running sound invokes keeps rene
         λ k. standing (age + 1) (renewing renewed (objects_in old) (sym invokes.2 k)) frozen saved to_move (sym invokes.2 k)
         (sym invokes.3 k)
 
--- the answer if there is no process
+-- an invocation of a number that is no process is refused with `NoProcess`
 pub no_process_serves : (p : Parts) (age : ℕ) (i : Invocation) → IsSoundFrames p.geometry age (frames_of p) →
     is_process (objects_in p) i.process ≡ false → Performs age p (command.Invoke i) (answer.Refused refusal.NoProcess) age p
 no_process_serves p age i sound none =
@@ -164,7 +163,7 @@ no_process_serves p age i sound none =
     (omega arith) (reported_cause refusal.NoProcess (λ e. cc) (λ rose. absurd (omega (arith, rose))))
     (λ renewed frozen saved to_move other. early_step p.geometry _ i refusal.NoProcess none)
 
--- the answer to an invocation that wasn't carried out
+-- what a refused invocation answers
 module _ {S : Type 0} (parts : S → Parts) (Continues : S → S → Type 0) (age : ℕ) (old new : S) (i : Invocation)
     (process : is_process (objects_in (parts old)) i.process ≡ true) (sound :
     IsSoundFrames (parts old).geometry age (frames_of (parts old)))
@@ -197,14 +196,14 @@ module _ {S : Type 0} (parts : S → Parts) (Continues : S → S → Type 0) (ag
       refused refusal.Fault said refusal.Fault (λ e. cc, λ e. cc) (λ renewed frozen saved to_move other. absurd (other refl))
   fault_serves c tells said = absurd tells
 
-  -- the answer to an invocation that was carried out
+  -- if an invocation returned a result code, the process performs it
   pub invoked_serves : (code : Option ResultCode) → TellsState (objects_in (parts old)) i (Ok code) →
       Invoked parts Continues old new i (Ok code) → Performs age (parts old) (command.Invoke i) answer.Done (age + 1) (parts new)
   invoked_serves code runs said =
       done_serves young process runs sound said.done said.sound said.renews said.geometry said.later
       (λ rose. let failed = said.cause.1 rose in cc)
 
--- the answer to a `show` of an object
+-- `show` is performed if the answer has the object's parts and nothing changed
 pub shown_serves : (age : ℕ) (old new : Parts) (n : ℕ) (a : Answer) → n < length old.headers → new ≡ old →
     IsSoundFrames old.geometry age (frames_of old) → a ≡ shown (objects_in old) n → Performs age old (command.Show n) a age new
 shown_serves age old new n a known same sound reported = record {
@@ -236,7 +235,7 @@ module _ (age : ℕ) (old new : Parts) (n : ℕ) (same : AreSameUnlessFailed old
       (λ renewed frozen saved to_move other. show_no_memory old.geometry _ n
       (subst (λ (m : ℕ). n < m) (keepable_count old.geometry age old sound.keepable) known))
 
-  -- nothing is shown
+  -- a refused `show` is performed if nothing changed
   pub unshown_serves : n < length old.headers → (why : Refusal) → IsUnread why →
       (let r : Result Answer Refusal = Err why in IsErrOf r refusal.Fault ↔ (old.failures < new.failures)) →
       Performs age old (command.Show n) (answer.Refused why) age new
@@ -245,10 +244,10 @@ module _ (age : ℕ) (old new : Parts) (n : ℕ) (same : AreSameUnlessFailed old
       refused_serves same sound later (λ e. cause.0 refl, λ rose. refl) (λ renewed frozen saved to_move other. absurd (other refl))
   unshown_serves known why of cause = absurd of
 
--- if the call succeeds, no count of failures rises
+-- if a call succeeded, the count of failures didn't rise
 pub ok_stayed : {X : Type 0} (early : Option Refusal) → (let r : Result (Option Refusal) Failed = Ok early in IsErr r ↔ X) → X → ⊥
 ok_stayed early cause x = let never : false ≡ true = cause.1 x in cc
 
--- an object that is shown isn't a failure
+-- the answer with an object's parts isn't `Fault`
 pub shown_fine : (os : List Object) (n : ℕ) (a : Answer) → a ≡ shown os n → a ≡ answer.Refused refusal.Fault → ⊥
 shown_fine os n a reported e = let d : shown os n ≡ answer.Refused refusal.Fault = sym reported ∙ e in cc

@@ -1,4 +1,4 @@
--- Steps of the machine: evictions, the stages of a checkpoint, and openings. Sound frames stay sound through each stage.
+-- Steps of the machine: evictions, the stages of a checkpoint, and openings. Each stage keeps frames sound.
 use Rattle.kernel.proofs.Names.{ℕ, Bool, true, Option, None, Some, List, [], refl, sym, ap, subst, arith, nat_tests, Geometry, Frozen, Saved, Running, Up}
 use Rattle.kernel.proofs.Names.{touched_count, untouched, object_count, Step, carried_out, committed, refusal_of, second, World, option_map, Frame}
 use Rattle.kernel.proofs.Names.{objects_of, AreKeepable, IsSoundFrames, world_at, IsSound, Snapshots, freezing, moved_saved, next_saved, all_frozen, whole}
@@ -26,7 +26,7 @@ module _ (g : Geometry) (s : Running) where
   unfolding refusal_of
   evict_refused n past = search (arith, nat_tests)
 
-  -- ---- a checkpoint begins
+  -- ---- refusals of `checkpoint`
   pub worn : 2 ^ 62 ≤ s.now.age → refusal_of g s command.Checkpoint ≡ Some refusal.Worn
   unfolding refusal_of
   worn old = search (arith, nat_tests)
@@ -48,7 +48,7 @@ module _ (g : Geometry) (s : Running) where
     unfolding refusal_of carried_out
     checkpoint_step none home = search (arith, nat_tests, done_step)
 
-  -- ---- and goes on
+  -- ---- refusals of the later stages
   pub none_to_stabilize : (n : ℕ) → s.frozen ≡ None → refusal_of g s (command.Stabilize n) ≡ Some refusal.NoCheckpoint
   unfolding refusal_of
   none_to_stabilize n none = ap (λ (o : Option Frozen). elim o [ None ↦ Some refusal.NoCheckpoint | Some f ↦ None ]) none
@@ -78,7 +78,7 @@ module _ (g : Geometry) (s : Running) where
   unfolding refusal_of carried_out
   migrate_step n = done_step g s (command.Migrate n) _ _ refl refl refl
 
-  -- ---- what a commit may have saved besides
+  -- ---- the states that a commit may save besides
 
   abbrev committing : Option Frozen → List Saved
   committing o = elim o [ None ↦ [] | Some f ↦ if f.left == 0 then committed s f ∷ [] else [] ]
@@ -98,7 +98,7 @@ pub frames_later : (g : Geometry) (age later : ℕ) (fs : List Frame) → age �
     IsSoundFrames g later fs
 frames_later g age later fs le within f = search (arith, nat_tests, keepable_later, world_later)
 
--- sound frames may be written and read back
+-- sound frames have encodings
 pub keepable_most : (g : Geometry) (p : Parts) (age : ℕ) → p.geometry ≡ g → IsSoundFrames g age (frames_of p) →
     AreKeepable p.geometry most (frames_of p)
 keepable_most g p age same f = search (arith, nat_tests, most, keepable_later)
@@ -114,7 +114,7 @@ module _ {p q : Parts} (same : q ≡ p) {a b : Snapshots FrozenFrames} (beside :
   stays_sound {g} {banks} {age} {frozen_age} s = subst (λ (X : Type 0). X) (λ k. AreSoundTogether g (sym same k) (sym beside k) banks age
       frozen_age) s
 
--- other objects, at an age that is no less
+-- a step of a process keeps the kernel sound if the age doesn't fall
 pub acts_sound : {g : Geometry} {p q : Parts} {a b : Snapshots FrozenFrames} {old_banks banks : BanksState} {old_age age frozen_age : ℕ} →
     b ≡ a → old_age ≤ age → q.geometry ≡ g → Renews p q → IsSoundFrames g age (frames_of q) →
     AreCounted g (objects_in q) banks → AreSoundTogether g p a old_banks old_age frozen_age → AreSoundTogether g q b banks age frozen_age
@@ -134,7 +134,7 @@ acts_sound {g} {p} {q} {a} {b} {old_banks} {banks} {old_age} {age} {frozen_age} 
 module _ {g : Geometry} {p : Parts} {a : Snapshots FrozenFrames} {banks : BanksState} {age frozen_age : ℕ}
     (s : AreSoundTogether g p a banks age frozen_age)
   where
-    -- all objects are frozen, at the next age
+    -- freezing all objects keeps the kernel sound, at the next age
     pub begun_sound : (q : Parts) (n : ℕ) → q.geometry ≡ p.geometry → frames_of q ≡ frames_of p → age < 2 ^ 62 →
         AreSoundTogether g q (freezing (all_frozen (frames_of p) n) a) banks (age + 1) (age + 1)
     begun_sound q n geometry frames young =
@@ -158,11 +158,11 @@ module _ {g : Geometry} {p : Parts} {a : Snapshots FrozenFrames} {banks : BanksS
             subst (IsSoundFrozen g a.saved.age (age + 1) (age + 1)) same (record
             { after = omega (arith, s.order); before = omega arith; sound = now })
 
-    -- no count fell since the freeze
+    -- no allocation count has fallen since the freeze
     risen_frozen : (f : FrozenFrames) → a.frozen ≡ Some f → (n : ℕ) → allocations_at f.frames n ≤ allocations_at (frames_of p) n
     risen_frozen f is n = subst (λ (fs : List Frame). allocations_at fs n ≤ allocations_at (frames_of p) n) (base_frozen a f is) (s.risen n)
 
-    -- more frozen frames are in the log
+    -- `stabilize` keeps the kernel sound
     pub stabilized_sound : (n : ℕ) (f : FrozenFrames) → a.frozen ≡ Some f → AreSoundTogether g p (stabilized n f a) banks age frozen_age
     stabilized_sound n f is = record {
       geometry = s.geometry;
@@ -182,7 +182,7 @@ module _ {g : Geometry} {p : Parts} {a : Snapshots FrozenFrames} {banks : BanksS
             let it : fs ≡ e = cc in
             subst (IsSoundFrozen g a.saved.age frozen_age age) it (record { after = was.after; before = was.before; sound = was.sound })
 
-    -- the frozen state is saved
+    -- the state that `commit` saves is sound
     pub next_sound : (f : FrozenFrames) → a.frozen ≡ Some f → IsSoundSaved g (next_saved whole frozen_age f a.saved)
     next_sound f is = record { geometry = s.saved.geometry; sound = (s.frozen f is).sound }
 
@@ -201,7 +201,7 @@ module _ {g : Geometry} {p : Parts} {a : Snapshots FrozenFrames} {banks : BanksS
         none : (e : FrozenFrames) → None ≡ Some e → IsSoundFrozen g frozen_age frozen_age age e
         none e same = cc
 
-    -- saved frames go home
+    -- the saved state stays sound when `migrate` brings its frames home
     home_or_not : (b : Bool) → IsSoundSaved g (if b then home_saved a.saved else a.saved)
     home_or_not b = search (arith, nat_tests)
 
@@ -221,7 +221,7 @@ module _ {g : Geometry} {p : Parts} {a : Snapshots FrozenFrames} {banks : BanksS
           risen = λ m. subst (λ (fs : List Frame). allocations_at fs m ≤ allocations_at (frames_of p) m) (sym (base_moved a n)) (s.risen m);
         }
 
--- the saved state after a migration is the machine's
+-- if the saved frames are moved home, so is the saved state; if not, it stays
 saved_if : (b : Bool) (fs : SavedFrames) → saved_of (if b then home_saved fs else fs) ≡ (if b then at_home (saved_of fs) else saved_of fs)
 saved_if b fs = search (arith, nat_tests)
 
@@ -229,7 +229,7 @@ pub saved_moved : (p : Parts) (a : Snapshots FrozenFrames) (age frozen_age n : �
     saved_of (moved_saved n a) ≡ moved (running_of p a age frozen_age) n
 saved_moved p a age frozen_age n = saved_if (a.to_move - n == 0) a.saved
 
--- ---- the checkpoint on its way
+-- ---- how many frozen frames are left
 
 pub frozen_some : (o : Option FrozenFrames) (f : FrozenFrames) (age : ℕ) → o ≡ Some f →
     frozen_of age o ≡ Some (record { world = world_at age f.frames; size = f.size; left = f.left })
@@ -238,7 +238,7 @@ frozen_some o f age is = ap (frozen_of age) is
 pub frozen_none : (o : Option FrozenFrames) (age : ℕ) → o ≡ None → frozen_of age o ≡ None
 frozen_none o age is = ap (frozen_of age) is
 
--- how many frames are left determines whether a checkpoint is frozen
+-- if no number of frames left is reported, no checkpoint is frozen
 pub none_there : (o : Option FrozenFrames) → option_map (λ (f : FrozenFrames). f.left) o ≡ None → o ≡ None
 none_there o reported = search (arith, nat_tests)
 

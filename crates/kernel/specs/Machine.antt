@@ -1,4 +1,4 @@
--- The machine of present frames, and the steps over them.
+-- The machine that present frames stand for, and the steps over them.
 use Rattle.kernel.specs.Names.{ℕ, Bool, Option, None, Some, List, true, false, Result, Ok, Err, Answer, Refusal}
 use Rattle.kernel.specs.Names.{Command, Invocation, Geometry, Object, ResultCode, IsSoundFrames, world_at, Frozen}
 use Rattle.kernel.specs.Names.{Saved, Machine, Up, renewing, Step, is_process, is_running_process, Parts, Renews}
@@ -19,11 +19,11 @@ machine_at age p renewed frozen saved to_move =
       to_move = to_move;
     })
 
--- a set of renewed numbers, with those added whose objects are rescinded from old to new
+-- the set of renewed numbers, with the numbers whose objects were rescinded between `old` and `new` added
 abbrev pub renewed_by : List Bool → Parts → Parts → List Bool
 renewed_by renewed old new = renewing renewed (objects_in old) (objects_in new)
 
--- the answer to a step: its own, or the refusal
+-- the answer in a result, or the refusal as an answer
 abbrev pub answer_of : Result Answer Refusal → Answer
 answer_of (Ok a) = a
 answer_of (Err why) = answer.Refused why
@@ -45,19 +45,19 @@ NeedsNoDeviceCall refusal.NoProcess = Unit {0}
 NeedsNoDeviceCall refusal.Down = Unit {0}
 NeedsNoDeviceCall _ = ⊥
 
--- the answer is such a refusal
+-- the answer is a refusal before any call of the device
 abbrev pub MakesNoDeviceCall : Answer → Type 0
 MakesNoDeviceCall (answer.Refused why) = NeedsNoDeviceCall why
 MakesNoDeviceCall _ = ⊥
 
--- the frames are sound at an age, in the same geometry, and allocation counts rise with each object that is freed
+-- the frames are sound at an age, the geometry is the same, and allocation counts rise with each object that is freed
 pub record StaysSound (old new : Parts) (age : ℕ) : Type 0 where
   pub renews : Renews old new
   pub sound : IsSoundFrames new.geometry age (frames_of new)
   pub geometry : new.geometry ≡ old.geometry
 
--- a command leads from old to new parts, and its answer is one of the machine's, whatever is renewed, frozen and saved.
--- If the device fails, the machine is down, and nothing is said of the parts
+-- a process performs a command: the step from old to new parts is one of the machine's, with any renewed numbers,
+-- frozen and saved state. If the answer is `Fault`, nothing is said of the parts
 pub record Performs (old_age : ℕ) (old : Parts) (c : Command) (a : Answer) (new_age : ℕ) (new : Parts) : Type 0 where
   pub step : (renewed : List Bool) (frozen : Option Frozen) (saved : Saved) (to_move : ℕ) →
       (a ≡ answer.Refused refusal.Fault → ⊥) →

@@ -1,4 +1,4 @@
--- The names of other crates that the definitions here cite.
+-- The names of other crates that the definitions here import.
 pub use Rattle.capability.specs.Parts.{Parts, Renews, frames_of, objects_in}
 pub use Rattle.checkpoint.specs.Opened.{OnlyReads}
 pub use Rattle.checkpoint.specs.Store.{View}

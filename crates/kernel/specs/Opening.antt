@@ -14,23 +14,23 @@ abbrev pub refused_by : OpenFault → Refusal
 refused_by fault.Failed = refusal.Fault
 refused_by _ = refusal.NoMemory
 
--- a crash leaves an image that denotes one of some saved states
+-- after a crash, the image on this device denotes one of some saved states
 abbrev pub IsSomeDown : {D : Type 0} → (D → Disk) → D → Type 0
 IsSomeDown disk d = (g : Geometry) × (saved : List Saved) × Leaves g (disk d) saved
 
--- the device failed or memory ran out; the image isn't bad
+-- the fault is a failed device or lack of memory: the image isn't bad
 abbrev pub IsNoReason : OpenFault → Type 0
 IsNoReason (fault.Bad reason) = ⊥
 IsNoReason _ = Unit {0}
 
--- a machine is up at a store that keeps to a setting
+-- a kernel is up, and its store has the setting
 abbrev pub IsSetAt : {D S T : Type 0} → (T → S → Type 0) → T → Power D S → Type 0
 IsSetAt is_set setting (power.Up l) = is_set setting l.store
 IsSetAt is_set setting _ = ⊥
 
 module _ {D S : Type 0} (disk : D → Disk) (view : S → View D) (parts : S → Parts) where
-  -- a device was opened, and nothing was written: the machine is up at the saved state that its sectors denote, and a
-  -- crash leaves what a read gives
+  -- a kernel opened a device and wrote nothing: it is up at the saved state that the image denotes, and a crash
+  -- leaves the same image
   pub record Opens (device : D) (p : Power D S) : Type 0 where
     pub geometry : Geometry
     pub saved : Saved
@@ -40,7 +40,7 @@ module _ {D S : Type 0} (disk : D → Disk) (view : S → View D) (parts : S →
     pub only_reads : OnlyReads (disk device) (disk_of disk view parts p)
     pub failures : (disk_of disk view parts p).failures ≡ (disk device).failures
 
-  -- a device was opened again, which denoted one of these saved states
+  -- a kernel opened its device again: this is a step of a machine that is down with these candidates
   pub record Reopened (g : Geometry) (saved : List Saved) (device : D) (a : Answer) (new : Power D S) : Type 0 where
     pub after : Machine
     pub step : Step g (Down saved) command.Restart a after

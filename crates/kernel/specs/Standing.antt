@@ -1,4 +1,4 @@
--- The machine that a kernel stands for, and how it serves a command.
+-- The machine that a kernel stands for, and what it means to serve a command.
 use Rattle.kernel.specs.Names.{ℕ, Option, None, Some, [], Answer, Command, Geometry, ResultCode, Machine, Running, Up}
 use Rattle.kernel.specs.Names.{Down, candidates, Step, second, Disk, Image, Parts, Checkpoint, View, Live, Leaves}
 use Rattle.kernel.specs.Names.{LeavesOne, IsUp, disk_at, running}
@@ -11,11 +11,11 @@ use Rattle.kernel.specs.Machine.{code_with}
 use Rattle.kernel.specs.Power.{Power}
 use Rattle.kernel.specs.Power as power
 
--- the disk of a kernel without a device
+-- an empty disk, for a kernel without a device
 abbrev pub nothing : Disk
 nothing = record { sectors = 0; seen = λ k. []; may_leave = λ c. ⊥; moment = 0; left_since = λ t c. ⊥; failures = 0 }
 
--- the result code that comes with an answer: of the order that an invocation carried out, else none
+-- the result code of the order that an invocation carried out; none for any other answer
 abbrev pub reported_code : Geometry → Machine → Command → Answer → Option ResultCode
 reported_code g (Up r) (command.Invoke i) a = code_with g r.now.objects i a
 reported_code g m c a = None
@@ -24,19 +24,19 @@ reported_code g m c a = None
 abbrev pub done_with : Option ResultCode → Served
 done_with code = record { answer = answer.Done; code = code }
 
--- the reported checkpoint is the committed one of a machine that is up; for one that is down, none is reported
+-- the reported checkpoint is the committed one of a machine that is up; for one that is down, nothing is reported
 abbrev pub IsCheckpointOf : Machine → Option Checkpoint → Type 0
 IsCheckpointOf (Up r) (Some c) = (c.generation ≡ r.saved.generation) × (c.age ≡ r.saved.world.age)
     × (c.entries ≡ r.saved.entries)
 IsCheckpointOf (Up r) None = ⊥
 IsCheckpointOf (Down saved) reported = reported ≡ None
 
--- a command is answered with `Fault` exactly if the count of failures rises
+-- the answer to a command is `Fault` exactly if the count of failures rises
 pub record IsCaused (old new : Disk) (a : Answer) : Type 0 where
   pub later : old.failures ≤ new.failures
   pub exact : (a ≡ answer.Refused refusal.Fault) ↔ (old.failures < new.failures)
 
--- two disks are the same
+-- all members of two disks are equal
 pub record IsSameDisk (one other : Disk) : Type 0 where
   pub sectors : one.sectors ≡ other.sectors
   pub seen : one.seen ≡ other.seen
@@ -45,10 +45,10 @@ pub record IsSameDisk (one other : Disk) : Type 0 where
   pub left_since : (t : ℕ) (c : Image) → one.left_since t c ↔ other.left_since t c
   pub failures : one.failures ≡ other.failures
 
--- The parameters are ghost members of a device and of an object store.
+-- The parameters: the ghost members of a device and of an object store.
 module _ {D S : Type 0} (disk : D → Disk) (view : S → View D) (parts : S → Parts) where
-  -- a command leads from one store to another, and its answer is one of the machine's, or the device failed; a crash at
-  -- any moment during it leaves an image that denotes the saved state, or what the command may save besides
+  -- a kernel that is up serves a command: if the device doesn't fail, by a step of the machine. After a crash at any
+  -- moment the image denotes the saved state, or the one that the command may save
   pub record ServesAt (g : Geometry) (old : Live S) (c : Command) (a : Answer) (new : Live S) : Type 0 where
     pub step : (a ≡ answer.Refused refusal.Fault → ⊥) →
         Step g (Up (running disk view parts old)) c a (Up (running disk view parts new))
@@ -72,7 +72,8 @@ module _ {D S : Type 0} (disk : D → Disk) (view : S → View D) (parts : S →
   IsDeviceOf (power.Down other) d = d ≡ other
   IsDeviceOf power.Between d = ⊥
 
-  -- a kernel stands for a machine of a geometry
+  -- in this geometry a kernel stands for this machine: both are up with the same state, or both are down and a crash
+  -- leaves one of the machine's candidates
   abbrev pub Stands : Geometry → Power D S → Machine → Type 0
   Stands g (power.Up l) (Up r) = IsUp disk view parts g l × (r ≡ running disk view parts l)
   Stands g (power.Up l) (Down saved) = ⊥
@@ -84,9 +85,8 @@ module _ {D S : Type 0} (disk : D → Disk) (view : S → View D) (parts : S →
   abbrev pub IsSomeMachine : Power D S → Type 0
   IsSomeMachine p = (g : Geometry) × (m : Machine) × Stands g p m
 
-  -- A command leads from a kernel that stands for m to one that stands for the machine after it, and its answer is one
-  -- of the machine's; a crash at any moment during it leaves an image that denotes a candidate of m, or what the
-  -- command may save besides.
+  -- A kernel that stands for m serves a command: m steps to a machine with this answer, and the new kernel stands for
+  -- it. After a crash at any moment the image denotes a candidate of m, or the state that the command may save.
   pub record ServesFrom (g : Geometry) (m : Machine) (old : Power D S) (c : Command) (a : Answer) (new : Power D S) :
       Type 0 where
     pub after : Machine
@@ -94,18 +94,18 @@ module _ {D S : Type 0} (disk : D → Disk) (view : S → View D) (parts : S →
     pub stands : Stands g new after
     pub leaves : LeavesOne g (disk_of old) (disk_of new) (candidates m ++ second m c)
 
-  -- the same, for each machine that the old kernel stands for
+  -- the kernel serves the command for each machine that the old kernel stands for
   abbrev pub Serves : Power D S → Command → Answer → Power D S → Type 0
   Serves old c a new = (g : Geometry) (m : Machine) → Stands g old m → ServesFrom g m old c a new
 
-  -- no call of the device beneath was made
+  -- the device beneath the kernel is unchanged: no call was made
   abbrev pub SameDevice : Power D S → Power D S → Type 0
   SameDevice (power.Up l) (power.Up k) = (view k.store).beneath ≡ (view l.store).beneath
   SameDevice (power.Down d) (power.Down e) = e ≡ d
   SameDevice power.Between power.Between = Unit {0}
   SameDevice _ _ = ⊥
 
-  -- the command is `migrate`, and the committed header has no entries
+  -- the command is `migrate`, and nothing is left to copy home: the committed header has no entries
   abbrev pub HasNoneToMove : Power D S → Command → Type 0
   HasNoneToMove p (command.Migrate n) = (g : Geometry) × (r : Running) × Stands g p (Up r) × (r.saved.entries ≡ 0)
   HasNoneToMove p c = ⊥

@@ -1,9 +1,9 @@
-// When the age can't rise any more.
+// The greatest age.
 ghost use Rattle.std.specs.Prelude.{◌≡◌, ◌<◌, ◌≤◌, ◌^◌, false, true};
 
 use model::MAX_AGE;
 
-/// Whether an age is the greatest. Then what would raise it is refused with `Worn`.
+/// Whether the age is the greatest. Then every command that would raise it is refused with `Worn`.
 #[inline(always)]
 pub fn is_worn(age: u64) -> bool
     ensures worn { result ≡ true → 2 ^ 62 ≤ age }

@@ -11,10 +11,10 @@ use device::Device;
 use model::{Answer, Refusal};
 use recovery::Live;
 
-/// Begins a checkpoint: all objects are frozen as they are, and the age rises by one.
+/// Begins a checkpoint: freezes all objects, and raises the age by one.
 ///
-/// It is refused by the first that applies: `Worn` at the greatest age, `CheckpointRunning` if a
-/// checkpoint is frozen already, and `MigrationPending` if the last one isn't home.
+/// Refused with the first that applies: `Worn` at the greatest age, `CheckpointRunning` if a
+/// checkpoint is frozen already, `MigrationPending` if the last one isn't home.
 #[inline(never)]
 pub fn checkpoint<D: Device, S: ObjectStore<D>>(live: &mut Live<S>) -> Result<Answer, Refusal>
     requires { IsSomeUp D.disk S.view S.parts live.old }
@@ -33,8 +33,8 @@ pub fn checkpoint<D: Device, S: ObjectStore<D>>(live: &mut Live<S>) -> Result<An
     Ok(Answer::Frozen(size))
 }
 
-/// Writes up to `count` frozen objects to the log. `NoCheckpoint` if there is no frozen state, and
-/// `Fault` if the device failed.
+/// Writes up to `count` frozen objects to the log. Refused with `NoCheckpoint` if nothing is
+/// frozen. `Fault` if the device failed.
 #[inline(never)]
 pub fn stabilize<D: Device, S: ObjectStore<D>>(
     live: &mut Live<S>,
@@ -51,9 +51,9 @@ pub fn stabilize<D: Device, S: ObjectStore<D>>(
     Ok(Answer::Left(left))
 }
 
-/// Makes the frozen state the saved one. It is refused by `NoCheckpoint` if none is frozen, and by
-/// `NotStable` while `stabilize` has yet to reach some of it. `Fault` if the device failed: then the
-/// saved state is either of the two.
+/// Makes the frozen state the saved one. Refused with `NoCheckpoint` if nothing is frozen, and with
+/// `NotStable` while frozen objects are pending. `Fault` if the device failed: then either state may
+/// be saved.
 #[inline(never)]
 pub fn commit<D: Device, S: ObjectStore<D>>(live: &mut Live<S>) -> Result<Answer, Refusal>
     requires { IsSomeUp D.disk S.view S.parts live.old }

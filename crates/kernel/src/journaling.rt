@@ -1,4 +1,4 @@
-// One page is saved beside the checkpoints. It takes no memory.
+// Saving one page without a checkpoint. It takes no memory.
 ghost use Rattle.std.specs.Prelude.{◌≡◌, ◌≢◌, IfOk};
 ghost use Rattle.model.specs.declared.command.Command.TheVariants as command;
 ghost use Rattle.kernel.specs.Machine.{MakesNoDeviceCall, answer_of};
@@ -11,14 +11,18 @@ use device::Device;
 use model::{Answer, Refusal};
 use recovery::Live;
 
-/// Saves the present words of a page without a checkpoint. All else that is saved of the page
-/// stays, and so do all other objects. The age rises by one.
+/// Saves the present words of a page without a checkpoint, and raises the age by one. The page's
+/// saved owner and counts stay, and so do all other saved objects.
 ///
-/// It is refused by the first that applies: `Worn` at the greatest age, `CheckpointRunning` if a
-/// checkpoint is frozen, `MigrationPending` if a saved object isn't home, `BadNumber` if no object
-/// has the number, and `NotJournaled`, with `NotPage` if the object isn't a page, else with `Renewed`
-/// if no page is saved at the number, or the saved one was freed since. `Fault` if the device failed:
-/// then the saved state is the old one, or that with the page.
+/// Refused with the first that applies:
+/// - `Worn`: the age is the greatest;
+/// - `CheckpointRunning`: a checkpoint is frozen;
+/// - `MigrationPending`: a saved object isn't home;
+/// - `BadNumber`: no object has the number;
+/// - `NotJournaled(NotPage)`: the object isn't a page;
+/// - `NotJournaled(Renewed)`: no page is saved at the number, or the saved one was freed since.
+///
+/// `Fault` if the device failed: then the old state may be saved, or the one with the page.
 #[inline(never)]
 pub fn journal<D: Device, S: ObjectStore<D>>(
     live: &mut Live<S>,

@@ -23,20 +23,20 @@ use recovery::{Live, recover, recover_in};
 use std::alloc::Global;
 use std::marker::Model;
 
-/// A persistent machine of objects over a device (EROS, KeyKOS): what processes do, the checkpoint
-/// of the whole machine, and what a restart or a power cut leaves of it.
+/// A persistent machine of objects over a device (EROS, KeyKOS). It carries out what processes do,
+/// checkpoints the whole machine, and recovers after a restart or a power cut.
 ///
-/// It is up at a store, or down after a failure of the device until it is opened again.
+/// It is up with a store. After a device failure it is down until the device is opened again.
 #[derive(Drop)]
 pub struct Kernel<D: Device, S: ObjectStore<D>> {
     // `None` while the machine is down.
     live: Option<Live<S>>,
-    // The device of a machine that is down.
+    // The device, while the machine is down.
     device: Option<D>,
-    // Memory that a closed store left for the next.
+    // Memory that a closed store left for the next one.
     memory: Option<S::Memory>,
     setting: S::Setting,
-    // For `Show`, `Restart` and `Cut`.
+    // For the commands that take memory: `Show`, `Restart` and `Cut`.
     alloc: Global,
 }
 
@@ -51,7 +51,8 @@ impl<D: Device, S: ObjectStore<D>> Model for Kernel<D, S> {
     ghost invariant = { λ k. IsSomeMachine D.disk S.view S.parts (power_of k.live k.device) };
 }
 
-// Takes the device out of the fields of a kernel, which keeps the memory of its store.
+// Takes the device from a kernel's fields, and closes the store. The store's memory stays in
+// `memory`.
 #[inline(never)]
 fn take_device<D: Device, S: ObjectStore<D>>(
     live: &mut Option<Live<S>>,
@@ -71,7 +72,7 @@ fn take_device<D: Device, S: ObjectStore<D>>(
     }
 }
 
-// Closes the store of a kernel after a failure of the device: the machine is down.
+// Closes the store after a device failure. Afterwards the machine is down.
 #[inline(never)]
 fn go_down<D: Device, S: ObjectStore<D>>(
     live: &mut Option<Live<S>>,
@@ -87,7 +88,7 @@ fn go_down<D: Device, S: ObjectStore<D>>(
     *device = Some(closed);
 }
 
-// The refusal if a device that a crash of a kernel left isn't opened.
+// Returns the refusal if a device can't be opened again.
 fn refusal(fault: OpenFault) -> Refusal
     requires { IsNoReason fault }
     ensures why { result ≡ refused_by fault }
@@ -100,7 +101,7 @@ fn refusal(fault: OpenFault) -> Refusal
     }
 }
 
-// Opens a device that a crash of a kernel left. After a refusal the machine is down.
+// Opens a device again, and returns the answer. After a refusal the machine is down.
 fn rise<D: Device, S: ObjectStore<D>>(
     alloc: Global,
     opened: D,
@@ -138,12 +139,12 @@ fn rise<D: Device, S: ObjectStore<D>>(
 }
 
 impl<D: Device, S: ObjectStore<D>> Kernel<D, S> {
-    /// Opens a device, and writes nothing to it: the machine is up at the saved state that its
-    /// sectors denote.
+    /// Opens a device without writing to it. The machine is up at the saved state that its sectors
+    /// denote.
     ///
-    /// A refusal gives the device back: `Failed` exactly if the device failed, `NoMemory` only
-    /// where memory ran out, and else the least of the ten reasons to refuse an image. What a crash
-    /// of a kernel leaves is refused for none of them.
+    /// A refusal gives the device back: `Failed` exactly if the device failed, `NoMemory` only if
+    /// memory ran out, else the least of the ten reasons to refuse an image. No reason applies to
+    /// an image that a crash of a kernel left.
     #[tactic(auto, using(crate::proofs::Machines::opens_up))]
     pub fn open(alloc: Global, device: D, setting: S::Setting) -> Result<Self, OpenRefused<D>>
         ensures opened { IfOk result (λ k. Opens D.disk S.view S.parts device k) }
@@ -162,7 +163,7 @@ impl<D: Device, S: ObjectStore<D>> Kernel<D, S> {
         }
     }
 
-    // Serves a command that isn't an invocation and doesn't open the device. After a failure the
+    // Serves a command that neither invokes nor opens the device. After a device failure the
     // machine is down.
     fn go_on(&mut self, command: Command) -> Answer
         requires goes_on { opens command ≡ false }
@@ -190,7 +191,7 @@ impl<D: Device, S: ObjectStore<D>> Kernel<D, S> {
         }
     }
 
-    // Carries out an invocation. After a failure the machine is down.
+    // Carries out an invocation. After a device failure the machine is down.
     fn invoke(&mut self, invocation: &Invocation) -> Result<Option<ResultCode>, Refusal>
         ensures serves { Serves D.disk S.view S.parts self.old (Invoke invocation.now) (answer_with result) self.new }
         ensures untouched { MakesNoDeviceCall (answer_with result)
@@ -254,18 +255,20 @@ impl<D: Device, S: ObjectStore<D>> Kernel<D, S> {
         )
     }
 
-    /// Serves one command, as the machine does.
+    /// Serves one command, and returns its answer.
     ///
-    /// A refusal changes nothing, but `Fault`, and `NoMemory` at `Restart` or `Cut`, leave the machine
-    /// down. If several refusals apply, the answer is the first (see `Refusal`). Only `Show`, `Restart`
-    /// and `Cut` may be answered `NoMemory`: no other command takes memory. `Fault` is answered exactly
-    /// if the device failed. A machine that is down takes only `Restart` and `Cut`. `BadNumber`,
-    /// `NoProcess` and `Down` make no call of the device, and neither does `Migrate` if everything saved
-    /// is home.
+    /// - A refusal changes nothing, with two exceptions that leave the machine down: `Fault`, and
+    ///   `NoMemory` at `Restart` or `Cut`.
+    /// - If several refusals apply, the answer is the first (see `Refusal`).
+    /// - `Fault` is answered exactly if the device failed. `NoMemory` is answered only to `Show`,
+    ///   `Restart` and `Cut`: no other command takes memory.
+    /// - A machine that is down accepts only `Restart` and `Cut`.
+    /// - `BadNumber`, `NoProcess` and `Down` make no device call, nor does `Migrate` if everything saved
+    ///   is home.
     ///
-    /// A crash at any moment leaves the saved state, or a candidate if the machine is down. In a `Commit`,
-    /// a `Journal`, or the `Migrate` that brings the last object home, it may leave the state that this
-    /// command saves.
+    /// After a crash at any moment the image denotes the saved state, or a candidate if the machine is
+    /// down. During a `Commit`, a `Journal`, or the `Migrate` that brings the last object home, it may
+    /// denote the state that this command saves.
     pub fn step(&mut self, command: Command) -> Answer
         ensures serves { Serves D.disk S.view S.parts self.old command result self.new }
         ensures untouched { MakesNoDeviceCall result
@@ -279,8 +282,8 @@ impl<D: Device, S: ObjectStore<D>> Kernel<D, S> {
         self.step_with_code(&command).answer
     }
 
-    /// Serves one command, as `step` does, and returns the result code too. The code is that of the
-    /// order if the command invoked a kernel object and the answer is `Done`, and else `None`.
+    /// Serves one command as `step` does, and returns the result code too. The code is `None`
+    /// unless an invocation of a kernel object was carried out.
     pub fn step_with_code(&mut self, command: &Command) -> Served
         ensures serves { Serves D.disk S.view S.parts self.old command.now result.answer self.new }
         ensures untouched { MakesNoDeviceCall result.answer
@@ -292,7 +295,7 @@ impl<D: Device, S: ObjectStore<D>> Kernel<D, S> {
         ensures code { HasCode D.disk S.view S.parts self.old command.now result }
         ensures memory { result.answer ≡ Answer.Refused Refusal.NoMemory → takes_memory command.now ≡ true }
     {
-        // The proof of `memory` needs the invariant.
+        // This borrow gives the proof of `memory` the invariant.
         let _ = &self.live;
         match command {
             Command::Invoke(invocation) => match self.invoke(invocation) {
@@ -308,7 +311,8 @@ impl<D: Device, S: ObjectStore<D>> Kernel<D, S> {
         }
     }
 
-    /// Generation, age and entries of the committed checkpoint, where the machine is up.
+    /// Returns the generation, age and entries of the committed checkpoint, or `None` if the
+    /// machine is down.
     pub fn saved(&self) -> Option<Checkpoint>
         ensures { IsReported D.disk S.view S.parts self.now result }
     {
@@ -318,7 +322,7 @@ impl<D: Device, S: ObjectStore<D>> Kernel<D, S> {
         }
     }
 
-    /// The device beneath, on which no call is made.
+    /// Returns the device beneath. Makes no device call.
     pub fn device(&self) -> &D
         ensures is { IsDeviceOf D.disk S.view S.parts self.now result.now }
         ensures beneath { IsSameDisk (D.disk result.now) (disk_of D.disk S.view S.parts self.now) }
@@ -332,7 +336,7 @@ impl<D: Device, S: ObjectStore<D>> Kernel<D, S> {
         }
     }
 
-    /// Gives the device back, and makes no call of it.
+    /// Returns the device beneath, and drops the rest. Makes no device call.
     pub fn into_device(self) -> D
         ensures is { IsDeviceOf D.disk S.view S.parts self result }
         ensures beneath { IsSameDisk (D.disk result) (disk_of D.disk S.view S.parts self) }

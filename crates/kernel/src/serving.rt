@@ -1,4 +1,4 @@
-// What a machine that is up serves.
+// The commands of a machine that is up.
 ghost use Rattle.std.specs.Prelude.{◌≡◌, ◌≢◌, false, IfOk};
 ghost use Rattle.model.specs.declared.command.Command.TheVariants as command;
 ghost use Rattle.model.specs.declared.command.Command.TheVariants.{Invoke};
@@ -16,8 +16,8 @@ use model::{Answer, Command, Invocation, Refusal, ResultCode};
 use recovery::Live;
 use std::alloc::Global;
 
-// Evicts an object from memory. It is refused by `BadNumber` if no object has the number, and makes
-// no call of the device then.
+// Evicts an object from memory. Refused with `BadNumber` if no object has the number; this makes no
+// device call.
 #[inline(never)]
 fn evict<D: Device, S: ObjectStore<D>>(live: &mut Live<S>, number: u64) -> Result<Answer, Refusal>
     requires { IsSomeUp D.disk S.view S.parts live.old }
@@ -35,8 +35,8 @@ fn evict<D: Device, S: ObjectStore<D>>(live: &mut Live<S>, number: u64) -> Resul
     Ok(Answer::Done)
 }
 
-/// Serves a command that isn't an invocation and doesn't open the device, by a store that is up. Only
-/// `Show` takes memory. `Fault` exactly if the device failed.
+/// Serves a command that neither invokes nor opens the device, over the store of a machine that is
+/// up. Only `Show` takes memory. `Fault` exactly if the device failed.
 #[tactic(auto, using(crate::proofs::Acts::caused))]
 #[inline(always)]
 pub fn serve<D: Device, S: ObjectStore<D>>(
@@ -75,7 +75,7 @@ pub fn serve<D: Device, S: ObjectStore<D>>(
     }
 }
 
-/// Carries out an invocation, by a store that is up.
+/// Carries out an invocation, over the store of a machine that is up.
 #[tactic(auto, using(crate::proofs::Acts::caused))]
 pub fn invoke<D: Device, S: ObjectStore<D>>(
     live: &mut Live<S>,

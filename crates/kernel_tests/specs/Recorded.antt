@@ -1,11 +1,11 @@
--- The calls of a recorded file.
+-- The calls on a recorded file.
 use Rattle.std.specs.Prelude.{List, map, Option, Some}
 use Rattle.devices.specs.OpeningCalls.{OpeningCall, opened, locked, synced, measured, got, resized, listed}
 use Rattle.kernel_tests.specs.declared.recorded.Made.{Made}
 use Rattle.kernel_tests.specs.declared.recorded.Made.TheVariants.{Opened, Locked, Synced, Measured, Got, Resized}
 use Rattle.kernel_tests.specs.declared.recorded.Made.TheVariants.{Listed}
 
--- a call that was recorded
+-- a recorded call, as the definitions of `devices` have it
 abbrev pub call_of : Made → OpeningCall
 call_of (Opened path access) = opened path.items access
 call_of (Locked lock answer) = locked lock answer

@@ -9,8 +9,8 @@ const PRIME: &str = "bank = [{ number = 0, owner = 0, limit = 1 }]";
 
 const SECOND: &str = "layout = 2\nbank = [{ number = 0, owner = 0, limit = 1 }]";
 
-// Returns the number of the fault of a description of 16 nodes, or 0 if its image is built. `rest` is the end of the
-// description's text.
+// Builds the image of a description of 16 nodes whose text ends with `rest`. Returns the number of the fault, or 0
+// if there is none.
 fn fault<D: Device>(alloc: Global, rest: &str, device: &mut D) -> Result<u64, Fail> {
     let mut text = String::new(alloc);
     text.push_str("nodes = 16\npages = 8\nlog = 16\n")?;
@@ -49,8 +49,8 @@ fn a_small_device_is_reported_last(rt: HostRuntime) -> Result<(), Fail> {
     Ok(())
 }
 
-// A build makes a sync and 4 reads that find the gates closed, 3 writes for the front of the image, and 2 more syncs.
-// It writes the frames in 24 writes; in version 2, with 4 clusters, in 12.
+// A build syncs once, reads 4 times and finds the gates closed, writes the front of the image in 3 writes, and syncs
+// twice more. It writes the frames in 24 writes; in version 2, with 4 clusters, in 12.
 #[test]
 fn a_device_that_stops_is_reported(rt: HostRuntime) -> Result<(), Fail> {
     for (rest, needed) in [(PRIME, 34), (SECOND, 22)] {

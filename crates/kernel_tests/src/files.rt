@@ -79,7 +79,7 @@ fn holds_some<D: Device>(rt: &impl Abort, device: &mut D) -> Result<(), Fail> {
     holds(rt, device, 3, 9)
 }
 
-// Writes some sectors, and cuts the power: a device in a file keeps all bytes.
+// Asserts that a device in a file keeps all sectors that were written when the power is cut.
 fn write_some<D: Device>(rt: &impl Abort, opened: Opened<D>) -> Result<(), Fail> {
     let mut device = opened?;
     assert_eq!(rt; device.sectors(), 4);
@@ -182,7 +182,8 @@ fn of_a_long_file_the_first_sectors_are_opened(rt: HostRuntime) -> Result<(), Fa
     Ok(())
 }
 
-// Asserts that in a file that can't be written the first write fails, and then each call but reads.
+// Asserts that a file without write permission can be read, and that the first write fails and then
+// every call but reads.
 fn fails<D: Device>(rt: &impl Abort, opened: Opened<D>) -> Result<(), Fail> {
     let mut device = opened?;
     assert_eq!(rt; device.sectors(), 2);

@@ -1,6 +1,7 @@
-//! Tests for what scripts over images in files can't show: devices in files and in memory; readers and writers that
-//! pass few bytes at a time, are interrupted or fail; and builds on devices in memory that are too small or stop.
-//! `checks/stops` tries runs over devices that stop or lose power, and the rows of checks/rows try all else.
+//! Tests of what scripts over images in files can't show: devices in files and in memory; readers and writers that
+//! pass few bytes at a time, are interrupted or fail; builds on devices in memory that are too small or stop.
+//! `checks/stops` tests runs over devices that stop or lose power, and the rows of checks/rows test everything
+//! else.
 #![tactic(auto)]
 
 #[cfg(test)]

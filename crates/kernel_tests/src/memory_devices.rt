@@ -6,8 +6,8 @@ use devices::{Fuse, Memory, Outcome};
 use std::process::Abort;
 use std::test::Fail;
 
-// The number of calls after which a device stops, and the bytes of its four sectors after a power cut: one that keeps
-// each write, one that drops those that weren't synced, and one that fills their sectors with 9.
+// The number of calls after which a device stops, and the bytes of its four sectors after a power cut: if unsynced
+// writes are kept, if they are dropped, and if their sectors are filled with 9.
 struct Stop {
     calls: u64,
     kept: [u8; 4],
@@ -61,8 +61,8 @@ fn two(first: u8, second: u8) -> [u8; 1024] {
     bytes
 }
 
-// Writes 1 and 2 into the first two sectors and syncs, writes 3 and 4 into the middle two and syncs, then reads one.
-// Returns which of these calls succeeded.
+// Writes 1 and 2 into the first two sectors and syncs, writes 3 and 4 into the middle two and syncs, then reads a
+// sector. Returns which of these calls succeeded.
 fn called<D: Device>(device: &mut D) -> [bool; 5]
     requires { 4 ≤ (D.disk device.old).sectors }
     ensures { (D.disk device.new).sectors ≡ (D.disk device.old).sectors }

@@ -8,7 +8,7 @@ use std::test::Fail;
 
 type Device = CopiedFile<HostFile<Recorded>>;
 
-// The calls that open or make a device, by access to its file.
+// The calls that open or make a device, for each kind of access to its file.
 const OPENINGS: &[(Access, &[&str])] = &[
     (
         Access::Write,

@@ -1,4 +1,4 @@
-// Runs of scripts that come in pieces, or whose reader is interrupted or fails.
+// Scripts that are read in pieces, or whose reader is interrupted or fails.
 use crate::worlds::{FIRST_WORLD, SECOND_WORLD, device_of, run_over};
 use device::Device;
 use runs::ScriptReader;
@@ -9,14 +9,14 @@ use std::io::{ErrorKind, Read};
 use std::process::Abort;
 use std::test::Fail;
 
-// How many bytes each read of a run asks for.
+// How many bytes each read of a run requests.
 const READ_SIZE: usize = 4096;
 
 const WIDTHS: [usize; 4] = [1, 7, 4095, 4096];
 
-// A reader of some bytes, `width` at a time. If `interrupts`, an interrupted read comes before each piece. If
-// `fails`, the read after the last piece fails. It records whether a read asked for another number of bytes than
-// `READ_SIZE`.
+// A reader that returns `width` bytes at a time. If `interrupts`, an interrupted read comes before each piece.
+// If `fails`, the read after the last piece fails. It records whether a read requested another number of bytes
+// than `READ_SIZE`.
 #[derive(Drop)]
 struct Pieces<'a> {
     rest: &'a [u8],
@@ -44,8 +44,8 @@ impl Read for Pieces<'_> {
     }
 }
 
-// Runs the script of a reader over a device. Checks the answers, how the run ends, and how many bytes each read asked
-// for.
+// Runs the script of a reader over a device. Asserts the answers, how the run ends, and how many bytes each read
+// requested.
 fn is_answered<D: Device>(
     rt: &(impl Abort + AllocGlobal),
     device: D,
@@ -65,7 +65,8 @@ fn is_answered<D: Device>(
     Ok(())
 }
 
-// Checks the answers to a script over a world, in pieces of each width, with and without interruptions.
+// Asserts the answers to a script over a world. The script is read in pieces of each width, with and
+// without interruptions.
 fn is_answered_in_pieces(
     rt: &(impl Abort + AllocGlobal),
     world: &str,
@@ -112,8 +113,8 @@ struct Row {
 
 const SHOWN: &[u8] = b"node 5 owner 0\nend\n";
 
-// These rows have long lines, and repeated lines that end anywhere in a piece. A line that is cut off by a failure
-// isn't answered.
+// These rows have long lines, and lines that are repeated so that they end anywhere in a piece. A line that a
+// failure cuts off isn't answered.
 const ROWS: &[Row] = &[
     Row {
         world: FIRST_WORLD,

@@ -1,4 +1,4 @@
-// A file of the system whose calls are recorded.
+// A file of the system with a record of its calls.
 ghost use Rattle.std.specs.Prelude.{◌≡◌, [], ◌∷◌, ◌++◌, Some, OnOk, OnErr};
 ghost use Rattle.kernel_tests.specs.Recorded.{calls_of};
 
@@ -12,11 +12,11 @@ use std::io::{self, ErrorKind};
 pub enum Made {
     /// This path was opened.
     Opened(Vec<u8>, Access),
-    /// A lock was asked for.
+    /// This lock was requested, with this answer.
     Locked(Lock, LockAnswer),
     /// The file was synced.
     Synced,
-    /// The length was asked for.
+    /// The length was read.
     Measured(u64),
     /// These bytes were read from this offset on.
     Got(u64, Vec<u8>),

@@ -1,4 +1,4 @@
--- A text with names, byte by byte.
+-- Adding names to a text, byte by byte.
 use Rattle.std.proofs.Common.{◌≡◌, ◌+◌, ◌<◌, ◌≤◌, ◌∷◌, ◌++◌, ◌∙◌, ℕ, List, [], ap, drop, get_or, length, sym, take}
 use Rattle.std.proofs.lemmas.List.{append_assoc}
 use Rattle.std.specs.Borrow.{Bor}

@@ -1,4 +1,4 @@
--- Where the last bytes of a text that pass a test begin.
+-- Where the last bytes that pass a test begin in a text.
 use Rattle.std.proofs.Common.{◌≡◌, ◌+◌, ◌-◌, ◌==◌, ◌<◌, ◌≤◌, ℕ, Bool, List, arith, ap, false, get_or, length, not, take, true}
 use Rattle.std.proofs.lemmas.Bool.Decides.{nat_tests}
 use Rattle.std.proofs.lemmas.List.{take_all}
@@ -8,7 +8,7 @@ use Rattle.std.specs.List.{suffix_len}
 use Rattle.names.specs.Output.{is_in_line}
 
 module _ (p : ℕ → Bool) (text : List ℕ) where
-  -- the digits after the first n bytes, which may continue digits that end these
+  -- all bytes after the first n pass the test: the passing bytes at the end are these, and those at the end of the first n
   abbrev pub FollowFrom : ℕ → Type 0
   FollowFrom n = (n ≤ length text) × (suffix_len p text ≡ (length text - n) + suffix_len p (take n text))
 

@@ -1,4 +1,4 @@
--- Numbers in values.
+-- Which values are numbers.
 use Rattle.std.proofs.Common.{◌≡◌, ◌≢◌, ◌==◌, ◌<◌, ◌^◌, ◌∷◌, ◌++◌, ◌∙◌, ℕ, ℤ, Some, None, List, [], ap, arith, false, map, pos, refl, subst, sym, true}
 use Rattle.std.proofs.lemmas.Bool.{true≢false}
 use Rattle.std.proofs.lemmas.List.{append-nil, append_assoc, map-append}
@@ -34,7 +34,7 @@ pub added : (key : List ℕ) (d : Data) (old new : List Name) (n : Name) → new
     is_name key ≡ true → n.number < 2 ^ 63 → d ≡ integer (pos n.number) → has n.number old ≡ false → Adds key d old new
 added key d old new n is text one small number none = (n, is, record { text = text; is_one = one; small = small; number = number }, none)
 
--- Reading a table, member by member.
+-- ---- reading a table of names, member by member
 
 first_same : (a b : ℕ) (ks ls : List ℕ) → a ∷ ks ≡ b ∷ ls → a ≡ b
 first_same a b ks ls same = cc
@@ -45,7 +45,7 @@ rest_same a b ks ls same = cc
 abbrev pub numbers : List Name → List ℕ
 numbers ns = map (λ n. n.number) ns
 
--- a number without a name among some names isn't that of any
+-- a number that none of these names has differs from each of their numbers
 apart : (ns : List Name) (xs ks : List ℕ) (k n : ℕ) → has n ns ≡ false → numbers ns ≡ xs ++ k ∷ ks → (k == n) ≡ false
 apart [] [] ks k n none same = let bad : [] ≡ k ∷ ks = same in cc
 apart [] (x ∷ xs) ks k n none same = let bad : [] ≡ x ∷ (xs ++ k ∷ ks) = same in cc
@@ -55,7 +55,7 @@ apart (a ∷ ns) (x ∷ xs) ks k n none same =
     let e : numbers ns ≡ xs ++ k ∷ ks = rest_same a.number x (numbers ns) (xs ++ k ∷ ks) same in
     let f : has n ns ≡ false = grind (arith, nat_tests) in apart ns xs ks k n f e
 
--- if all numbers occur once, the next number isn't among the earlier ones
+-- if every number occurs once, the next number isn't among the earlier ones
 once_apart : (all : List Name) (old : List Name) (ks : List ℕ) (k : ℕ) → AreOnce all →
     numbers all ≡ numbers old ++ k ∷ ks → has k old ≡ false
 once_apart all [] ks k once same = refl
@@ -75,7 +75,7 @@ once_more (m ∷ ns) n once none =
     let other : has m.number (ns ++ n ∷ []) ≡ false = grind (arith, nat_tests, list_any-append) in
     (other, once_more ns n once.1 rest)
 
--- the members before the rest have these names
+-- the members already read have these names, and each number occurs once
 pub record IsReadTo (rest whole : Members) (ns : List Name) : Type 0 where
   pub forward : (more : List Name) → AreNamed rest more → AreNamed whole (ns ++ more)
   pub backward : (all : List Name) → AreNamed whole all →
@@ -91,7 +91,7 @@ same_integer m n same = cc
 same_number : (key : List ℕ) (d : Data) (m n : Name) → IsNamed key d m → IsNamed key d n → m.number ≡ n.number
 same_number key d m n one other = same_integer m.number n.number (sym one.number ∙ other.number)
 
--- the name of the first member of the rest, and the names after it
+-- the first member of the rest has a name, and more names follow
 record HasFirst (key : List ℕ) (d : Data) (rest : Members) (ns all : List Name) : Type 0 where
   first : Name
   more : List Name
@@ -132,7 +132,7 @@ more_read key d rest whole old new so_far (n, is, named, none) = subst (IsReadTo
 pub all_read : (whole : Members) (ns : List Name) → IsReadTo no_members whole ns → AreNamesOf whole ns
 all_read whole ns so_far = (subst (AreNamed whole) (append-nil ns) (so_far.forward [] tt), so_far.once)
 
--- a member that can't be added has no name
+-- if a member can't be added, the table isn't a list of names
 pub not_read : (key : List ℕ) (d : Data) (rest whole : Members) (old : List Name) (why : NamesFault) →
     IsReadTo (member key d rest) whole old → CannotAdd key d old why → IsRefused whole why
 not_read key d rest whole old fault.NoMemory so_far cannot = tt
@@ -146,7 +146,7 @@ not_read key d rest whole old (fault.Twice word) so_far (n, is_n, twice) = λ ns
     let none : has it.first.number old ≡ false = once_apart ns old (numbers it.more) it.first.number are.1 it.numbers_are in
     true≢false (sym twice ∙ (sym (ap (λ (j : ℕ). has j old) same) ∙ none)))
 
--- The same for the entries that an iterator has left.
+-- ---- the same for the iterator over a table
 
 pub read_more : (before rest : List (String Global × Value)) (key : String Global) (value : Value) (whole : Members) (old new : List Name) →
     before ≡ (key, value) ∷ rest → IsReadTo (members_view before) whole old → Adds (string_bytes key) (view value) old new →

@@ -1,4 +1,4 @@
--- Why a table has no names.
+-- Why no names are read from a table.
 use Rattle.std.specs.Prelude.{◌≡◌, ◌≢◌, ◌<◌, ◌^◌, ◌∷◌, ◌++◌, ℕ, List, [], false, true, pos}
 use Rattle.names.specs.Table.{AreNamesOf, IsNamed, has, is_name}
 use Rattle.names.specs.declared.name.Name.{Name}
@@ -6,7 +6,7 @@ use Rattle.names.specs.declared.table.NamesFault.{NamesFault}
 use Rattle.names.specs.declared.table.NamesFault.TheVariants as fault
 use Rattle.toml.specs.Data.{Data, Members, integer}
 
--- why a table is refused: memory ran out, or its members are no names
+-- why reading a table fails: memory ran out, or the table isn't a list of names
 abbrev pub IsRefused : Members → NamesFault → Type 0
 IsRefused ms fault.NoMemory = Unit {0}
 IsRefused ms _ = (ns : List Name) → AreNamesOf ms ns → ⊥

@@ -10,19 +10,19 @@ use Rattle.names.specs.declared.name.Name.{Name}
 abbrev pub is_name_byte : ℕ → Bool
 is_name_byte b = is_ascii_alphanumeric b || (b == 95) || (b == 45)
 
--- letters, digits, `_` and `-`, with a letter first
+-- a letter, then letters, digits, `_` and `-`
 abbrev pub is_name : List ℕ → Bool
 is_name [] = false
 is_name (b ∷ bs) = is_ascii_alphabetic b && list_all is_name_byte bs
 
--- this key is the name, and its value is the number
+-- the key is the text of a name, and the value its number
 pub record IsNamed (key : List ℕ) (d : Data) (n : Name) : Type 0 where
   pub text : string_bytes n.text ≡ key
   pub is_one : is_name key ≡ true
   pub small : n.number < 2 ^ 63
   pub number : d ≡ integer (pos n.number)
 
--- each member is a name and its number
+-- each member is a name with its number
 abbrev pub AreNamed : Members → List Name → Type 0
 AreNamed no_members [] = Unit {0}
 AreNamed (member key d ms) (n ∷ ns) = IsNamed key d n × AreNamed ms ns
@@ -37,15 +37,15 @@ abbrev pub AreOnce : List Name → Type 0
 AreOnce [] = Unit {0}
 AreOnce (n ∷ ns) = (has n.number ns ≡ false) × AreOnce ns
 
--- the names of a table: each number has at most one
+-- the members are these names, and no number has two
 abbrev pub AreNamesOf : Members → List Name → Type 0
 AreNamesOf ms ns = AreNamed ms ns × AreOnce ns
 
--- whether these digits write the number n
+-- whether these digits are the decimal text of n
 abbrev pub writes : ℕ → List ℕ → Bool
 writes n digits = bytes_eq (decimal n) digits
 
--- the name of the number that these digits write
+-- the name of the number that has these digits
 abbrev pub name_at : List Name → List ℕ → Option (List ℕ)
 name_at names digits = option_map (λ n. string_bytes n.text) (find (λ n. writes n.number digits) names)
 

@@ -1,4 +1,5 @@
-//! Names that a person gives to the objects of an image: a table of names by number, and adding names to texts.
+//! Names that a person gives to the objects of an image: a table from numbers to names, and adding names to
+//! texts.
 #![tactic(auto)]
 
 mod lines;

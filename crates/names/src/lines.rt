@@ -14,12 +14,12 @@ pub struct NamedLines {
     names: Names,
     // The words that come before the number of an object.
     kinds: &'static [&'static [u8]],
-    // The beginning of a line whose end hasn't come yet.
+    // The beginning of a line whose newline hasn't come yet.
     line: Vec<u8>,
     alloc: Global,
 }
 
-// Returns where the last newline of a text ends, or 0.
+// Returns the index after the last newline of a text, or 0 if there is none.
 #[tactic(auto, using(crate::proofs::Suffixes::one_in_line, crate::proofs::Suffixes::no_more_in_line, crate::proofs::Suffixes::none_left))]
 fn lines_end(text: &[u8]) -> usize
     ensures end { result ≡ lines_end text.now }
@@ -33,7 +33,7 @@ fn lines_end(text: &[u8]) -> usize
 }
 
 impl NamedLines {
-    /// Returns a value in which no line has begun. A number is an object's if it follows one of the words `kinds`.
+    /// Returns a value that has no text yet. A number is an object's if it follows one of the words `kinds`.
     pub fn new(alloc: Global, names: Names, kinds: &'static [&'static [u8]]) -> NamedLines
         ensures names { result.names ≡ names }
         ensures kinds { result.kinds.now ≡ kinds.now }

@@ -7,7 +7,7 @@ ghost use Rattle.names.specs.Table as table;
 #[derive(Drop)]
 pub struct Name {
     pub number: u64,
-    /// Letters, digits, `_` and `-`, with a letter first.
+    /// A letter, then letters, digits, `_` and `-`.
     pub text: String,
 }
 
@@ -25,7 +25,7 @@ fn are_name_bytes(bytes: &[u8]) -> bool
     bytes.iter().all(|byte| is_name_byte(*byte))
 }
 
-/// Whether a text is a name: letters, digits, `_` and `-`, with a letter first.
+/// Whether a text is a name: a letter, then letters, digits, `_` and `-`.
 pub fn is_name(text: &[u8]) -> bool
     ensures { result ≡ table.is_name text.now }
 {

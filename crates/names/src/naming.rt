@@ -8,7 +8,7 @@ ghost use Rattle.names.specs.Texts as texts;
 use crate::table::Names;
 use std::alloc::{AllocError, Global};
 
-/// The words that come before the number of an object in answers and explanations.
+/// The words before an object's number in answers and explanations.
 pub const TOLD: &[&[u8]] = &[
     b"page ",
     b"node ",
@@ -21,10 +21,10 @@ pub const TOLD: &[&[u8]] = &[
     b"resume ",
 ];
 
-/// The words that come before the number of an object in a graph.
+/// The words before an object's number in a graph.
 pub const DRAWN: &[&[u8]] = &[b"page ", b"node ", b"process ", b"annex ", b"bank "];
 
-// Where the digits at the end of a text begin.
+// Returns the index at which the digits at the end of a text begin.
 #[tactic(auto, using(crate::proofs::Suffixes::one_more, crate::proofs::Suffixes::no_more, crate::proofs::Suffixes::none_left))]
 fn digits_start(text: &[u8]) -> usize
     ensures start { result ≡ texts.digits_start text.now }
@@ -63,7 +63,8 @@ fn push_suffix(named: &mut Vec<u8>, name: &str) -> Result<(), AllocError>
     named.extend_from_slice(b")")
 }
 
-// Returns the name of the object whose number ends `before`, or `None`. `after` is the rest of the text.
+// Returns the name to add between `before` and `after`, two parts of a text: that of the object whose
+// number ends `before`. Returns `None` if there is none.
 fn name_behind<'n>(
     names: &'n Names,
     kinds: &[&[u8]],
@@ -83,7 +84,7 @@ fn name_behind<'n>(
     names.name_of(digits)
 }
 
-// Appends the name of the object whose number ends `before`, if it has one. `after` is the rest of the text.
+// Appends the name to add between `before` and `after`, two parts of a text, if there is one.
 fn push_behind(
     names: &Names,
     kinds: &[&[u8]],
@@ -100,8 +101,8 @@ fn push_behind(
     }
 }
 
-/// Returns a text with the name of each object after its number. A number is an object's if it follows one of the
-/// words `kinds`. Fails only if memory runs out.
+/// Returns a text with the name of each object added after its number. A number is an object's if it follows one
+/// of the words `kinds`. Fails only if memory runs out.
 pub fn name_objects(
     alloc: Global,
     names: &Names,

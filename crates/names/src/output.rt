@@ -14,12 +14,12 @@ use script::{Output, RunFault};
 pub struct NamedOutput<W> {
     inner: W,
     lines: Option<NamedLines>,
-    // How many calls failed because memory ran out; failures of `inner` aren't counted here.
+    // How many calls failed because memory ran out. The failures of `inner` aren't included.
     failures: Tally,
 }
 
 impl<W: Output> NamedOutput<W> {
-    /// Returns a writer to `inner`, none of whose calls has failed yet.
+    /// Returns a writer to `inner` whose count of failures is 0.
     pub fn new(inner: W, lines: Option<NamedLines>) -> NamedOutput<W>
         ensures inner { inner_output result ≡ inner }
         ensures lines { lines_in result ≡ lines }

@@ -31,7 +31,7 @@ pub enum NamesFault<'t> {
     Twice(&'t str),
 }
 
-// Returns the number in a value, or `None` if it isn't an integer or is negative.
+// Returns a value as a number, or `None` if it isn't an integer or is negative.
 #[tactic(auto, using(crate::proofs::Tables::natural, crate::proofs::Tables::negative, crate::proofs::Tables::no_integer))]
 fn number_in(value: &Value) -> Option<u64>
     ensures { MatchOption result ((n : ℕ) → n < 2 ^ 63 → view value.now ≢ integer (pos n))
@@ -64,7 +64,7 @@ fn writes(number: u64, digits: &[u8]) -> bool
 }
 
 impl Names {
-    /// No names.
+    /// Returns a table without names.
     pub fn none(alloc: Global) -> Names
         ensures { entries result ≡ [] }
     {
@@ -81,7 +81,7 @@ impl Names {
         Ok(())
     }
 
-    // Adds the name that a key and its value give. If that fails, nothing is added.
+    // Adds the name in a key and its value. If that fails, nothing is added.
     #[tactic(auto, using(crate::proofs::Tables::added))]
     fn add<'t>(&mut self, alloc: Global, key: &'t str, value: &Value) -> Result<(), NamesFault<'t>>
         ensures added { OnOk result (Adds key.entry.now (view value.now) (entries self.old) (entries self.new)) }
@@ -105,8 +105,8 @@ impl Names {
         Ok(())
     }
 
-    /// Reads the names in a table: each key is a name, and its value the number. Fails if memory runs out, or if a
-    /// key isn't a name, a value isn't a number, or a number occurs twice.
+    /// Reads a table of names: each key is a name, and its value the number. Fails if memory runs out, if a key
+    /// isn't a name, if a value isn't a number, or if a number occurs twice.
     #[tactic(auto, using(crate::proofs::Tables::none_read, crate::proofs::Tables::all_read))]
     pub fn read<'t>(alloc: Global, table: &'t Table) -> Result<Names, NamesFault<'t>>
         ensures names { IfOk result (λ names. AreNamesOf (table_view table.entry.now) (entries names)) }

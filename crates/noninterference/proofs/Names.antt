@@ -1,4 +1,4 @@
--- The names that the proofs here cite: of other crates, and of the definitions of this one.
+-- The names that the proofs here import: from other crates, and from the definitions of this one.
 pub use Rattle.model.specs.Bank.{is_under}
 unfoldable pub use Rattle.model.specs.Bank.{chain}
 pub use Rattle.model.specs.Banking.{freed, freed_by, transferred}

@@ -1,4 +1,5 @@
--- The orders of a bank of a set closed for reading that don't look outside do the same in linked lists of objects.
+-- Linked lists of objects agree on a set that is closed for reading in both. An order on a member bank, unless it depends on free numbers,
+-- has the same outcome in both.
 use Rattle.noninterference.proofs.Names.{nat_tests, inl, inr, ℕ, nat_eq, true, false, not, List, [], length, refl, sym, ap, subst, arith, IsTrue, Bool}
 use Rattle.noninterference.proofs.Names.{range_with_len, false≢true, and_parts, or_cases, or_right, eqb-true, eqb-false, Capability, Void, Object}
 use Rattle.noninterference.proofs.Names.{Arguments, BankOrder, ResultCode, chain, is_under, freed, freed_by, inherited, on_bank, under, owned_by, is_bank}
@@ -11,7 +12,7 @@ use Rattle.model.specs.declared.order.BankOrder.TheVariants as bank
 use Rattle.model.specs.declared.order.ResultCode.TheVariants as code
 use Rattle.noninterference.proofs.ReadEdits.{Link, link_rescind, void_names}
 
--- outcomes with the same reply and the same written numbers, whose objects are linked
+-- two outcomes have the same reply and written numbers, and their objects are linked
 pub record OutcomesLink (trusted inside : ℕ → Bool) (o p : OrderOutcome) : Type 0 where
   pub code : p.code ≡ o.code
   pub words : p.words ≡ o.words
@@ -20,7 +21,7 @@ pub record OutcomesLink (trusted inside : ℕ → Bool) (o p : OrderOutcome) : T
   pub stays : NamesBut trusted inside o.capability
   pub objects : Link trusted inside o.objects p.objects
 
--- a property of two choices whose tests agree
+-- if two tests agree, a property of both pairs of branches holds of the chosen ones
 pub both_chosen : {X : Type 0} (P : X → X → Type 0) (a b : Bool) (w x y z : X) → b ≡ a → (a ≡ true → P w y) → (a ≡ false → P x z)
     → P (if a then w else x) (if b then y else z)
 both_chosen {X} P a b w x y z same p q = subst (λ c. P (if a then w else x) (if c then y else z)) (sym same) (go a p q)
@@ -29,7 +30,7 @@ both_chosen {X} P a b w x y z same p q = subst (λ c. P (if a then w else x) (if
     go true p q = p refl
     go false p q = q refl
 
--- tests that each imply the other
+-- two tests that imply each other are equal
 same_tests : (a b : Bool) → (a ≡ true → b ≡ true) → (b ≡ true → a ≡ true) → b ≡ a
 same_tests true b to from = to refl
 same_tests false true to from = sym (from refl)
@@ -38,7 +39,7 @@ same_tests false false to from = refl
 pub link_sym : (trusted inside : ℕ → Bool) (os us : List Object) → Link trusted inside os us → Link trusted inside us os
 link_sym trusted inside os us h = record { size = sym h.size; same = λ n in_n. sym (h.same n in_n); left = h.right; right = h.left }
 
--- outcomes of linked objects
+-- outcomes over linked objects; the parameters: two linked lists
 module _ (trusted inside : ℕ → Bool) (os us : List Object) (h : Link trusted inside os us) where
   pub refused_link : (why : ResultCode) → OutcomesLink trusted inside (refused os why) (refused us why)
   refused_link why =
@@ -67,12 +68,12 @@ module _ (trusted inside : ℕ → Bool) (os us : List Object) (h : Link trusted
     objects = h;
   }
 
-  -- written and nothing given
+  -- an outcome that only frees objects is linked to one that frees the same
   pub gone_link : (ns ms : List ℕ) → ms ≡ ns → OutcomesLink trusted inside (made os ns Void) (made us ms Void)
   gone_link ns ms same =
       record { code = refl; words = refl; capability = refl; written = same; stays = void_names trusted inside; objects = h }
 
--- the objects that a member bank owns, and those under it
+-- ---- the objects that a member bank owns, and those below it
 
 module _ (trusted inside : ℕ → Bool) (os : List Object) (t : IsTree os) (k : IsReadClosedBut trusted os inside) where
   owner_inside : (n : ℕ) → is_free (content_at os n) ≡ false → IsTrue (inside (owner_at os n)) → IsTrue (inside n)
@@ -81,7 +82,7 @@ module _ (trusted inside : ℕ → Bool) (os : List Object) (t : IsTree os) (k :
   bank_used : (c : ℕ) → IsTrue (is_bank (content_at os c)) → is_free (content_at os c) ≡ false
   bank_used c bank = grind (arith, nat_tests)
 
-  -- a bank whose chain contains a member is a member
+  -- if the chain of a bank contains a member, the bank is a member
   above_inside : (b : ℕ) → IsTrue (inside b) → (c : ℕ) → IsTrue (is_bank (content_at os c)) → is_member (chain os c) b ≡ true →
       IsTrue (inside c)
   above_inside b is =
@@ -113,7 +114,7 @@ module _ (trusted inside : ℕ → Bool) (os us : List Object) (t : IsTree os) (
   kind_there : IsTrue (is_bank (content_at us b))
   kind_there = ap (λ (o : Object). is_bank o.content) (h.same b is) ∙ kind
 
-  -- a chain that passes through the bank does so in both
+  -- if a bank's chain passes through b in the first list, it does so in the second
   chain_carried : (c : ℕ) → IsTrue (is_bank (content_at os c)) → is_member (chain os c) b ≡ true → is_member (chain us c) b ≡ true
   chain_carried =
       tree_induction os t (λ c. is_member (chain os c) b ≡ true → is_member (chain us c) b ≡ true)
@@ -156,7 +157,7 @@ module _ (trusted inside : ℕ → Bool) (os us : List Object) (t : IsTree os) (
           let parts = and_parts (not (is_free (content_at os n))) (owner_at os n == b) e in
           h.left.owned b n is kind (not-true (is_free (content_at os n)) parts.0) (eqb-true (owner_at os n) b parts.1)
 
--- a member bank owns the same objects in both lists, and has the same under it
+-- the parameters: two linked lists, and a member bank b, which owns the same objects in both
 module _ (trusted inside : ℕ → Bool) (os us : List Object) (t : IsTree os) (v : IsTree us) (h : Link trusted inside os us) (b : ℕ)
     (is : IsTrue (inside b)) (kind : IsTrue (is_bank (content_at os b))) where
   back : Link trusted inside us os
@@ -182,7 +183,7 @@ module _ (trusted inside : ℕ → Bool) (os us : List Object) (t : IsTree os) (
       same_tests (not (is_free (content_at os n)) && (owner_at os n == b)) (not (is_free (content_at us n)) && (owner_at us n == b))
       (owned_carried trusted inside os us t v h b is kind n) (owned_carried trusted inside us os v t back b is kind_back n))
 
--- transferring the objects of a bank to its owner
+-- transferring a bank's objects to its owner; b is a member bank other than bank 0
 module _ (trusted inside : ℕ → Bool) (os : List Object) (t : IsTree os) (k : IsReadClosedBut trusted os inside) (b : ℕ)
     (is : IsTrue (inside b))
     (kind : IsTrue (is_bank (content_at os b))) (on : b ≢ 0) where
@@ -254,7 +255,7 @@ module _ (trusted inside : ℕ → Bool) (os us : List Object) (t : IsTree os) (
       (n ∷ ns) refl)
       (λ e. refused_link trusted inside os us h code.NotFromThisBank)
 
-  -- a capability of a member frees the same objects in both lists; the first is a member
+  -- a capability that a member holds frees the same objects in both lists
   freed_same : (c : Capability) → NamesBut trusted inside c → freed_by us c ≡ freed_by os c
   freed_same (Process p) stays = ap (λ (o : Object). p ∷ (root_in o.content).annex ∷ []) (h.same p (grind (arith, nat_tests)))
   freed_same (Page o a) stays = refl
@@ -264,7 +265,7 @@ module _ (trusted inside : ℕ → Bool) (os us : List Object) (t : IsTree os) (
   freed_first : (c : Capability) → NamesBut trusted inside c → (n : ℕ) (ms : List ℕ) → freed_by os c ≡ n ∷ ms → IsTrue (inside n)
   freed_first c stays n ms e = grind (arith, nat_tests)
 
-  -- an order of a bank that doesn't look outside
+  -- unless it depends on free numbers, an order on a member bank has linked outcomes
   pub bank_link : (g : Geometry) (requested : BankOrder) (args : Arguments) → depends_on_supply requested ≡ false
       → NamesBut trusted inside args.capability → OutcomesLink trusted inside (on_bank g os b requested args)
       (on_bank g us b requested args)

@@ -1,4 +1,4 @@
--- After each edit, a set is still closed for reading, and two lists of objects still agree on it.
+-- Changes that keep two lists of objects linked: they agree on a set that is closed for reading in both.
 use Rattle.noninterference.proofs.Names.{nat_tests, inl, ℕ, zero, suc, Bool, true, false, List, [], length, refl, sym, ap, subst, arith, IsTrue}
 use Rattle.noninterference.proofs.Names.{slice_index_or, Capability, Void, Content, Object, Root, State, free, is_bank, is_free, is_root, root_in, slots_in}
 use Rattle.noninterference.proofs.Names.{with_slot_in, with_word_in, consume, is_member, rescind, resumes, names_member, void_where, without}
@@ -9,14 +9,14 @@ use Rattle.noninterference.proofs.Names.{enumerate_from, length-enumerate_from}
 use Rattle.std.proofs.Common.{◌≡◌, ◌+◌, ◌∷◌, ◌∙◌, if◌then◌else◌}
 use Rattle.model.specs.declared.object.Content.TheVariants as content
 
--- two lists of objects that are the same in a set, which is closed in both
+-- two lists of objects are equal on a set that is closed for reading in both
 pub record Link (trusted inside : ℕ → Bool) (os us : List Object) : Type 0 where
   pub size : length us ≡ length os
   pub same : HaveSame inside os us
   pub left : IsReadClosedBut trusted os inside
   pub right : IsReadClosedBut trusted us inside
 
--- a content that may replace another at a member: it is not a bank unless that was one
+-- a content that may replace a member's: it is a bank only if the old one was, and all that it names stays in the set
 pub record MayStand (trusted inside : ℕ → Bool) (old c : Content Capability) : Type 0 where
   pub annex : is_root c ≡ true → IsTrue (inside (root_in c).annex)
   pub bank : is_bank c ≡ true → is_bank old ≡ true
@@ -27,7 +27,7 @@ module _ (trusted inside : ℕ → Bool) where
   pub void_names : NamesBut trusted inside Void
   void_names = inl tt
 
-  -- a content of a member
+  -- ---- replacing the content of a member
 
   owned_content : (os : List Object) (n : ℕ) (c : Content Capability) → IsReadClosedBut trusted os inside → IsTrue (inside n)
       → MayStand trusted inside (content_at os n) c → (b m : ℕ) → IsTrue (inside b) → IsTrue (is_bank (content_at (with_content os n c) b))
@@ -85,7 +85,7 @@ module _ (trusted inside : ℕ → Bool) where
         (subst (λ (o : Object). MayStand trusted inside o.content c) (sym (h.same n in_n)) may);
   }
 
-  -- replacing a content by one made from it
+  -- if a member's content is replaced in both lists by the same function of it, they stay linked
   module _ (os us : List Object) (n : ℕ) (h : Link trusted inside os us) (in_n : IsTrue (inside n)) where
     link_made : (f : Content Capability → Content Capability) → MayStand trusted inside (content_at os n) (f (content_at os n))
         → Link trusted inside (with_content os n (f (content_at os n))) (with_content us n (f (content_at us n)))
@@ -126,14 +126,14 @@ module _ (trusted inside : ℕ → Bool) where
     unfolding with_slot
     link_slot i k stays = link_made (λ c. with_slot_in c i k) (slot_may i k (content_at os n) stays may_stay)
 
-    -- a root
+    -- if a member gets the same root in both lists, they stay linked
     pub link_root : (r : Root Capability) → IsTrue (inside r.annex) → NamesBut trusted inside r.space
         → Link trusted inside (with_root os n r) (with_root us n r)
     unfolding with_root
     link_root r in_annex space = link_content os us n (content.Root r) h in_n
         (record { annex = λ e. in_annex; bank = λ e. cc; slots = λ i. void_names; space = space })
 
-    -- replacing a root by one made from it
+    -- if a member's root is replaced in both lists by the same function of it, they stay linked
     pub link_of_root : (f : Root Capability → Root Capability) → IsTrue (inside (f (root_at os n)).annex)
         → NamesBut trusted inside (f (root_at os n)).space → Link trusted inside (with_root os n (f (root_at os n)))
         (with_root us n (f (root_at us n)))
@@ -153,7 +153,7 @@ module _ (trusted inside : ℕ → Bool) where
   link_slots os us n i (c ∷ cs) h in_n stays =
       link_slots (with_slot os n i c) (with_slot us n i c) n (i + 1) cs (link_slot os us n h in_n i c (stays 0)) in_n (λ j. stays (suc j))
 
-  -- making capabilities void, and freeing objects
+  -- ---- voiding capabilities, and freeing objects
 
   void_stays : (goes : Capability → Bool) (c : Capability) → NamesBut trusted inside c → NamesBut trusted inside (void_where goes c)
   void_stays goes c stays = one_of (NamesBut trusted inside) (goes c) Void c void_names stays
@@ -162,7 +162,7 @@ module _ (trusted inside : ℕ → Bool) where
       → IsTrue (is_root (without goes o).content) → IsTrue (inside (root_in (without goes o).content).annex)
   annex_without goes o h is = grind (arith, nat_tests)
 
-  -- the objects after some are freed, and capabilities are put void
+  -- `us` is `os` with some objects freed, and capabilities that pass a test voided
   abbrev IsWithout : (Capability → Bool) → List ℕ → List Object → List Object → Type 0
   IsWithout goes gone os us = (n : ℕ) → object_at us n ≡ (if is_member gone n then free else without goes (object_at os n))
 

@@ -1,4 +1,4 @@
--- An invocation by a member of a set closed for reading that doesn't look outside does the same in linked lists of objects.
+-- If an invocation by a member doesn't look outside the set, it has the same effect in two linked lists of objects.
 use Rattle.noninterference.proofs.Names.{inl, ℕ, zero, suc, Bool, false, List, Option, None, Some, [], refl, sym, ap, subst}
 use Rattle.noninterference.proofs.Names.{IsTrue, map, and_parts, Capability, Void, Start, Resume, Geometry, Object, Root, State, Available, Running, Waiting}
 use Rattle.noninterference.proofs.Names.{Invocation, Message, Operation, Call, Return, Send, Effect, after_gate, after_order, deliver, invoke, can_start}
@@ -13,13 +13,13 @@ use Rattle.noninterference.proofs.ReadEdits.{Link, link_consume, link_of_root, l
 use Rattle.noninterference.proofs.ReadBanks.{OutcomesLink, both_chosen}
 use Rattle.noninterference.proofs.ReadOrders.{member, order_link, register_same, register_stays}
 
--- two effects that write the same numbers and leave linked objects, or no effect in both
+-- two effects write the same numbers and leave linked objects, or neither exists
 abbrev pub EffectsLink : (ℕ → Bool) → (ℕ → Bool) → Option Effect → Option Effect → Type 0
 EffectsLink trusted inside None None = Unit {0}
 EffectsLink trusted inside (Some e) (Some f) = (f.written ≡ e.written) × Link trusted inside e.objects f.objects
 EffectsLink trusted inside _ _ = ⊥
 
--- whether an object is a running process
+-- whether an object is the root of a running process
 abbrev is_running_object : Object → Bool
 is_running_object o = is_root o.content && is_running (root_in o.content).state
 
@@ -27,7 +27,7 @@ module _ (trusted inside : ℕ → Bool) where
   abbrev AllStay : List Capability → Type 0
   AllStay cs = (j : ℕ) → NamesBut trusted inside (slice_index_or cs j Void)
 
-  -- delivery
+  -- if a message is delivered in both lists, they stay linked
   deliver_link : (os us : List Object) → Link trusted inside os us → (p : ℕ) (m : Message) → IsTrue (inside p) → IsTrue (is_process os p)
       → AllStay m.capabilities → Link trusted inside (deliver os p m) (deliver us p m)
   unfolding deliver
@@ -41,7 +41,7 @@ module _ (trusted inside : ℕ → Bool) where
       (link_slots trusted inside (with_root os p (f (root_at os p))) (with_root us p (f (root_at us p))) (annex_at os p) 28 m.capabilities
       first annex sent)
 
-  -- the reply of linked outcomes
+  -- linked outcomes have the same reply
   replies_same : (o p : OrderOutcome) → OutcomesLink trusted inside o p → reply_of p ≡ reply_of o
   replies_same o p h =
       ap (λ c. message (code_number c ∷ p.words) p.capability) h.code
@@ -86,7 +86,7 @@ module _ (trusted inside : ℕ → Bool) where
       go Return = h.objects
       go Send = h.objects
 
--- an invoker in linked objects
+-- the parameters: linked lists, and an invocation by a running member
 module _ (g : Geometry) (trusted inside : ℕ → Bool) (os us : List Object) (h : Link trusted inside os us) (now : IsNow g os)
     (beside : IsNow g us)
     (i : Invocation) (in_p : IsTrue (inside i.process)) (runs : IsTrue (is_running_process os i.process)) where
@@ -102,7 +102,7 @@ module _ (g : Geometry) (trusted inside : ℕ → Bool) (os us : List Object) (h
   stays : (r : ℕ) → NamesBut trusted inside (register_at os i.process r)
   stays r = register_stays trusted inside os us h i.process in_p root r
 
-  -- the words and capabilities that are sent
+  -- ---- the words and capabilities that a message carries
 
   sent_same : sent_by us i ≡ sent_by os i
   sent_same = λ k. map (λ r. registers r k) i.sent
@@ -124,7 +124,7 @@ module _ (g : Geometry) (trusted inside : ℕ → Bool) (os us : List Object) (h
       go Return = map_stays i.sent j
       go Send = map_stays i.sent j
 
-  -- the invoker's state
+  -- ---- the invoker's state
 
   state_linked : (s : State) → Link trusted inside (with_state os i.process s) (with_state us i.process s)
   state_linked s = link_state trusted inside os us i.process h in_p s root
@@ -148,7 +148,7 @@ module _ (g : Geometry) (trusted inside : ℕ → Bool) (os us : List Object) (h
       go Return = state_linked Available
       go Send = h
 
-  -- gates
+  -- ---- start and resume capabilities
 
   still_process : (q : ℕ) → IsTrue (is_process os q) → IsTrue (is_process (after_gate os i) q)
   still_process q is = after_gate_by (λ ws. IsTrue (is_process ws q)) os i is
@@ -168,7 +168,7 @@ module _ (g : Geometry) (trusted inside : ℕ → Bool) (os us : List Object) (h
       message : List Capability → Message
       message cs = record { words = i.words; key = key; capabilities = cs }
 
-  -- kernel objects
+  -- ---- kernel objects
 
   after_now : (ws : List Object) → IsNow g ws → IsTrue (is_running_process ws i.process) → IsAfter g ws (after_order ws i)
   after_now ws there acts = after_order_by (IsAfter g ws) ws i (record { frame = frame_refl ws; now = there; waits = λ x w. w })
@@ -210,9 +210,9 @@ module _ (g : Geometry) (trusted inside : ℕ → Bool) (os us : List Object) (h
         | Send ↦ []
       ]) (h.same i.process in_p)
 
-  -- invocations
+  -- ---- the law about an invocation
 
-  -- the effect of an invocation, by the invoked capability
+  -- the effect of invoking this capability
   abbrev invoked_by : List Object → Capability → Option Effect
   invoked_by ws c = elim c [
     | Start q key ↦ if can_start ws i q then Some (through_gate ws i q key) else None

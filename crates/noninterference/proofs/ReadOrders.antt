@@ -1,4 +1,4 @@
--- Orders on objects of a set closed for reading do the same in linked lists of objects.
+-- An order on an object of a set that is closed for reading has the same outcome in two linked lists.
 use Rattle.noninterference.proofs.Names.{nat_tests, inl, ℕ, Bool, false, not, List, Option, None, Some, arith, refl, sym, ap, subst, IsTrue, nat_lt}
 use Rattle.noninterference.proofs.Names.{Access, Capability, Void, Number, Page, Node, Space, Process, Bank, Discrim, Start, Geometry, Object, State, Available}
 use Rattle.noninterference.proofs.Names.{Running, Arguments, NodeOrder, PageOrder, ProcessOrder, BankOrder, bank_order, fetched, is_space, node_order}
@@ -15,7 +15,7 @@ use Rattle.model.specs.declared.order.ResultCode.TheVariants as code
 use Rattle.noninterference.proofs.ReadEdits.{Link, link_consume, link_of_root, link_slot, link_state, link_word}
 use Rattle.noninterference.proofs.ReadBanks.{OutcomesLink, bank_link, both_chosen, given_link, refused_link, replying_link, wrote_link}
 
--- a property of two lists of choices on the same option
+-- if a property holds of two results when an option is `None`, and when it is `Some`, it holds of them
 found_both : {A X : Type 0} (P : X → X → Type 0) (found : Option A) (x y : X) (f k : A → X) → P x y →
     ((a : A) → found ≡ Some a → P (f a) (k a)) → P (elim found [ None ↦ x | Some a ↦ f a ]) (elim found [ None ↦ y | Some a ↦ k a ])
 found_both {A} {X} P None x y f k p q = p
@@ -34,7 +34,7 @@ module _ (trusted inside : ℕ → Bool) (os us : List Object) (h : Link trusted
   same : (c : Capability) → NamesBut trusted inside c → Outcomes (given os c) (given us c)
   same c stays = give c c refl stays
 
-  -- pages
+  -- ---- pages
 
   page_link : (o : ℕ) (a : Access) (requested : PageOrder) (args : Arguments) → IsTrue (inside o)
       → Outcomes (on_page os o a requested args) (on_page us o a requested args)
@@ -50,7 +50,7 @@ module _ (trusted inside : ℕ → Bool) (os us : List Object) (h : Link trusted
   page_link o a page.Reduce args in_o = both_chosen Outcomes (reduces args.first) _ _ _ _ _ refl
       (λ e. same (Page o (union a args.first)) (inl in_o)) (λ e. refuse code.BadIndex)
 
-  -- nodes
+  -- ---- nodes
 
   diminished_stays : (c : Capability) → NamesBut trusted inside c → NamesBut trusted inside (diminished c)
   diminished_stays c stays = grind (arith, nat_tests)
@@ -78,7 +78,7 @@ module _ (trusted inside : ℕ → Bool) (os us : List Object) (h : Link trusted
       (λ e. refuse code.BadIndex) (λ e. same (Space o args.first a) (inl in_o))
   node_link o a node.PutNumber args in_o sent = stored_link o a args.first (Number args.second) in_o (inl tt)
 
-  -- processes
+  -- ---- processes
 
   module _ (p : ℕ) (in_p : IsTrue (inside p)) (is : IsTrue (is_process os p)) where
     pub annex_same : annex_at us p ≡ annex_at os p
@@ -135,7 +135,7 @@ module _ (trusted inside : ℕ → Bool) (os us : List Object) (h : Link trusted
         (link_of_root trusted inside os us p h in_p (λ r. with_space r args.capability) annex_inside sent) p p refl)
         (λ e. refuse code.BadCapability)
 
-  -- a capability that isn't a start capability and stays inside names a member
+  -- if a capability names a member or starts a process, and isn't a start capability, it names a member
   pub member : (n : ℕ) → IsTrue (inside n) ⊎ ⊥ → IsTrue (inside n)
   member n is = grind (arith, nat_tests)
 
@@ -143,7 +143,7 @@ module _ (trusted inside : ℕ → Bool) (os us : List Object) (h : Link trusted
       → depends_on_supply requested ≡ false
   bank_looks b w requested found looks = grind (arith, nat_tests)
 
-  -- an order that doesn't look outside
+  -- an order that doesn't look outside has linked outcomes
   pub order_link : (g : Geometry) (c : Capability) (w : ℕ) (args : Arguments) → IsNow g os → IsNow g us → IsHeld os (Waits os) c
       → NamesBut trusted inside c → NamesBut trusted inside args.capability → looks_outside inside c w ≡ false
       → Outcomes (order g os c w args) (order g us c w args)

@@ -1,4 +1,4 @@
--- Two runs of the same lines by members of a set closed for reading.
+-- Two runs with the same lines by members of a set that is closed for reading.
 use Rattle.noninterference.proofs.Names.{nat_tests, inl, inr, ℕ, Bool, true, false, not, Option, None, Some, Result, Ok, Err, List, [], map, refl, sym, ap}
 use Rattle.noninterference.proofs.Names.{subst, arith, IsTrue, nat_lt, slice_index, slice_index_or, All, All-head, All-tail, ltb-true}
 use Rattle.noninterference.proofs.Names.{Access, Answer, MemoryFault, ReadOnly, Refusal, Capability, Void, Page, Space, Command, Invocation, Geometry}
@@ -19,7 +19,7 @@ use Rattle.noninterference.proofs.ReadEdits.{Link, link_word}
 use Rattle.noninterference.proofs.ReadGates.{EffectsLink, invoked_link}
 use Rattle.noninterference.proofs.ReadOrders.{member}
 
--- the page that an address reaches
+-- ---- the page that an address reaches
 
 module _ (trusted inside : ℕ → Bool) (os us : List Object) (h : Link trusted inside os us) where
   slot_same : (o i : ℕ) → IsTrue (inside o) → slot_at us o i ≡ slot_at os o i
@@ -44,7 +44,7 @@ module _ (trusted inside : ℕ → Bool) (os us : List Object) (h : Link trusted
       beyond = Beyond
   walk_same c index stays = refl
 
-  -- a page reached below a space is reached from its slot
+  -- a page that is found below a space is found from one of its slots
   below_ok : (height : ℕ) (a : Access) (c : Capability) (rest : Result (ℕ × Access) MemoryFault) (found : ℕ × Access)
       → below height a c rest ≡ Ok found → (next : ℕ × Access) × (rest ≡ Ok next) × (found.0 ≡ next.0)
   below_ok height a c rest found is = grind (arith, nat_tests)
@@ -59,7 +59,7 @@ module _ (trusted inside : ℕ → Bool) (os us : List Object) (h : Link trusted
       (along_inside c slots b.0 (h.left.slots o slot (member trusted inside os us h o stays)) b.1)
   along_inside c slots found stays e = cc
 
-  -- a test that holds on the way to the page that is found
+  -- if a tested step of a walk found a page, its continuation found it
   if_found : (b : Bool) (r : Result (ℕ × Access) MemoryFault) (why : MemoryFault) (found : ℕ × Access) →
       (if b then r else Err why) ≡ Ok found → r ≡ Ok found
   if_found b r why found e = grind (arith, nat_tests)
@@ -94,7 +94,7 @@ module _ (trusted inside : ℕ → Bool) (os us : List Object) (h : Link trusted
       go (Ok found) at e = chosen found (found.1.0 == 0) at e
       go (Err why) at e = cc
 
--- machines that are up in linked sound worlds
+-- two machines that are up, with linked sound worlds
 record IsLinked (g : Geometry) (trusted inside : ℕ → Bool) (s q : Running) : Type 0 where
   left : IsSound g s.now
   right : IsSound g q.now
@@ -103,7 +103,7 @@ record IsLinked (g : Geometry) (trusted inside : ℕ → Bool) (s q : Running) :
 abbrev AreLinked : Geometry → (ℕ → Bool) → (ℕ → Bool) → Machine → Machine → Type 0
 AreLinked g trusted inside m n = (s q : Running) × (m ≡ Up s) × (n ≡ Up q) × IsLinked g trusted inside s q
 
--- the answer of a refusal, or of a command that is carried out
+-- the answer is the refusal if there is one; else the command has this outcome
 abbrev AnswerBy : Running → Answer → Machine → Option Refusal → Outcome → Type 0
 AnswerBy s a after refused o = elim refused [
   | Some why ↦ (a ≡ answer.Refused why) × (after ≡ Up s)
@@ -113,11 +113,11 @@ AnswerBy s a after refused o = elim refused [
 abbrev HasRoomIn : Answer → Type 0
 HasRoomIn a = (a ≡ answer.Refused refusal.Worn → ⊥) × (a ≡ answer.Refused refusal.LogFull → ⊥)
 
--- the same answer, and linked machines
+-- the answers are equal, and the machines linked
 abbrev AreSame : Geometry → (ℕ → Bool) → (ℕ → Bool) → Answer → Answer → Machine → Machine → Type 0
 AreSame g trusted inside a b m n = (b ≡ a) × AreLinked g trusted inside m n
 
--- the effect of an invocation, a load and a store
+-- the outcome of an invocation with this effect; it stalls if there is none
 abbrev invoked : Running → Option Effect → Outcome
 invoked s found = elim found [
   | None ↦ outcome answer.Done s
@@ -137,7 +137,7 @@ written s address value found = elim found [
   | Err why ↦ outcome (answer.MemoryFault why) s
 ]
 
--- a world stays sound with another word in a page
+-- if a world is sound, it stays sound when a page gets another word
 word_sound : (g : Geometry) (os : List Object) (age n i w : ℕ) → IsSound g (record { objects = os; age = age }) → w < 2 ^ 64
     → IsSound g (record { objects = with_word os n i w; age = age })
 word_sound g os age n i w sound fits =
@@ -150,17 +150,17 @@ module _ (g : Geometry) (trusted inside : ℕ → Bool) (s q : Running) (h : IsL
   abbrev Same : Type 0
   Same = AreSame g trusted inside a b m n
 
-  -- both commands are refused in the same way
+  -- two commands that are refused for the same reason have the same answer
   refused_alike : (why : Refusal) → (a ≡ answer.Refused why) × (m ≡ Up s) → (b ≡ answer.Refused why) × (n ≡ Up q) → Same
   refused_alike why first second = (second.0 ∙ sym first.0, (s, q, first.1, second.1, h))
 
-  -- both commands are carried out in the same way
+  -- two commands with equal answers and linked machines afterwards are alike
   carried_alike : (o p : Outcome) → (a ≡ o.answer) × (m ≡ Up o.after) → (b ≡ p.answer) × (n ≡ Up p.after) → p.answer ≡ o.answer
       → IsLinked g trusted inside o.after p.after → Same
   carried_alike o p first second same linked =
       (second.0 ∙ same ∙ sym first.0, (o.after, p.after, first.1, second.1, linked))
 
-  -- both commands are refused because no process runs, or both go on
+  -- two commands are alike if they are alike for a process that runs; if it doesn't run, both are refused
   running_alike : (root runs : Bool) (next after : Option Refusal) (o p : Outcome)
       → (runs ≡ true → AnswerBy s a m next o → AnswerBy q b n after p → Same)
       → AnswerBy s a m (unless root refusal.NoProcess (unless runs refusal.NotRunning next)) o
@@ -169,7 +169,7 @@ module _ (g : Geometry) (trusted inside : ℕ → Bool) (s q : Running) (h : IsL
   running_alike true false next after o p go first second = refused_alike refusal.NotRunning first second
   running_alike true true next after o p go first second = go refl first second
 
-  -- the refusals of an invocation by a running process
+  -- why an invocation by a running process is refused: worn, stalled or a full log
   abbrev effect_refusal : Bool → Option Effect → (Effect → Bool) → Option Refusal
   effect_refusal young found fits =
       unless young refusal.Worn (elim found [ None ↦ Some refusal.Stalled | Some e ↦ unless (fits e) refusal.LogFull None ])
@@ -221,15 +221,15 @@ module _ (g : Geometry) (trusted inside : ℕ → Bool) (s q : Running) (h : IsL
   loads_alike address (Ok at) within first second = carried_alike (loaded s address (Ok at)) (loaded q address (Ok at)) first second
       (ap (λ (x : Object). answer.Value (slice_index (words_in x.content) (address % 512))) (h.link.same at.0 (within at refl))) h
 
--- whether an object is a running process
+-- whether an object is the root of a running process
 abbrev is_running_object : Object → Bool
 is_running_object o = is_root o.content && is_running (root_in o.content).state
 
--- the answers to a command of a member
+-- ---- the answer to a member's command
 
 module _ (g : Geometry) (trusted inside : ℕ → Bool) (s q : Running) (h : IsLinked g trusted inside s q) (a b : Answer) (m n : Machine)
     (room : HasRoomIn a) (rooms : HasRoomIn b) where
-  -- the tests of the process have the same results
+  -- a member process passes the same tests in both machines
   tests_alike : (p : ℕ) → IsTrue (inside p) → (next : Option Refusal) (o : Outcome)
       → AnswerBy q b n (unless (is_process q.now.objects p) refusal.NoProcess
       (unless (is_running_process q.now.objects p) refusal.NotRunning next)) o
@@ -275,7 +275,7 @@ module _ (g : Geometry) (trusted inside : ℕ → Bool) (s q : Running) (h : IsL
       (unless (is_running_process q.now.objects p) refusal.NotRunning None))
       (loaded q address r)) (reached_same trusted inside s.now.objects q.now.objects h.link p address in_p) second))
 
-  -- why a store is refused, if its process runs
+  -- why a store by a running process is refused: a full log
   abbrev store_refusal : Running → Result ℕ MemoryFault → Option Refusal
   store_refusal x found = elim found [ Ok page ↦ unless (not (overfills g x.touched (page ∷ []))) refusal.LogFull None | Err why ↦ None ]
 
@@ -296,7 +296,7 @@ module _ (g : Geometry) (trusted inside : ℕ → Bool) (s q : Running) (h : IsL
       (store_refusal q (writable r))))
       (written q address value (writable r))) (reached_same trusted inside s.now.objects q.now.objects h.link p address in_p) second))
 
--- a command on a member's line
+-- the command's invocation doesn't look outside the set
 abbrev LooksIn : (ℕ → Bool) → Running → Command → Type 0
 LooksIn inside s (command.Invoke i) = looks_outside inside (register_at s.now.objects i.process i.register) (slice_index i.words 0) ≡ false
 LooksIn inside s _ = Unit {0}
@@ -312,7 +312,7 @@ answers_alike g trusted inside s q h (command.Store p address value) a b m n roo
     stores_same g trusted inside s q h a b m n room rooms p address value by fits.2 first second
 answers_alike g trusted inside s q h c a b m n room rooms by fits looks first second = absurd by
 
--- a machine that is down, and stays so
+-- ---- a machine that is down stays down
 
 abbrev IsDown : Machine → Type 0
 IsDown (Up s) = ⊥
@@ -321,7 +321,7 @@ IsDown (Down saved) = Unit {0}
 is_down : (m : Machine) (saved : List Saved) → m ≡ Down saved → IsDown m
 is_down m saved e = subst IsDown (sym e) tt
 
--- the answer of a machine that is up, or that the machine goes down
+-- a step either has the machine's answer, or takes it down
 step_cases : (g : Geometry) (inside : ℕ → Bool) (s : Running) (c : Command) (a : Answer) (m : Machine) → IsBy inside c → Step g (Up s) c a m
     → Answers g s c a m ⊎ IsDown m
 step_cases g inside s c a m by (inl answers) = inl answers
@@ -345,7 +345,7 @@ down_reply g inside line.Bad m reply after down by replies = subst IsDown (sym r
 down_reply g inside (line.Command c) (Up s) reply after down by replies = absurd down
 down_reply g inside (line.Command c) (Down saved) reply after down by replies = down_step g inside saved c replies.0 after by replies.2
 
--- turns whose lines are such commands, or no command
+-- a turn whose line has a command by a member, or no command
 abbrev IsTurnBy : (ℕ → Bool) → Turn → Type 0
 IsTurnBy inside t = (l : Line) → Says t.line l → IsLineBy inside l
 
@@ -365,7 +365,7 @@ down_run g inside m (t ∷ ts) last down by run =
     down_run g inside t.after ts last
     (down_reply g inside turn.0 t.before t.reply t.after (subst IsDown (sym run.0) down) (by.0 turn.0 turn.1) turn.2) by.1 run.2
 
--- the lines of turns, and their answers
+-- ---- equal lines have equal answers
 
 abbrev lines : List Turn → List (List ℕ)
 lines ts = map (λ t. t.line) ts
@@ -388,7 +388,7 @@ by_too inside (x ∷ xs) (y ∷ ys) e by = (
   by_too inside xs ys (same_rest x y xs ys e) by.1,
 )
 
--- a property of a line's command
+-- ---- what a line with a command means
 
 abbrev FitsLine : Line → Type 0
 FitsLine (line.Command c) = Fits c
@@ -448,7 +448,7 @@ module _ (g : Geometry) (trusted inside : ℕ → Bool) where
       (looks_line inside x s l looks at first.1) (subst (λ m. Replies g l m x.reply x.after) at first.2)
       (subst (λ k. Replies g k (Up q) y.reply y.after) one (subst (λ m. Replies g second.0 m y.reply y.after) there second.2)) up above
 
-  -- machines that are up and linked, or that aren't both up
+  -- if both machines are up, they are linked
   abbrev AreLinkedIfUp : Machine → Machine → Type 0
   AreLinkedIfUp (Up s) (Up q) = IsLinked g trusted inside s q
   AreLinkedIfUp m n = Unit {0}
@@ -472,7 +472,7 @@ module _ (g : Geometry) (trusted inside : ℕ → Bool) where
       (All-tail HasRoom x xs room) (All-tail HasRoom y ys rooms) in
       (ap (λ k. k ∷ replies ys) one.0 ∙ ap (λ ks. x.reply ∷ ks) rest.0, rest.1)
 
--- the laws
+-- ---- the law about runs
 
 linked : (g : Geometry) (trusted inside : ℕ → Bool) (w v : World) → AreSameInside g trusted inside w v →
     Link trusted inside w.objects v.objects

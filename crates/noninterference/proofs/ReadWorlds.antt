@@ -1,11 +1,11 @@
--- The worlds that differ outside a set.
+-- The worked worlds, which differ outside a set.
 use Rattle.noninterference.proofs.Names.{ℕ, zero, suc, false, refl, inl, inr, arith, All-from_recursion, IsTrue, slice_index_or, slice_set, Void}
 use Rattle.noninterference.proofs.Names.{Capability, Node, Bank, Start, weak, all_slots, is_bank, is_free, annex_at, content_at, is_process, owner_at}
 use Rattle.noninterference.proofs.Names.{root_at, slot_at, object_at, All, holds_set, holds_void, IsRight, machine, rows_hold, IsRow, IsReadClosedBut}
 use Rattle.noninterference.proofs.Names.{NamesBut, AreSameForReader, e0, e1, reader, remaining, server, rows}
 use Rattle.std.proofs.Common.{◌≡◌}
 
--- a property of each member
+-- what holds of 1, 2, 5 and 6 holds of each member
 members : (P : ℕ → Type 0) → P 1 → P 2 → P 5 → P 6 → (n : ℕ) → IsTrue (reader n) → P n
 members P root annex bank node zero inside = cc
 members P root annex bank node (suc zero) inside = root

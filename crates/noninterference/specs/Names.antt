@@ -1,4 +1,4 @@
--- The names of other crates that the definitions here cite.
+-- The names of other crates that the definitions here import.
 pub use Rattle.confinement.specs.Trusted.{StartsOne}
 pub use Rattle.model.specs.Capability.{named, weak}
 pub use Rattle.model.specs.Closed.{IsClosedBy}

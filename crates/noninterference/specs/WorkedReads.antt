@@ -1,4 +1,4 @@
--- Two worlds that differ only outside a set, worked: why invocations that look outside have to be left out.
+-- Two worked worlds that differ only outside a set. They show why the law excludes invocations that look outside.
 use Rattle.noninterference.specs.Names.{ℕ, Bool, List, [], replicate, slice_set, Void, Node, Bank, Start, Object}
 use Rattle.noninterference.specs.Names.{all_slots, free, weak, zero_words, World, fresh_root, of_prime_bank, Row}
 use Rattle.noninterference.specs.Names.{at_world, row}
@@ -7,8 +7,8 @@ use Rattle.model.specs.declared.object.Content.TheVariants as content
 use Rattle.model.specs.declared.object.State.TheVariants as state
 use Rattle.noninterference.specs.Reads.{HaveSame, IsReadClosedBut}
 
--- Process 1 with annex 2 runs, and holds bank 5, which may own 4 objects, node 6 weakly, and the right to start process
--- 3, whose annex is 4. The arguments are bank 0, process 3, and objects 7 and 16.
+-- Process 1, with annex 2, runs. It holds bank 5, which may own 4 objects, node 6 weakly, and the right to start
+-- process 3, whose annex is 4. The arguments are bank 0, process 3, and objects 7 and 16.
 abbrev pub with_others : Object → Object → Object → Object → World
 with_others prime server seventh sixteenth = record {
   objects =
@@ -34,10 +34,11 @@ unfoldable pub e1 : World
 e1 = with_others (of_prime_bank (content.Bank 9)) (fresh_root state.Running 4) (of_prime_bank (content.Node (all_slots Void)))
     (of_prime_bank (content.Page zero_words))
 
--- the reader: process 1 with its annex, its bank and node 6; the server: the process that the reader may start
+-- the reader's set: process 1 with its annex, its bank and node 6
 abbrev pub reader : ℕ → Bool
 reader n = n == 1 || n == 2 || n == 5 || n == 6
 
+-- the trusted processes: the server, which the reader may start
 abbrev pub server : ℕ → Bool
 server n = n == 3
 
@@ -47,7 +48,7 @@ AreSameForReader =
     HaveSame reader e0.objects e1.objects × IsReadClosedBut server e0.objects reader
     × IsReadClosedBut server e1.objects reader
 
--- what remains of bank 5 is less if bank 0 allows less
+-- bank 5 has less left in World E1, because bank 0 allows less
 abbrev pub remains : List Row
 remains =
     row (at_world e0) (("call 1 1 8 0 0 0 0 0 0 0", "done") ∷ (
@@ -60,7 +61,7 @@ remains =
     ) ∷ [])
     ∷ []
 
--- a new page has the first free number, which differs
+-- a new page gets the first free number, and the worlds differ in it
 abbrev pub new_pages : List Row
 new_pages =
     row (at_world e0) (("call 1 1 1 0 0 0 0 0 0 0", "done") ∷ (
@@ -73,7 +74,7 @@ new_pages =
     ) ∷ [])
     ∷ []
 
--- a new node has the first free number, which differs
+-- a new node gets the first free number, and the worlds differ in it
 abbrev pub new_nodes : List Row
 new_nodes =
     row (at_world e0) (("call 1 1 2 0 0 0 0 0 0 0", "done") ∷ (
@@ -86,7 +87,7 @@ new_nodes =
     ) ∷ [])
     ∷ []
 
--- so has a new bank; a process needs two numbers, and bank 0 of World E1 allows just one more object
+-- a new bank gets the first free number, and the worlds differ in it
 abbrev pub new_banks : List Row
 new_banks =
     row (at_world e0) (("call 1 1 4 3 0 0 0 0 0 0", "done") ∷ (
@@ -99,6 +100,7 @@ new_banks =
     ) ∷ [])
     ∷ []
 
+-- a new process needs two numbers, and bank 0 of World E1 allows only one more object
 abbrev pub new_processes : List Row
 new_processes =
     row (at_world e0) (("call 1 1 3 0 0 0 0 0 0 0", "done") ∷ (
@@ -111,13 +113,13 @@ new_processes =
     ) ∷ [])
     ∷ []
 
--- a start stalls unless the process is available
+-- starting a process stalls unless it is available
 abbrev pub starts : List Row
 starts =
     row (at_world e0) (("send 1 3 0 0 0 0 0 0 0 0", "done") ∷ [])
     ∷ row (at_world e1) (("send 1 3 0 0 0 0 0 0 0 0", "stalled") ∷ [])
     ∷ []
 
--- the rows above
+-- all rows above
 unfoldable pub rows : List Row
 rows = remains ++ new_pages ++ new_nodes ++ new_banks ++ new_processes ++ starts

@@ -1,4 +1,4 @@
--- A store that was made from a device; the image that is built from the text of a description.
+-- What a store that was opened on a device saves, and the image built from its description.
 use Rattle.queries.proofs.Names.{ℕ, List, sym, ap, subst, ReadsSaved, same_Some, Members, Frame, Geometry, IsSoundFrames, world_at, World, Saved, Disk, Image}
 use Rattle.queries.proofs.Names.{agrees_is, Encodes, SavedState, OnlyReads, Holds, SavedFrames, saved_by, frames_of, first_saved, Live, Recovers, RefusesToOpen}
 use Rattle.queries.proofs.Names.{IsDescription, IsSame, description_once, described_is_same, same_described, View, Parts, DurableState, IsOver}
@@ -6,11 +6,11 @@ use Rattle.queries.proofs.Names.{DescribedIsDenoted}
 use Rattle.std.proofs.Common.{◌≡◌, ◌∙◌}
 use Rattle.layout.specs.declared.open_fault.OpenFault.TheVariants as opening
 
--- A store that was made of a device.
+-- The parameters: a store that was opened on a device.
 module _ {D S : Type 0} {disk : D → Disk} (seen_left : (d : D) → (disk d).may_leave (disk d).seen) {view : S → View D} {parts : S → Parts}
     (durable : S → DurableState D) (is_over : (s : S) → IsOver disk (view s) (durable s)) {device : D} {l : Live S}
     (wakes : Recovers disk view parts device l) where
-  -- the saved state, as a read of the device gives it
+  -- the saved state that a read of the device gives
   abbrev pub state_of : SavedState
   state_of = saved_by disk (durable l.store)
 
@@ -27,13 +27,13 @@ module _ {D S : Type 0} {disk : D → Disk} (seen_left : (d : D) → (disk d).ma
       subst (λ (i : Image). Encodes i (disk device).sectors state_of) (agrees_is (disk beneath).seen (disk device).seen reads.seen)
       (subst (λ (n : ℕ). Encodes (disk beneath).seen n state_of) reads.size ((is_over l.store).sound wakes.up.store _ (seen_left beneath)))
 
-  -- the store was only read since
+  -- since it was opened, the device was only read
   pub reads_saved : (s : S) (back : D) → durable s ≡ durable l.store → back ≡ (view s).beneath → ReadsSaved disk device back state_of
   reads_saved s back kept same =
       let beneath : back ≡ (view l.store).beneath = same ∙ (is_over s).beneath ∙ ap (λ d. d.beneath) kept ∙ sym (is_over l.store).beneath in
       record { encodes = encodes; sound = sound; failures = rw beneath wakes.failures; only_reads = rw beneath wakes.only_reads }
 
--- memory ran out for the part that is read
+-- if memory ran out while a part was read, the command reports that
 pub no_memory : {D : Type 0} (disk : D → Disk) (device back : D) {s : SavedState} → ReadsSaved disk device back s →
     RefusesToOpen disk device back opening.NoMemory
 no_memory disk device back reads = record { is_why = reads.failures; only_reads = reads.only_reads }

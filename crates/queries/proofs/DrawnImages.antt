@@ -1,4 +1,4 @@
--- The outcome of the command that draws.
+-- The outcome of `draw`.
 use Rattle.queries.proofs.Names.{Written, List, Result, Ok, Err, sym, subst, arith, Geometry, Object, object_count, objects_of, Disk, Description, SavedState}
 use Rattle.queries.proofs.Names.{Focus, Fault, DrawsImage, DrawsPart, IsHeldTo, KeepsPart, KeepsReached, IsDescriptionOf, ReadsSaved}
 use Rattle.std.proofs.Common.{◌≡◌, ◌<◌, ◌^◌}
@@ -18,7 +18,7 @@ module _ {D : Type 0} {disk : D → Disk} {device back : D} {s : SavedState} (re
   draws_image focus output output_left outcome draws =
       (s, reads, (d, is.0, subst (λ (os : List Object). DrawsPart os focus d output output_left outcome) is.1 draws))
 
--- A description is restricted twice.
+-- if a description is restricted to an object's holders, and then to what a process reaches, both restrictions hold
 pub keeps_both : (os : List Object) (focus : Focus) (d m e : Description) → IsHeldTo focus.to d m → (outcome : Result (Unit {0}) Fault) →
     KeepsReached os focus.from focus.purpose m e outcome → KeepsPart os focus d e outcome
 keeps_both os focus d m e held (Ok a) keeps = (m, held, keeps)

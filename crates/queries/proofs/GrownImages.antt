@@ -1,4 +1,4 @@
--- What is built from a description for other sizes.
+-- An image that is built from a description for other sizes.
 use Rattle.queries.proofs.Names.{IsDescriptionOf, SavedState, described_has_text, Written, Wrote, ℕ, List, Result, Ok, Err, map, sym, ap, subst, arith}
 use Rattle.queries.proofs.Names.{nat_tests, same_Some, Members, Frame, Geometry, Object, IsSoundFrames, world_at, Saved, IsSound, World, Disk, Holds}
 use Rattle.queries.proofs.Names.{SavedFrames, NumberRange, MayBeLaid, numbers_of, first_saved, may_be_laid, Description, IsDescription, IsSame}
@@ -53,7 +53,7 @@ unsized_is_whole p age frames text sound reported =
       layout = reported.whole.layout;
     }
 
--- A description of what is saved, renumbered.
+-- The parameters: a description of what a device saves.
 module _ {D : Type 0} {disk : D → Disk} {device back : D} {s : SavedState} (reads : ReadsSaved disk device back s) (d : Description)
     (whole : IsDescriptionOf s.plan s.header.age s.frames d) (sizes : Sizes) where
   abbrev g : Geometry
@@ -107,7 +107,7 @@ module _ {D : Type 0} {disk : D → Disk} {device back : D} {s : SavedState} (re
       reported.2,
     )
 
-  -- the outcome of the command
+  -- if the text of the renumbered description was written, so was that of the image
   pub describes_image : (output output_left : Written) (outcome : Result (Unit {0}) Fault) → TellsGrown d sizes output output_left outcome →
       DescribesImage disk sizes device back output output_left outcome
   describes_image output output_left (Ok a) tells = (s, reads, tells_grown tells.0 tells.1 (Wrote output output_left) tells.2)
@@ -125,7 +125,7 @@ module _ {D : Type 0} {disk : D → Disk} {device back : D} {s : SavedState} (re
   )
   describes_image output output_left outcome tells = absurd tells
 
--- The text of a description that was renumbered.
+-- The parameters: a description, and the same renumbered for other sizes.
 module _ (sizes : Sizes) (d e : Description) (grown : IsGrownFrom sizes d e) where
   pub grown_has_fields : HasFields d → HasFields e
   grown_has_fields fields = fields_grown d e grown.same fields

@@ -1,4 +1,4 @@
--- The lines about a store are those about what its device saves.
+-- The lines about a store are those about the saved state of its device.
 use Rattle.queries.proofs.Names.{HaveTheirRoles, role_number, role_of, headers_with, ℕ, List, [], map, cond, refl, sym, ap, fold, SavedState, kept_of, saved_of}
 use Rattle.queries.proofs.Names.{Cap, Frame, ObjectHeader, Content, Role, conveyed, headers, object_of, objects_of, world_at, map_content, Plan, Checkpoint}
 use Rattle.queries.proofs.Names.{info_lines, lines_with, objects_with, suc}
@@ -21,7 +21,7 @@ module _ (hs : List ObjectHeader) (r : Role) where
       (headers fs)) (roles 0 ∙ sym (same_role f.content))
       ∙ role_sum fs (n + cond (role_number (role_of (map_content (conveyed hs) f.content)) == role_number r) 1 0) (λ i. roles (suc i))
 
--- as many objects as headers have a role
+-- for each role, headers and objects with it are equally many
 pub role_counted : (fs : List Frame) (age : ℕ) (r : Role) → HaveTheirRoles fs →
     headers_with r (headers fs) ≡ objects_with r (world_at age fs)
 unfolding objects_of

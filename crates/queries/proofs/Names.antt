@@ -1,4 +1,4 @@
--- The names that the proofs here cite: of other crates, and of the definitions of this one.
+-- The names that the proofs here import: from other crates, and from the definitions of this one.
 pub use Rattle.capability.proofs.FrameLists.{headers_in}
 pub use Rattle.capability.proofs.Keeping.{keepable_roles}
 pub use Rattle.capability.specs.Parts.{HaveTheirRoles, Parts, frames_of}

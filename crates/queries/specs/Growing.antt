@@ -1,4 +1,4 @@
--- A description of an image, renumbered for other sizes.
+-- Describing an image for other sizes.
 use Rattle.queries.specs.Names.{Written, Wrote, ℕ, List, Some, Result, Ok, Err, Members, parse_document, IsGeometry}
 use Rattle.queries.specs.Names.{WroteFront, Description, IsDescription, Sizes, IsNotRenumbered, IsRenumbered}
 use Rattle.queries.specs.Names.{NamesNodes, NamesPages, grown_geometry, description_text, Fault}
@@ -12,6 +12,7 @@ pub record IsSpelling (d : Description) (text : List ℕ) : Type 0 where
   pub said : IsDescription table d
   pub spelled : text ≡ description_text d
 
+-- `Reported` holds of the text of this description
 abbrev pub TellsText : Description → (List ℕ → Type 0) → Type 0
 TellsText d Reported = (text : List ℕ) × IsSpelling d text × Reported text
 
@@ -22,7 +23,7 @@ TellsDescription d output output_left (Err fault.CannotWriteOutput) = TellsText 
 TellsDescription d output output_left (Err fault.NoMemory) = output_left ≡ output
 TellsDescription d output output_left (Err _) = ⊥
 
--- e is the description d, renumbered for these sizes, which have a number for each object
+-- e is d renumbered for these sizes, in which each object has a number
 pub record IsGrownFrom (sizes : Sizes) (d e : Description) : Type 0 where
   pub geometry : e.geometry ≡ grown_geometry d.geometry sizes
   pub limits : IsGeometry e.geometry
@@ -30,7 +31,7 @@ pub record IsGrownFrom (sizes : Sizes) (d e : Description) : Type 0 where
   pub nodes : NamesNodes e.geometry.nodes d
   pub pages : NamesPages d.geometry e.geometry d
 
--- a description was renumbered; or the sizes don't suit it; or memory ran out
+-- a description was renumbered; or these sizes don't suit it; or memory ran out
 abbrev pub GrowsDescription : Sizes → Description → Description → Result (Unit {0}) Fault → Type 0
 GrowsDescription sizes d e (Ok a) = IsGrownFrom sizes d e
 GrowsDescription sizes d e (Err (fault.Sizes why)) = IsNotRenumbered d (grown_geometry d.geometry sizes) why

@@ -1,4 +1,4 @@
--- What the commands that read an image say about it.
+-- What the commands that only read an image write about it.
 use Rattle.queries.specs.Names.{Written, Wrote, ℕ, List, [], map, Some, Result, Ok, Err, Members, parse_document, Frame}
 use Rattle.queries.specs.Names.{Geometry, IsSoundFrames, world_at, World, Disk, Encodes, SavedState, Plan}
 use Rattle.queries.specs.Names.{version_number, OnlyReads, numbers_of, RefusesToOpen, Description, IsDescription, Sizes}
@@ -7,19 +7,19 @@ use Rattle.queries.specs.Names.{WroteFront, Fault}
 use Rattle.std.specs.Prelude.{◌≡◌, ◌≢◌, ◌↔◌, ◌<◌, ◌∷◌}
 use Rattle.jobs.specs.declared.fault.Fault.TheVariants as fault
 
--- a device was opened with no failure, nothing was written to it at any moment, and this is what it saves
+-- a device was opened without a failure and only read, and this is its saved state
 pub record ReadsSaved {D : Type 0} (disk : D → Disk) (device back : D) (state : SavedState) : Type 0 where
   pub encodes : Encodes (disk device).seen (disk device).sectors state
   pub sound : IsSoundFrames state.plan.geometry state.header.age state.frames
   pub failures : (disk back).failures ≡ (disk device).failures
   pub only_reads : OnlyReads (disk device) (disk back)
 
--- a device was read in this way, and x is what `Is` says of what it saves
+-- a device was only read, and x has the relation `Is` to its saved state
 abbrev pub IsReadFrom : {D T : Type 0} → (D → Disk) → (SavedState → T → Type 0) → D → D → T → Type 0
 IsReadFrom disk Is device back x = (s : SavedState) × ReadsSaved disk device back s × Is s x
 
--- The outcome of a command that reads an image: `Tells` holds of it and of what is saved; or the device wasn't opened
--- or memory ran out, and nothing was written.
+-- The outcome of a command that reads an image: `Tells` holds of it and of the saved state; or the device wasn't
+-- opened or memory ran out, and nothing was written.
 abbrev pub TellsImage : {D : Type 0} → (D → Disk) → D → D → Written → Written →
     (SavedState → Result (Unit {0}) Fault → Type 0) → Result (Unit {0}) Fault → Type 0
 TellsImage disk device back output output_left Tells (Err (fault.Open why)) = RefusesToOpen disk device back why ×
@@ -27,16 +27,17 @@ TellsImage disk device back output output_left Tells (Err (fault.Open why)) = Re
 TellsImage disk device back output output_left Tells outcome = (s : SavedState) × ReadsSaved disk device back s ×
     Tells s outcome
 
--- A description gives each object the state in its frame, at the age of the frames, and nothing else: no default,
--- numbers in order, and the home ranges and the version of a plan.
+-- The description has each object with the content in its frame, the age, and nothing else. It omits defaults,
+-- its numbers rise, and its home ranges and version are the plan's.
 pub record IsDescriptionOf (p : Plan) (age : ℕ) (frames : List Frame) (description : Description) : Type 0 where
   pub describes : Describes p.geometry (world_at age frames) description
   pub brief : IsBrief description
   pub ranges : description.ranges.items ≡ map numbers_of p.ranges
   pub layout : description.layout ≡ version_number p.version
 
--- A description has each object that frames stand for, at their age, in an image of these sizes, and nothing else:
--- nothing at its default, numbers in order, the home ranges there, and the version of a plan.
+-- The description has each object that these frames stand for, numbered for an image of these sizes, the age, and
+-- nothing else. It omits defaults, its numbers rise, its home ranges suit the sizes, and its version is the
+-- plan's.
 pub record IsDescribedIn (p : Plan) (g : Geometry) (age : ℕ) (frames : List Frame) (description : Description) : Type 0
   where
     pub world : World
@@ -46,7 +47,7 @@ pub record IsDescribedIn (p : Plan) (g : Geometry) (age : ℕ) (frames : List Fr
     pub ranges : description.ranges.items ≡ grown_ranges p.geometry g (map numbers_of p.ranges)
     pub layout : description.layout ≡ version_number p.version
 
--- A text is the one text of such a description, and is read as this description.
+-- The text is the one text of a description as in `IsDescribedIn`, and is read as this description.
 pub record IsTextIn (p : Plan) (g : Geometry) (age : ℕ) (frames : List Frame) (text : List ℕ) : Type 0 where
   pub table : Members
   pub read : parse_document text ≡ Some table
@@ -55,9 +56,8 @@ pub record IsTextIn (p : Plan) (g : Geometry) (age : ℕ) (frames : List Frame) 
   pub spelled : text ≡ description_text description
   pub whole : IsDescribedIn p g age frames description
 
--- A text is that of a description which gives each object the state in its frame, at the age of the frames, and nothing
--- else: no default, numbers in order, and the home ranges and the version of a plan. It is the one text of that
--- description, and is read as that description.
+-- The text is the one text of a description of these frames at this age (`IsDescriptionOf`), and is read as this
+-- description.
 pub record IsTextOf (p : Plan) (age : ℕ) (frames : List Frame) (text : List ℕ) : Type 0 where
   pub table : Members
   pub read : parse_document text ≡ Some table
@@ -69,12 +69,13 @@ pub record IsTextOf (p : Plan) (age : ℕ) (frames : List Frame) (text : List �
   pub ranges : description.ranges.items ≡ map numbers_of p.ranges
   pub layout : description.layout ≡ version_number p.version
 
--- the text of the description of all that is saved, in an image of these sizes, was written
+-- the text that describes the whole saved state, for an image of these sizes, was written
 abbrev pub TellsWhole : Sizes → SavedState → (List ℕ → Type 0) → Type 0
 TellsWhole sizes s Reported = (text : List ℕ)
     × IsTextIn s.plan (grown_geometry s.plan.geometry sizes) s.header.age s.frames text × Reported text
 
--- such a text was written; or not all of it; or an image of these sizes can't have the objects; or memory ran out
+-- the text that describes the saved state for an image of these sizes was written; or it couldn't be written whole;
+-- or an image of these sizes can't have the objects; or memory ran out
 abbrev pub TellsGrownState : Sizes → SavedState → Written → Written → Result (Unit {0}) Fault → Type 0
 TellsGrownState sizes s output output_left (Ok a) = TellsWhole sizes s (Wrote output output_left)
 TellsGrownState sizes s output output_left (Err fault.CannotWriteOutput) = TellsWhole sizes s
@@ -85,6 +86,8 @@ TellsGrownState sizes s output output_left (Err (fault.Sizes why)) =
 TellsGrownState sizes s output output_left (Err fault.NoMemory) = output_left ≡ output
 TellsGrownState sizes s output output_left (Err _) = ⊥
 
+-- what `describe` does: `TellsGrownState` for the device's saved state; or the device wasn't opened, or memory ran
+-- out
 abbrev pub DescribesImage : {D : Type 0} → (D → Disk) → Sizes → D → D → Written → Written →
     Result (Unit {0}) Fault → Type 0
 DescribesImage disk sizes device back output output_left outcome = TellsImage disk device back output output_left

@@ -1,4 +1,4 @@
--- What is printed about an image.
+-- The lines that `info` prints.
 use Rattle.queries.specs.Names.{Written, Wrote, ℕ, List, [], codes, decimal, map, Result, Ok, Err, count_by, flat_map}
 use Rattle.queries.specs.Names.{ObjectHeader, Role, Saved, role_number, role_of, line_of, spaced, World, Disk}
 use Rattle.queries.specs.Names.{HomeRange, SavedState, Plan, version_number, Checkpoint, kept_of, saved_of, WroteFront}
@@ -17,7 +17,7 @@ use Rattle.queries.specs.declared.info.InfoLine.TheVariants as line
 abbrev pub objects_with : Role → World → ℕ
 objects_with r w = count_by (λ o. role_number (role_of o.content) == role_number r) w.objects
 
--- a line is a name and its numbers
+-- a line: a name and its numbers
 abbrev pub info_line : Format → InfoLine → List ℕ
 info_line f (line.Layout n) = number_line f (codes "layout") n
 info_line f (line.Nodes n) = number_line f (codes "nodes") n
@@ -42,7 +42,7 @@ info_text f lines = flat_map (λ l. line_of (info_line f l)) lines
 abbrev pub range_line : HomeRange → InfoLine
 range_line r = line.Range r.first r.count
 
--- the lines about the image of a plan with a checkpoint; `count` says how many objects of each role it has
+-- the lines about an image with this plan and checkpoint; `count` gives the number of objects of each role
 abbrev pub lines_with : Plan → Checkpoint → (Role → ℕ) → List InfoLine
 lines_with p saved count =
     ((line.Layout (version_number p.version) ∷ line.Nodes p.geometry.nodes ∷ line.Pages p.geometry.pages ∷ line.Log
@@ -52,18 +52,18 @@ lines_with p saved count =
     ∷ line.Free (count role.Free) ∷ line.PageObjects (count role.Page) ∷ line.NodeObjects (count role.Node)
     ∷ line.Processes (count role.Root) ∷ line.Banks (count role.Bank) ∷ []
 
--- how many headers have a role
+-- how many headers have this role
 abbrev pub headers_with : Role → List ObjectHeader → ℕ
 headers_with r hs = count_by (λ h. role_number h.role == role_number r) hs
 
--- The lines about the image of a plan with a saved state: the superblock, the home ranges, the checkpoint, and how many
--- objects of each kind its world has. A process is counted by its root.
+-- The lines about an image with this plan and saved state: the superblock, the home ranges, the checkpoint, and how
+-- many objects of each kind there are. A process counts once, by its root.
 abbrev pub info_lines : Plan → Saved → List InfoLine
 info_lines p saved = lines_with p
     (record { generation = saved.generation; age = saved.world.age; entries = saved.entries })
     (λ r. objects_with r saved.world)
 
--- the lines about what is saved were written; or couldn't be written whole
+-- the lines about the saved state were written; or they couldn't be written whole
 abbrev pub TellsInfo : Format → SavedState → Written → Written → Result (Unit {0}) Fault → Type 0
 TellsInfo f s output output_left (Ok a) = Wrote output output_left
     (info_text f (info_lines s.plan (saved_of (kept_of s))))
@@ -71,6 +71,7 @@ TellsInfo f s output output_left (Err fault.CannotWriteOutput) = WroteFront outp
     (info_text f (info_lines s.plan (saved_of (kept_of s))))
 TellsInfo f s output output_left (Err _) = ⊥
 
+-- what `info` does: `TellsInfo` for the device's saved state; or the device wasn't opened, or memory ran out
 abbrev pub InspectsImage : {D : Type 0} → Format → (D → Disk) → D → D → Written → Written →
     Result (Unit {0}) Fault → Type 0
 InspectsImage f disk device back output output_left outcome = TellsImage disk device back output output_left

@@ -1,4 +1,4 @@
--- What the command says about the objects that some processes can ever change or read.
+-- What `reach` writes.
 use Rattle.queries.specs.Names.{Written, ℕ, Bool, not, Option, None, Some, List, Vec, Result, Ok, Err, IsTrue, is_some}
 use Rattle.queries.specs.Names.{Wrote, WroteFront, All, find, Global, is_marked, Object, objects_of, is_process, Disk}
 use Rattle.queries.specs.Names.{Step, IsShortestIfAny, chain_text, reach_text, BoundsRuns, IsReach, true, false}
@@ -13,7 +13,7 @@ use Rattle.queries.specs.Images.{TellsImage}
 abbrev pub AreProcesses : List Object → List ℕ → Type 0
 AreProcesses os numbers = All (λ n. IsTrue (is_process os n)) numbers
 
--- the text of the least set closed for a purpose that contains some numbers; the authority bound holds for it
+-- the text of the least closed set that contains these numbers; the authority bound holds for the set
 pub record IsSetText (f : Format) (os : List Object) (p : Purpose) (starts trusted : List ℕ) (text : List ℕ)
     : Type 0 where
   pub marks : List Bool
@@ -21,7 +21,7 @@ pub record IsSetText (f : Format) (os : List Object) (p : Purpose) (starts trust
   pub bounds : BoundsRuns os (is_member trusted) (is_marked marks)
   pub spelled : text ≡ reach_text f os marks
 
--- the text of a shortest chain to an existing object; or that there is none, if the object is outside the least set
+-- the text of a shortest chain to an object; or, if the object is outside the least closed set, that there is none
 pub record IsChainText (f : Format) (os : List Object) (p : Purpose) (starts trusted : List ℕ) (o : ℕ) (text : List ℕ)
     : Type 0 where
   pub there : is_free (content_at os o) ≡ false
@@ -31,7 +31,7 @@ pub record IsChainText (f : Format) (os : List Object) (p : Purpose) (starts tru
       inside o ≡ is_some chain
   pub spelled : text ≡ chain_text f os p o chain
 
--- the text of those of some processes that can ever change, or read, an existing object
+-- the text of those of some processes that can ever change or read an object
 pub record IsChangersText (f : Format) (os : List Object) (p : Purpose) (starts trusted : List ℕ) (o : ℕ) (text : List ℕ)
     : Type 0 where
   pub there : is_free (content_at os o) ≡ false
@@ -39,19 +39,19 @@ pub record IsChangersText (f : Format) (os : List Object) (p : Purpose) (starts 
   pub changers : AreChangers os (links p (is_member trusted)) starts o (is_marked marks)
   pub spelled : text ≡ changers_text f os marks
 
--- the answer to a question
+-- the text that answers a question
 abbrev pub IsReachText : Format → List Object → List ℕ → List ℕ → ReachQuestion → List ℕ → Type 0
 IsReachText f os starts trusted (question.Set p) text = IsSetText f os p starts trusted text
 IsReachText f os starts trusted (question.Chain p o) text = IsChainText f os p starts trusted o text
 IsReachText f os starts trusted (question.Changers p o) text = IsChangersText f os p starts trusted o text
 
--- the number that a question names, if any
+-- the object in a question, if there is one
 abbrev pub object_of : ReachQuestion → Option ℕ
 object_of (question.Set p) = None
 object_of (question.Chain p o) = Some o
 object_of (question.Changers p o) = Some o
 
--- the answer about some processes was written; or not whole; or the question's number has no object; or memory ran out
+-- the answer was written; or it couldn't be written whole; or the question's number has no object; or memory ran out
 abbrev pub TellsOf : Format → List Object → List ℕ → List ℕ → ReachQuestion → Written → Written →
     Result (Unit {0}) Fault → Type 0
 TellsOf f os starts trusted q output output_left (Ok a) =
@@ -63,17 +63,17 @@ TellsOf f os starts trusted q output output_left (Err (fault.NoObject o)) =
 TellsOf f os starts trusted q output output_left (Err fault.NoMemory) = output_left ≡ output
 TellsOf f os starts trusted q output output_left (Err _) = ⊥
 
--- the processes that a question is about: those named, or all if none is named
+-- the processes that a question is about: the named ones, or all if none is named
 abbrev pub AreStarts : List Object → List ℕ → List ℕ → Type 0
 AreStarts os [] starts = (n : ℕ) → Contains starts n ↔ IsTrue (is_process os n)
 AreStarts os (p ∷ ps) starts = (starts ≡ p ∷ ps) × AreProcesses os (p ∷ ps)
 
--- the first named number without a process; if there is none, the first trusted number without one
+-- the first named number that isn't a process's; if there is none, the first trusted one
 abbrev pub IsFirstMissing : List Object → List ℕ → List ℕ → ℕ → Type 0
 IsFirstMissing os named trusted p = (find (λ n. not (is_process os n)) named ≡ Some p)
     ⊎ (AreProcesses os named × (find (λ n. not (is_process os n)) trusted ≡ Some p))
 
--- the answer about these processes was written; or a named or trusted number has no process; or memory ran out
+-- the answer was written; or a named or trusted number isn't a process's; or memory ran out
 abbrev pub TellsReach : Format → List Object → List ℕ → List ℕ → ReachQuestion → Written → Written →
     Result (Unit {0}) Fault → Type 0
 TellsReach f os named trusted q output output_left (Err (fault.NoProcess p)) =
@@ -82,7 +82,8 @@ TellsReach f os named trusted q output output_left (Err fault.NoMemory) = output
 TellsReach f os named trusted q output output_left outcome =
     (starts : List ℕ) × AreStarts os named starts × TellsOf f os starts trusted q output output_left outcome
 
--- what processes can ever change or read was written; or a fault; or the device wasn't opened, or memory ran out
+-- the answer about a device's saved state was written; or there was a fault; or the device wasn't opened, or memory
+-- ran out
 abbrev pub ReachesImage : {D : Type 0} → Format → (D → Disk) → List ℕ → List ℕ → ReachQuestion → D → D → Written →
     Written → Result (Unit {0}) Fault → Type 0
 ReachesImage f disk named trusted q device back output output_left outcome = TellsImage disk device back output

@@ -63,16 +63,16 @@ fn tell_grown<W: Output>(
     }
 }
 
-/// Opens a device as a run does, and writes a description of its saved state, renumbered for an image of other sizes.
-/// An image built from this text holds the same objects, each at its new number. Then the status is 0. If no sizes
-/// are given all numbers stay.
+/// Opens a device as a run does, and writes a description of its saved state, renumbered for an image of these sizes.
+/// An image built from this text holds the same objects at their new numbers. If no sizes are given, all numbers
+/// stay. The status is 0.
 ///
-/// After a fault one line is written to `errors`, and the status is 1:
+/// After a fault the status is 1, and one line is written to `errors`:
 /// - `bad image` with a number from 1 to 10, `device failed` or `no memory`;
 /// - `no image has these sizes`, or `too few nodes` or `too few pages` for the saved objects;
 /// - `cannot write output` if the writer fails.
 ///
-/// The device is returned. Nothing is written to it at any moment.
+/// Returns the device, and writes nothing to it.
 pub fn describe_image<D: Device, S: WholeStore<D>, W: Output, V: Output>(
     alloc: Global,
     device: D,

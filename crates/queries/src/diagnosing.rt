@@ -11,7 +11,8 @@ use migrator::WholeStore;
 use script::{LineText, Output};
 use std::alloc::Global;
 
-/// Returns the line about an image: `ok`, or the place that breaks a rule and the reason that `check` gives.
+/// Returns the line about an image: `ok`, or the place that breaks a rule, and the reason that `check`
+/// gives.
 pub fn explanation_line(found: Option<ImageFault>) -> LineText
     ensures text { result ≡ explanation_text found }
     ensures short { length result ≤ 260 }
@@ -22,7 +23,7 @@ pub fn explanation_line(found: Option<ImageFault>) -> LineText
     }
 }
 
-// Opens a device, writes why its image is refused if it is, and returns the device.
+// Opens a device, writes the line about its image, and returns the device.
 fn explain_and_tell<D: Device, S: WholeStore<D>, W: Output>(
     alloc: Global,
     device: D,
@@ -41,12 +42,16 @@ fn explain_and_tell<D: Device, S: WholeStore<D>, W: Output>(
     }
 }
 
-/// Opens a device as a run does, and writes `ok` if a run opens it; then the status is 0. If a run refuses the image,
-/// it writes one line with the object, slot, field or sector that breaks a rule, what is wrong there, and `(bad image
-/// K)` with the reason that `check` gives; then the status is 1. After a fault one line is written to `errors`, and
-/// the status is 1: `device failed`, `no memory`, or `cannot write output` if the writer fails.
+/// Opens a device as a run does.
 ///
-/// The device is returned. Nothing is written to it at any moment.
+/// If a run opens the image, writes `ok`, and the status is 0. If a run refuses it, writes one line, and the status
+/// is 1. The line names the object, slot, field or sector that breaks a rule, says what is wrong there, and ends with
+/// `(bad image K)`, K being the reason that `check` gives.
+///
+/// After a fault the status is 1, and one line is written to `errors`: `device failed`, `no memory`, or `cannot write
+/// output` if the writer fails.
+///
+/// Returns the device, and writes nothing to it.
 pub fn explain_image<D: Device, S: WholeStore<D>, W: Output, V: Output>(
     alloc: Global,
     device: D,

@@ -18,15 +18,15 @@ use reach::{Purpose, missing_process, reach};
 use script::Output;
 use std::alloc::Global;
 
-/// Which part of the saved state is drawn. If both `from` and `to` are `None`, all of it; if both are set, what is in
-/// both parts.
+/// Which part of the saved state to draw: all of it if `from` and `to` are `None`, what is in both parts if both are
+/// set.
 #[derive(Clone, Copy)]
 pub struct Focus {
-    /// Draws only what this process reaches: the least closed set that contains it.
+    /// If set, draw only the least closed set that contains this process.
     pub from: Option<u64>,
-    /// Whether the set is what the process can change, or what it can read.
+    /// Whether that set is what the process can change, or what it can read.
     pub purpose: Purpose,
-    /// Draws only this object, and the processes and nodes that hold a capability to it.
+    /// If set, draw only this object, and the processes and nodes that hold a capability to it.
     pub to: Option<u64>,
 }
 
@@ -77,7 +77,7 @@ fn keep_reached(
     }
 }
 
-// Restricts a description to the part that is to be drawn.
+// Restricts a description to the part that the focus selects.
 fn keep_part(
     alloc: Global,
     objects: &[Object],
@@ -116,15 +116,15 @@ fn draw_part<W: Output>(
 }
 
 /// Opens a device as a run does, and writes a graph of its saved state, in DOT: each object, its owner, and each
-/// capability that names an object. With a focus all other objects are left out, and all capabilities that name one
-/// of these. Then the status is 0.
+/// capability that names an object. A focus leaves out all other objects, and all capabilities that name them. The
+/// status is 0.
 ///
-/// After a fault one line is written to `errors`, and the status is 1:
+/// After a fault the status is 1, and one line is written to `errors`:
 /// - `bad image` with a number from 1 to 10, `device failed` or `no memory`;
 /// - `no object` or `no process` with the number in the focus, if there is no such object or process;
 /// - `cannot write output` if the writer fails.
 ///
-/// The device is returned. Nothing is written to it at any moment.
+/// Returns the device, and writes nothing to it.
 pub fn draw_image<D: Device, S: WholeStore<D>, W: Output, V: Output>(
     alloc: Global,
     device: D,

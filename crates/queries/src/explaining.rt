@@ -13,7 +13,7 @@ use script::Output;
 use std::alloc::{AllocError, Global};
 use toml::de::Error;
 
-// Returns the line and the column of the character after a text, both from 1. A column counts characters.
+// Returns the line and column of the character after a text, both from 1. A column counts characters.
 fn position_after(before: &[u8]) -> (u64, u64)
     ensures { result ≡ position_from 1 1 before.now }
 {
@@ -30,7 +30,7 @@ fn position_after(before: &[u8]) -> (u64, u64)
     (line, column)
 }
 
-// Returns the parser's message on one line, with a hint about numbers that are too great for TOML.
+// Returns the parser's message on one line. If a number is too great for TOML, adds a hint.
 fn why_not_toml(words: &str) -> &str
     ensures { IsOneLine result.now }
 {
@@ -83,7 +83,7 @@ pub fn explained(alloc: Global, text: &str) -> Result<(String, bool), AllocError
     }
 }
 
-// Ends a line and writes it.
+// Writes a line, with a newline added.
 fn tell_line<W: Output>(line: String, writer: &mut W) -> Result<(), Fault>
     ensures { TellsLine (string_bytes line) (W.written writer.old) (W.written writer.new) result }
 {
@@ -112,10 +112,10 @@ fn tell_explained<W: Output>(
     }
 }
 
-/// Writes `ok` if `build` accepts the description in a text on a device that is large enough; then the status is 0.
-/// Otherwise writes one line, and the status is 1: the place of the first mistake, what is wrong there, and `(bad
-/// description K)` with the number that `build` gives; or, if the text isn't TOML, the line and the column of the
-/// first error. After a fault one line is written to `errors`, and the status is 1: `no memory`, or `cannot write
+/// If `build` accepts the description in a text on a device that is large enough, writes `ok`, and the status is 0.
+/// Otherwise the status is 1, and one line is written: the place of the first mistake, what is wrong there, and
+/// `(bad description K)` with the number that `build` gives; or, if the text isn't TOML, the line and column of the
+/// first error. After a fault the status is 1, and one line is written to `errors`: `no memory`, or `cannot write
 /// output` if the writer fails.
 pub fn explain_description<W: Output, V: Output>(
     alloc: Global,

@@ -11,8 +11,7 @@ use model::{ObjectHeader, Role};
 use script::{LineText, Output, RunFault};
 use std::alloc::{AllocError, Global};
 
-/// A line about an image: one of its sizes or home ranges, a number of its checkpoint, or how many objects of a kind
-/// it has.
+/// A line about an image: a size, a home range, a number of its checkpoint, or how many objects of a kind it has.
 #[derive(Clone, Copy)]
 pub(crate) enum InfoLine {
     /// The version of the layout.
@@ -28,7 +27,7 @@ pub(crate) enum InfoLine {
     Entries(u64),
     /// How many numbers are free.
     Free(u64),
-    /// How many objects are pages, nodes, processes and banks.
+    /// How many objects are pages; the next variants count nodes, processes and banks.
     PageObjects(u64),
     NodeObjects(u64),
     /// How many roots there are.

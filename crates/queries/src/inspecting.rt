@@ -12,13 +12,14 @@ use migrator::WholeStore;
 use script::Output;
 use std::alloc::Global;
 
-/// Opens a device as a run does, and writes lines about its image, in a format: the version of the layout; the
-/// numbers of nodes, pages and log slots; its home ranges and sectors; the generation, age and entries of its
-/// checkpoint; and how many saved objects of each kind there are. Then the status is 0. After a fault one line is
-/// written to `errors`, and the status is 1: `bad image` with a number from 1 to 10, `device failed` or `no memory`,
-/// and `cannot write output` if the writer fails.
+/// Opens a device as a run does, and writes lines about its image, in a format: the layout version; the numbers of
+/// nodes, pages and log slots; its home ranges and sectors; the generation, age and entries of its checkpoint; and
+/// how many saved objects of each kind there are. The status is 0.
 ///
-/// The device is returned. Nothing is written to it at any moment.
+/// After a fault the status is 1, and one line is written to `errors`: `bad image` with a number from 1 to 10,
+/// `device failed` or `no memory`; `cannot write output` if the writer fails.
+///
+/// Returns the device, and writes nothing to it.
 pub fn info_image<D: Device, S: WholeStore<D>, W: Output, V: Output>(
     alloc: Global,
     device: D,

@@ -1,22 +1,21 @@
-//! Laws of descriptions of images. Each is the contract of a function that does nothing.
+//! Laws of descriptions of images. Each is the contract of an empty function.
 
 ghost use Rattle.queries.specs.Laws.{DescribedIsAccepted, DescribedIsDenoted, GrownIsDenoted, UnsizedIsWhole};
 
-/// Build an image from the text that `describe_image` wrote. The image that `build_image` leaves on a device, and the
-/// image that each later crash leaves, denotes the world that the text describes, of generation 0 and with nothing in
-/// the log.
+/// Build an image from the text that `describe_image` wrote. The image on the device, and any image that a later
+/// crash leaves, denotes the world that the text describes, at generation 0 and with an empty log.
 pub fn described_is_denoted()
     ensures { DescribedIsDenoted }
 {}
 
-/// A description of a world, with a version and home ranges that an image may have, is accepted by `build` on any
-/// device with enough sectors.
+/// Take a description of a world, with a version and home ranges that an image may have. `build` accepts it on
+/// each device with enough sectors.
 pub fn described_is_accepted()
     ensures { DescribedIsAccepted }
 {}
 
-/// Build an image from the text that `describe_image` wrote for other sizes. The image that `build_image` leaves on a
-/// device, and the image that each later crash leaves, denotes the same objects, each at its new number.
+/// Build an image from the text that `describe_image` wrote for other sizes. The image on the device, and any image
+/// that a later crash leaves, denotes the same objects at their new numbers.
 pub fn grown_is_denoted()
     ensures { GrownIsDenoted }
 {}

@@ -1,4 +1,4 @@
-//! The commands of `eros` that only read, from the moment that their files are open; over any device and writer. They
+//! The commands of `eros` that only read, once their files are open. They work over any device and writer. They
 //! describe or draw an image, print its sizes and what processes can reach, and explain why a file is refused.
 #![tactic(auto)]
 

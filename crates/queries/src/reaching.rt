@@ -23,11 +23,11 @@ use std::alloc::Global;
 /// A question to `reach` about some processes.
 #[derive(Clone, Copy)]
 pub enum ReachQuestion {
-    /// All that these processes can ever change, or read.
+    /// What these processes can ever change or read.
     Set(Purpose),
-    /// A shortest chain of steps from these processes to this object, by which they can change it, or read it.
+    /// A shortest chain of steps by which these processes can change or read this object.
     Chain(Purpose, u64),
-    /// Which of these processes can ever change this object, or read it.
+    /// Which of these processes can ever change or read this object.
     Changers(Purpose, u64),
 }
 
@@ -89,7 +89,7 @@ fn tell_chain<W: Output>(
     }
 }
 
-// Writes which of some processes can ever change an object, or read it.
+// Writes which of some processes can ever change or read an object.
 fn tell_changers<W: Output>(
     alloc: Global,
     format: Format,
@@ -113,7 +113,7 @@ fn tell_changers<W: Output>(
     }
 }
 
-// Whether there is no object at a number.
+// Whether a number has no object.
 fn is_free(objects: &[Object], number: u64) -> bool
     ensures { result ≡ is_free (content_at objects.now number) }
 {
@@ -123,7 +123,7 @@ fn is_free(objects: &[Object], number: u64) -> bool
     }
 }
 
-// Returns the number in a question if there is no object at it, else `None`.
+// Returns the number in a question if it has no object, else `None`.
 fn missing_object(objects: &[Object], question: ReachQuestion) -> Option<u64>
     ensures some { IfSome result (λ o. (object_of question ≡ Some o) × (is_free (content_at objects.now o) ≡ true)) }
     ensures none { IsNone result → (o : ℕ) → object_of question ≡ Some o → is_free (content_at objects.now o) ≡ false }
@@ -210,7 +210,8 @@ fn tell_named<W: Output>(
     tell_of(alloc, format, objects, named, trusted, question, writer)
 }
 
-// Returns the first number in `named`, else the first in `trusted`, that isn't a process's; or `None`.
+// Returns the first of `named` that isn't a process's number, else the first of `trusted`, else
+// `None`.
 fn first_missing(objects: &[Object], named: &[u64], trusted: &[u64]) -> Option<u64>
     ensures some { IfSome result (IsFirstMissing objects.now named.now trusted.now) }
     ensures named { IsNone result → AreProcesses objects.now named.now }
@@ -222,7 +223,7 @@ fn first_missing(objects: &[Object], named: &[u64], trusted: &[u64]) -> Option<u
     missing_process(objects, trusted)
 }
 
-// Checks the numbers in a question, and writes its answer: about the processes `named`, or about all if `named` is
+// Checks the numbers in a question, and writes the answer about the processes `named`, or about all if `named` is
 // empty.
 fn tell_reach<W: Output>(
     alloc: Global,
@@ -243,21 +244,21 @@ fn tell_reach<W: Output>(
     tell_named(alloc, format, objects, named, trusted, question, writer)
 }
 
-/// Opens a device as a run does, and answers a question in a format, about the processes `named`, or about all
-/// processes if `named` is empty. Then the status is 0. The answer is
-/// - all that these processes can ever change, or read, apart from messages to the processes `trusted`: the least
-///   closed set of numbers that contains them, where a member may start a trusted process outside the set;
-/// - or a shortest chain of steps to an object; if the set doesn't contain the object, `cannot change` or `cannot
+/// Opens a device as a run does, and answers a question in a format, about the processes `named`, or about all if
+/// `named` is empty. The status is 0. The answer is one of:
+/// - what these processes can ever change or read, apart from messages to the processes `trusted`: the least
+///   closed set that contains them, whose members may start trusted processes outside;
+/// - a shortest chain of steps to an object; if the set doesn't contain the object, `cannot change` or `cannot
 ///   read` with its kind and number;
-/// - or which of these processes can ever change an object, or read it.
+/// - which of these processes can ever change or read an object.
 ///
-/// After a fault one line is written to `errors`, and the status is 1:
+/// After a fault the status is 1, and one line is written to `errors`:
 /// - `bad image` with a number from 1 to 10, `device failed` or `no memory`;
-/// - `no process` with the first number in `named`, else the first in `trusted`, that isn't a process's;
-/// - `no object` with the number of the object if it is free or beyond the image;
+/// - `no process` with the first of `named`, else of `trusted`, that isn't a process's number;
+/// - `no object` with the object's number, if it is free or beyond the image;
 /// - `cannot write output` if the writer fails.
 ///
-/// The device is returned. Nothing is written to it at any moment.
+/// Returns the device, and writes nothing to it.
 pub fn reach_image<D: Device, S: WholeStore<D>, W: Output, V: Output>(
     alloc: Global,
     device: D,

@@ -1,4 +1,4 @@
-// Reading parts of the saved state of a device.
+// Reading parts of a device's saved state.
 ghost use Rattle.std.specs.Prelude.{◌≡◌, IfErr, IfOk, OnOk};
 ghost use Rattle.model.specs.Frame.{objects_of};
 ghost use Rattle.model.specs.Keepable.{IsSoundFrames};
@@ -22,13 +22,13 @@ use reach::read_objects;
 use recovery::recover;
 use std::alloc::{AllocError, Global};
 
-/// A part of the saved state of a device.
+/// A part of a device's saved state.
 pub trait SavedPart: Drop + Sized {
-    /// Whether this is that part of a saved state.
+    /// The value is that part of the saved state.
     ghost is_part: { SavedState → Self → Type 0 };
 
-    /// Reads the part from a store whose objects are the saved ones. Fails only if memory runs out: it makes no
-    /// device call.
+    /// Reads the part from a store whose objects are the saved ones. Makes no device call. Fails only if memory
+    /// runs out.
     fn read<D: Device, S: WholeStore<D>>(alloc: Global, store: &mut S) -> Result<Self, AllocError>
         requires usable { S.IsUsable store.old }
         requires saved { frames_of (S.parts store.old) ≡ (saved_by D.disk (S.durable store.old)).frames }
@@ -40,7 +40,7 @@ pub trait SavedPart: Drop + Sized {
         ensures frames { frames_of (S.parts store.new) ≡ frames_of (S.parts store.old) };
 }
 
-// A description of all objects, with the home ranges and the version of the image.
+// The description of all objects, with the image's home ranges and version.
 impl SavedPart for Description {
     ghost is_part = { λ s d. IsDescriptionOf s.plan s.header.age s.frames d };
 
@@ -67,7 +67,7 @@ impl SavedPart for Vec<Object> {
     }
 }
 
-// Two parts.
+// Two parts together.
 impl<A: SavedPart, B: SavedPart> SavedPart for (A, B) {
     ghost is_part = { λ s both. A.is_part s both.0 × B.is_part s both.1 };
 

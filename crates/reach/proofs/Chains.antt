@@ -1,4 +1,5 @@
--- Chains lead exactly to the numbers that were found. These are the least closed set: no step leaves a closed set.
+-- A number was found exactly if a chain of steps leads to it. The found numbers are the least closed set, because no step leaves a closed
+-- set.
 use Rattle.reach.proofs.Names.{nat_tests, ℕ, Bool, true, false, is_some, Option, None, Some, List, [], length, reverse, option_and_then, inl, inr, ⊎_elim, refl}
 use Rattle.reach.proofs.Names.{sym, ap, subst, arith, IsTrue, All, cases_eq, length-reverse, length_push, reverse-append, same_Some, Capability, Void, Page}
 use Rattle.reach.proofs.Names.{Node, Space, Process, Start, Resume, Bank, Content, Object, IsConfinedBut, AreBy, with_free, slots_in, annex_at, content_at}
@@ -12,11 +13,11 @@ use Rattle.reach.specs.declared.authority.Purpose.TheVariants as purpose
 use Rattle.reach.specs.declared.step.Way.TheVariants as way
 use Rattle.reach.proofs.Finding.{some_of}
 
--- a number that is named is in a set
+-- the number, if there is one, is in the set
 abbrev IsIn : (ℕ → Bool) → Option ℕ → Type 0
 IsIn other o = elim o [ None ↦ Unit {0} | Some m ↦ IsTrue (other m) ]
 
--- the object that a capability conveys is in each set inside which the capability stays
+-- if a capability stays inside a set, the object that it conveys is in the set
 pub named_inside : (follows : Links) (other : ℕ → Bool) (c : Capability) (n : ℕ) → Conveys follows c n → StaysFor follows other c →
     IsTrue (other n)
 named_inside follows other c n conveys stays = go follows.purpose conveys.0 stays
@@ -28,7 +29,7 @@ named_inside follows other c n conveys stays = go follows.purpose conveys.0 stay
     go purpose.Read strong (inl inside) = subst (IsIn other) conveys.2 inside
     go purpose.Read strong (inr starts) = absurd (conveys.1 starts)
 
--- void stays inside each set
+-- void stays inside every set
 pub void_stays : (follows : Links) (inside : ℕ → Bool) → StaysFor follows inside Void
 void_stays follows inside = go follows.purpose
   where
@@ -36,7 +37,7 @@ void_stays follows inside = go follows.purpose
     go purpose.Change = inl (inl tt)
     go purpose.Read = inl tt
 
--- a capability stays inside a set if all that it conveys is in the set
+-- a capability stays inside a set if each object that it conveys is in the set
 abbrev ConveysOnly : Purpose → (ℕ → Bool) → (ℕ → Bool) → Capability → Type 0
 ConveysOnly p trusted inside c = (m : ℕ) → IsFollowed p c → (StartsOne trusted c → ⊥) → named c ≡ Some m → IsTrue (inside m)
 
@@ -81,7 +82,7 @@ stays_inside follows inside c conveyed = go follows.purpose (λ m is starts name
     go purpose.Change only = stays_to_change follows.trusted inside c only
     go purpose.Read only = stays_to_read follows.trusted inside c only
 
--- the slots of an object
+-- if no step leaves the set, the capabilities in an object's slots stay inside it
 slots_inside : (os : List Object) (follows : Links) (inside : ℕ → Bool) (n i : ℕ) (x : Content Capability) →
     ((w : Way) (m : ℕ) → IsWay os follows n x w m → IsTrue (inside m)) → StaysFor follows inside (slice_index_or (slots_in x) i Void)
 slots_inside os follows inside n i (content.Node slots) continues = stays_inside follows inside (slice_index_or slots i Void)
@@ -90,7 +91,7 @@ slots_inside os follows inside n i (content.Annex slots) continues = stays_insid
     (λ m conveys. continues (way.Slot i (slice_index_or slots i Void)) m (refl, conveys))
 slots_inside os follows inside n i x continues = void_stays follows inside
 
--- a set that no step leaves is closed
+-- if no step leaves a set, the set is closed
 pub closed_by_steps : (os : List Object) (follows : Links) (inside : ℕ → Bool) →
     ((s : Step) → IsStep os follows s → IsTrue (inside s.from) → IsTrue (inside s.to)) → IsClosedFor follows os inside
 closed_by_steps os follows inside continues = record {
@@ -101,7 +102,7 @@ closed_by_steps os follows inside continues = record {
       (refl, conveys) is);
 }
 
--- no step leaves a closed set
+-- the parameters: a closed set, which no step leaves
 module _ (os : List Object) (follows : Links) (inside : ℕ → Bool) (closed : IsClosedFor follows os inside) where
   held_inside : (n i : ℕ) (x : Content Capability) → content_at os n ≡ x → IsTrue (inside n) →
       StaysFor follows inside (slice_index_or (held_by os x) i Void)
@@ -132,7 +133,7 @@ same_truth true b there back = sym (there refl)
 same_truth false true there back = back refl
 same_truth false false there back = refl
 
--- these closed sets are those of confinement, or of noninterference
+-- ---- these closed sets are those of `confinement` and `noninterference`
 
 change_stays : (follows : Links) (inside : ℕ → Bool) (c : Capability) → StaysFor follows inside c → StaysBut follows.trusted inside c
 change_stays follows inside c stays = go follows.purpose stays
@@ -162,14 +163,14 @@ bounds_runs os follows inside closed g s t turns same sound run by =
     (subst (λ (us : List Object). IsClosedBut follows.trusted us inside) (sym same) (closed_to_change os follows inside closed)) run
     (subst (λ (us : List Object). AreBy (with_free us inside) turns) (sym same) by))
 
--- the steps back from an object
+-- the steps back from an object to where they began, by the levels
 pub record IsBack (os : List Object) (follows : Links) (l : Levels) (o at : ℕ) (steps : List Step) : Type 0 where
   pub found : Found
   pub is : found_at l at ≡ Some found
   pub path : IsPath os follows at (reverse steps) o
   pub count : (g : Found) → found_at l o ≡ Some g → found.level + length steps ≡ g.level
 
--- All was searched.
+-- the parameters: all levels were searched
 module _ (os : List Object) (follows : Links) (starts : List ℕ) (level : ℕ) (l : Levels) (over : l.greatest < level)
     (searched : IsSearched os follows starts level l) where
   continues_on : (n k : ℕ) → IsFoundIn l n k → (s : Step) → IsFrom os follows n s → IsFoundIn l s.to (k + 1)
@@ -191,7 +192,7 @@ module _ (os : List Object) (follows : Links) (starts : List ℕ) (level : ℕ) 
   some_found : (n : ℕ) → IsTrue (is_some (found_at l n)) → (f : Found) × (found_at l n ≡ Some f)
   some_found n is = some_of (found_at l n) is
 
-  -- a number that was found is in each closed set that contains the starts
+  -- a found number is in each closed set that contains the starts
   found_inside : (other : ℕ → Bool) → IsClosedFor follows os other → All (λ p. IsTrue (other p)) starts → (k n : ℕ) (f : Found) →
       found_at l n ≡ Some f → f.level < k → IsTrue (other n)
   found_inside other closed begins zero n f is lt = absurd (omega (arith, lt))
@@ -202,7 +203,7 @@ module _ (os : List Object) (follows : Links) (starts : List ℕ) (level : ℕ) 
       (found_inside other closed begins k after.step.from after.before after.from (omega (arith, lt, after.level)))))
       (searched.linked n f is)
 
-  -- so the set of found numbers is the least of them
+  -- the found numbers are the least closed set with the starts
   pub is_reach : (inside : ℕ → Bool) → ((n : ℕ) → inside n ≡ is_some (found_at l n)) → IsReach os follows starts inside
   is_reach inside same = record {
     closed = closed_by_steps os follows inside (λ s step member.
@@ -215,7 +216,7 @@ module _ (os : List Object) (follows : Links) (starts : List ℕ) (level : ℕ) 
         found_inside other closed begins (found.0.level + 1) n found.0 found.1 (omega arith);
   }
 
-  -- there is only one least set
+  -- there is only one least closed set
   pub only_reach : (inside : ℕ → Bool) → IsReach os follows starts inside → (o : ℕ) → inside o ≡ is_some (found_at l o)
   only_reach inside reach o =
       let found = is_reach (λ n. is_some (found_at l n)) (λ n. refl) in
@@ -228,7 +229,7 @@ module _ (os : List Object) (follows : Links) (starts : List ℕ) (level : ℕ) 
   back_first o some = grind (arith, nat_tests)
 
   module _ (o at : ℕ) (steps : List Step) (back : IsBack os follows l o at steps) where
-    -- the step by which a number was found
+    -- `step` is the step by which the number was found
     step_is : (p : Option Step) → option_and_then (λ (f : Found). f.step) (found_at l at) ≡ p → back.found.step ≡ p
     step_is p is = ap (λ (q : Option Found). option_and_then (λ (f : Found). f.step) q) (sym back.is) ∙ is
 
@@ -244,7 +245,7 @@ module _ (os : List Object) (follows : Links) (starts : List ℕ) (level : ℕ) 
         → level_of (found_at l step.from) < level_of (found_at l at)
     back_level step is level_of level_is = grind (arith, nat_tests, after_of, same_Some, step_is)
 
-    -- the beginning of a shortest chain
+    -- if the steps back end at a start, they are a shortest chain
     pub back_whole : option_and_then (λ (f : Found). f.step) (found_at l at) ≡ None → (g : Found) → found_at l o ≡ Some g →
         IsShortest os follows starts (reverse steps) o
     back_whole none g is = ⊎_elim (λ first. record {

@@ -1,4 +1,4 @@
--- What holds while numbers are found by steps.
+-- Finding numbers by steps, level by level.
 use Rattle.reach.proofs.Names.{nat_tests, ℕ, max, zero, suc, true, false, is_some, Option, None, Some, List, [], length, length-set, slice_set, inl, inr}
 use Rattle.reach.proofs.Names.{⊎_elim, refl, sym, ap, arith, get_or-set_same, get_or-set_other, same_Some, Capability, Void, Object, is_free, content_at}
 use Rattle.reach.proofs.Names.{owner_at, Found, Levels, Step, Way, Conveys, Begins, FindsBy, IsBy, IsFoundBy, IsHeldIn, IsOwnedBelow, IsTheStep, found_at}
@@ -6,13 +6,13 @@ use Rattle.reach.proofs.Names.{missing, slice_index_or, Links}
 use Rattle.std.proofs.Common.{◌≡◌, ◌≢◌, ◌⊎◌, ◌+◌, ◌<◌, ◌≤◌, ◌∷◌, ◌∙◌}
 use Rattle.reach.specs.declared.step.Way.TheVariants as way
 
--- at most all numbers are missing
+-- the count of missing numbers is at most that of all numbers
 pub missing_most : {X : Type 0} (xs : List (Option X)) → missing xs ≤ length xs
 missing_most [] = omega arith
 missing_most (None ∷ xs) = let rest : missing xs ≤ length xs = missing_most xs in omega (arith, rest)
 missing_most (Some x ∷ xs) = let rest : missing xs ≤ length xs = missing_most xs in omega (arith, rest)
 
--- finding one more number
+-- if one more number is found, the count of missing numbers falls by one
 pub missing_fewer : {X : Type 0} (xs : List (Option X)) (n : ℕ) (x : X) → n < length xs → slice_index_or xs n None ≡ None →
     missing (slice_set xs n (Some x)) + 1 ≡ missing xs
 missing_fewer [] n x lt none = absurd (omega (arith, lt))
@@ -24,7 +24,7 @@ missing_fewer (Some y ∷ xs) (suc n) x lt none = missing_fewer xs n x (omega (a
 pub some_of : {X : Type 0} (o : Option X) → is_some o ≡ true → (x : X) × (o ≡ Some x)
 some_of {X} o is = grind (arith, nat_tests)
 
--- a number is found
+-- the parameters: a number that wasn't found before is found now
 module _ (old new : Levels) (number : ℕ) (f : Found) (none : found_at old number ≡ None) (lt : number < length old.found.items)
     (set : new.found.items ≡ slice_set old.found.items number (Some f)) where
   found_here : found_at new number ≡ Some f
@@ -61,7 +61,7 @@ module _ (old new : Levels) (number : ℕ) (f : Found) (none : found_at old numb
     work = omega (arith, found_work, same, le);
   }
 
--- nothing is found again
+-- a number that was found before isn't found again
 pub begun_before : (number : ℕ) (f : Found) (l : Levels) → found_at l number ≡ Some f → Begins number l l
 begun_before number f l is = grind (arith, nat_tests)
 
@@ -76,7 +76,7 @@ added_before step level f l is = record {
   work = omega arith;
 }
 
--- no steps find nothing
+-- if there are no steps, nothing is found
 pub finds_none : (By : Step → Type 0) (level : ℕ) (l : Levels) → ((s : Step) → By s → ⊥) → FindsBy By level l l
 finds_none By level l none = grind (arith, nat_tests)
 
@@ -89,7 +89,7 @@ found_more P Q level n f more found = record {
   by = more found.step found.by;
 }
 
--- the same steps, described in another way
+-- if P and Q hold of the same steps, they find the same numbers
 pub finds_same : (P Q : Step → Type 0) (level : ℕ) (a b : Levels) → ((s : Step) → P s → Q s) → ((s : Step) → Q s → P s) →
     FindsBy P level a b → FindsBy Q level a b
 finds_same P Q level a b there back finds = record {
@@ -102,7 +102,7 @@ finds_same P Q level a b there back finds = record {
   work = finds.work;
 }
 
--- some steps, and then others
+-- following some steps and then the others follows all of them
 pub finds_both : (P Q R : Step → Type 0) (level : ℕ) (a b c : Levels) → ((s : Step) → P s → R s) → ((s : Step) → Q s → R s) →
     ((s : Step) → R s → P s ⊎ Q s) → FindsBy P level a b → FindsBy Q level b c → FindsBy R level a c
 finds_both P Q R level a b c from_first from_next either first next = record {
@@ -117,14 +117,14 @@ finds_both P Q R level a b c from_first from_next either first next = record {
   work = omega (arith, first.work, next.work);
 }
 
--- the step by a capability
+-- following a capability finds the object that it conveys
 pub finds_by : (follows : Links) (from : ℕ) (by : Way) (c : Capability) (to level : ℕ) (a b : Levels) → Conveys follows c to →
     FindsBy (IsTheStep (record { from = from; way = by; to = to })) level a b → FindsBy (IsBy follows from by c) level a b
 finds_by follows from by c to level a b conveys = finds_same (IsTheStep (record { from = from; way = by; to = to }))
     (IsBy follows from by c) level a b
     (λ s is. (is.0, is.1, rw is.2 conveys)) (λ s is. (is.0, is.1, same_Some s.to to (sym is.2.2 ∙ conveys.2)))
 
--- one more capability of a list
+-- following the first i capabilities and then the next follows the first i + 1
 pub held_next : (follows : Links) (slots : List Capability) (i from level : ℕ) (a b c : Levels) →
     FindsBy (IsHeldIn follows slots i from) level a b → FindsBy (IsBy follows from (way.Slot i (slice_index_or slots i Void))
     (slice_index_or slots i Void)) level b c → FindsBy (IsHeldIn follows slots (i + 1) from) level a c
@@ -134,7 +134,7 @@ held_next follows slots i from level a b c first next = finds_both (IsHeldIn fol
     (λ s held. (held.0, omega (arith, held.1), held.2)) (λ s by. (i, omega arith, by))
     grind (arith, nat_tests) first next
 
--- one more number that a bank may own
+-- following the first i numbers that a bank may own and then the next follows the first i + 1
 pub owned_next_step : (os : List Object) (i bank level : ℕ) (step : Step) (a b c : Levels) → step.from ≡ bank → step.way ≡ way.Owner →
     step.to ≡ i → is_free (content_at os i) ≡ false → owner_at os i ≡ bank → FindsBy (IsOwnedBelow os i bank) level a b →
     FindsBy (IsTheStep step) level b c → FindsBy (IsOwnedBelow os (i + 1) bank) level a c

@@ -1,10 +1,10 @@
--- The numbers of all processes.
+-- Listing the numbers of all processes.
 use Rattle.reach.proofs.Names.{ℕ, false, true, List, [], length, inl, inr, ⊎_elim, refl, sym, subst, arith, IsTrue, Contains, cases_lt, Object, is_root}
 use Rattle.reach.proofs.Names.{is_process, Contains-append_left, Contains-push, Contains-push_cases}
 use Rattle.std.proofs.Common.{◌≡◌, ◌↔◌, ◌+◌, ◌<◌, ◌≤◌, ◌∷◌, ◌++◌, ◌∙◌}
 use Rattle.reach.proofs.Members.{known}
 
--- the processes below a number
+-- these are the processes among the numbers below `below`
 pub record Lists (os : List Object) (below : ℕ) (all : List ℕ) : Type 0 where
   pub some : (n : ℕ) → Contains all n → IsTrue (is_process os n)
   pub each : (n : ℕ) → n < below → IsTrue (is_process os n) → Contains all n

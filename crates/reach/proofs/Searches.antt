@@ -1,4 +1,4 @@
--- What holds while levels are followed.
+-- Searching level after level.
 use Rattle.reach.proofs.Names.{ℕ, Bool, zero, suc, true, false, Option, None, Some, List, [], length, replicate, inl, inr, ⊎_elim, sym, subst, arith, Contains}
 use Rattle.reach.proofs.Names.{cases_lt, nat_tests, get_or_default, length-replicate, Object, Found, Levels, Step, Begins, FindsBy, IsAfter, IsAt, IsFirst}
 use Rattle.reach.proofs.Names.{IsFoundBy, IsFoundIn, IsFrom, IsFromLevel, IsSearched, found_at, has_level, missing, slice_index_or, cases_eq, get_or-set_other}
@@ -9,7 +9,7 @@ use Rattle.reach.proofs.Finding.{finds_both, finds_same, missing_most}
 level_of : (o : Option Found) (f : Found) (k : ℕ) → o ≡ Some f → f.level ≡ k → has_level o k ≡ true
 level_of o f k is at = grind (arith, nat_tests)
 
--- the numbers below i that are at the level were followed
+-- the numbers below i at this level have been followed
 module _ (os : List Object) (follows : Links) (start now : Levels) (level i : ℕ)
     (first : FindsBy (IsFromLevel os follows start level i) (level + 1) start now) where
   at_once : (n : ℕ) → IsAt now n level → IsAt start n level
@@ -32,7 +32,7 @@ module _ (os : List Object) (follows : Links) (start now : Levels) (level i : �
         | inr past ↦ grind (arith, nat_tests, level_of)
       ]) first
 
--- the first numbers are found
+-- the first i of the starts are found, at level 0
 pub record Begun (os : List Object) (starts : List ℕ) (i : ℕ) (l : Levels) : Type 0 where
   pub count : length l.found.items ≡ length os
   pub begun : (k d : ℕ) → k < i → IsFoundIn l (slice_index_or starts k d) 0
@@ -83,7 +83,7 @@ found_below [] n f is = absurd (cc)
 found_below (x ∷ xs) zero f is = omega arith
 found_below (x ∷ xs) (suc n) f is = let later : n < length xs = found_below xs n f is in omega (arith, later)
 
--- one more level was followed
+-- the parameters: one more level was followed
 module _ (os : List Object) (follows : Links) (starts : List ℕ) (level : ℕ) (old new : Levels)
     (searched : IsSearched os follows starts level old)
     (finds : FindsBy (IsFromLevel os follows old level (length os)) (level + 1) old new) where
@@ -113,7 +113,7 @@ module _ (os : List Object) (follows : Links) (starts : List ℕ) (level : ℕ) 
   pub searched_next : IsSearched os follows starts (level + 1) new
   searched_next = grind (arith, nat_tests, kept_in, after_before, after_now, continues_now, deepest_now)
 
--- the set of some numbers
+-- ---- the set of a list of numbers
 
 marked_more : (marks : List Bool) (x n : ℕ) → x < length marks → is_marked (slice_set marks x true) n ≡ (is_marked marks n || (n == x))
 marked_more marks x n lt = elim (cases_eq n x) [
@@ -127,12 +127,12 @@ marked_more marks x n lt = elim (cases_eq n x) [
     or_other : (b : Bool) (n x : ℕ) → n ≢ x → (b || (n == x)) ≡ b
     or_other b n x other = grind (arith, nat_tests)
 
--- the set of the first of some numbers
+-- the set of the first `at` numbers of a list
 pub record IsSetOf (numbers : List ℕ) (at total : ℕ) (set : List Bool) : Type 0 where
   pub count : length set ≡ total
   pub each : (n : ℕ) → is_marked set n ≡ is_member (take at numbers) n
 
--- a search that follows no marked number is one that follows none of these numbers
+-- if the marked numbers are the trusted ones, a search that doesn't follow marked numbers is the search without the trusted ones
 pub searched_without : (os : List Object) (p : Purpose) (trusted starts : List ℕ) (marks : List Bool) (level : ℕ) (l : Levels)
     → ((n : ℕ) → is_marked marks n ≡ is_member trusted n) → IsSearched os (links p (is_marked marks)) starts level l
     → IsSearched os (links p (is_member trusted)) starts level l

@@ -1,4 +1,4 @@
--- The objects that can change an object.
+-- Which objects can change an object.
 use Rattle.reach.proofs.Names.{nat_tests, ℕ, zero, suc, Bool, true, false, not, List, [], length, slice_set, slice_index_or, inl, inr, ⊎_elim, refl, sym, ap}
 use Rattle.reach.proofs.Names.{subst, arith, IsTrue, All, Contains, is_marked, Object, is_free, is_bank, content_at, owner_at, is_process, AreSoundObjects}
 use Rattle.reach.proofs.Names.{AddsOwners, AllChange, Grows, HasOwners, IsClosedAt, LeadsInto, Widens, others, unmarked, AreChangers, ConveysInto, slots_in}
@@ -14,7 +14,7 @@ reach_is_change os follows inside n o reach = (
   λ change. change inside reach.closed (reach.begins 0 0 (omega arith)),
 )
 
--- fewer numbers aren't marked
+-- marking a number that wasn't marked leaves one fewer unmarked
 pub marked_more : (marks : List Bool) (n : ℕ) → n < length marks → is_marked marks n ≡ false →
     unmarked (slice_set marks n true) + 1 ≡ unmarked marks
 marked_more [] n lt none = absurd (omega (arith, lt))
@@ -23,7 +23,7 @@ marked_more (true ∷ marks) zero lt none = absurd (cc)
 marked_more (true ∷ marks) (suc n) lt none = marked_more marks n (omega (arith, lt)) none
 marked_more (false ∷ marks) (suc n) lt none = let rest = marked_more marks n (omega (arith, lt)) none in omega (arith, rest)
 
--- a marked number stays marked as another is
+-- marking another number leaves a marked number marked
 marked_kept : (marks : List Bool) (n m : ℕ) → IsTrue (is_marked marks m) → IsTrue (is_marked (slice_set marks n true) m)
 marked_kept [] n m is = is
 marked_kept (b ∷ marks) zero zero is = refl
@@ -51,7 +51,7 @@ bank_there (content.Node slots) is = refl
 bank_there (content.Root root) is = refl
 bank_there (content.Annex registers) is = refl
 
--- a capability in a slot that leads into a set
+-- if a capability in a slot leads into a set, so does its holder
 pub slots_lead : (os : List Object) (follows : Links) (n : ℕ) (slots : List Capability) (inside : ℕ → Bool) →
     slots_in (content_at os n) ≡ slots → (i : ℕ) × ConveysInto follows inside (slice_index_or slots i Void) → LeadsInto os follows inside n
 slots_lead os follows n slots inside is at other closed member = at.1 other
@@ -63,7 +63,7 @@ stays_at follows other [] i all = void_stays follows other
 stays_at follows other (c ∷ cs) zero all = all 0 Void (omega arith)
 stays_at follows other (c ∷ cs) (suc i) all = stays_at follows other cs i (λ k d lt. all (suc k) d (omega (arith, lt)))
 
--- no slot conveys into the set, and the object has no other authority
+-- if the capabilities in an object's slots stay inside a set, and it has no other authority, the set is closed at this object
 pub slots_settle : (os : List Object) (n : ℕ) (slots : List Capability) (follows : Links) (other : ℕ → Bool) → is_process os n ≡ false →
     slots_in (content_at os n) ≡ slots → All (StaysFor follows other) slots → IsClosedAt os follows other n
 slots_settle os n slots follows other no_root is all = record {
@@ -135,7 +135,7 @@ module _ (os : List Object) (number at : ℕ) (old mid : List Bool) (adds : Adds
         let both : false ≡ true = sym none ∙ marked in absurd (cc)) (λ later. later.1) adds.begun;
   }
 
--- objects are added that lead into the set
+-- at first nothing is added
 pub grows_none : (os : List Object) (follows : Links) (l : List Bool) → Grows os follows l l
 grows_none os follows l = record { count = refl; kept = λ n is. is; each = λ o all. all; owners = λ has. has }
 
@@ -194,7 +194,7 @@ module _ (os : List Object) (follows : Links) (i : ℕ) (grew : Bool) (old mid :
         settled = λ other. absurd (cc);
       }
 
--- the members so far, each of which can change the object
+-- the members so far; each of them can change the object
 pub record Sources (os : List Object) (follows : Links) (o : ℕ) (grew : Bool) (marks : List Bool) : Type 0 where
   pub count : length marks ≡ length os
   pub object : IsTrue (is_marked marks o)
@@ -240,12 +240,12 @@ sources_grow os follows o old new sources grows = record {
   settled = λ other. absurd (cc);
 }
 
--- how much is left to do
+-- a bound on the rounds left: how many numbers are unmarked, and one more if the last round added some
 abbrev pub work : Bool → List Bool → ℕ
 work true marks = unmarked marks + 1
 work false marks = unmarked marks
 
--- a number past all objects has no authority
+-- a number without an object has no authority
 past_closed : (os : List Object) (follows : Links) (inside : ℕ → Bool) (n : ℕ) → length os ≤ n → IsClosedAt os follows inside n
 past_closed [] follows inside n past = record {
   annexes = λ is. absurd (cc);
@@ -266,7 +266,7 @@ module _ (os : List Object) (follows : Links) (o : ℕ) (marks : List Bool) (sou
       is_other true is = absurd (cc)
       is_other false is = refl
 
-  -- no other number has authority over a member
+  -- after the last round no other number has authority over a member
   pub others_closed : IsClosedFor follows os (others (is_marked marks))
   others_closed = record {
     annexes = λ p out is. (settled_at p out).annexes is;
@@ -282,7 +282,7 @@ module _ (os : List Object) (follows : Links) (o : ℕ) (marks : List Bool) (sou
           let both : not true ≡ true = ap not (sym owner) ∙ out in absurd (cc)
       unowned b n out there owned false is = ap not is
 
-  -- so the members are all numbers that can change the object
+  -- so a number is a member exactly if it can change the object
   pub sources_are : (n : ℕ) → IsTrue (is_marked marks n) ↔ CanChange os follows n o
   sources_are n = (sources.each n, λ can. member can (is_marked marks n) refl)
     where
@@ -292,14 +292,14 @@ module _ (os : List Object) (follows : Links) (o : ℕ) (marks : List Bool) (sou
           let out : not (is_marked marks o) ≡ true = can (others (is_marked marks)) others_closed (ap not is) in
           let both : not true ≡ true = ap not (sym sources.object) ∙ out in absurd (cc)
 
--- those of the first numbers that are members
+-- `set` has those of the first `at` numbers that are members of `inside`
 pub record Picks (inside : List Bool) (numbers : List ℕ) (at : ℕ) (set : List Bool) : Type 0 where
   pub count : length set ≡ length inside
   pub some : (n : ℕ) → IsTrue (is_marked set n) → Contains numbers n × IsTrue (is_marked inside n)
   pub all : (k d : ℕ) → k < at → IsTrue (is_marked inside (slice_index_or numbers k d)) →
       IsTrue (is_marked set (slice_index_or numbers k d))
 
--- those of some numbers that can change the object
+-- the set of those among some numbers that can change the object
 pub changers_are : (os : List Object) (follows : Links) (starts : List ℕ) (o : ℕ) (inside set : List Bool) →
     ((n : ℕ) → IsTrue (is_marked inside n) ↔ CanChange os follows n o) → ((n : ℕ) →
     IsTrue (is_marked set n) ↔ (Contains starts n × IsTrue (is_marked inside n))) → AreChangers os follows starts o (is_marked set)

@@ -1,4 +1,4 @@
--- Lines of items without numbers.
+-- Lines of items that have no numbers.
 use Rattle.reach.proofs.Names.{common_steps, ℕ, add-one, List, length, get_or, take, drop, sym, ap, append-nil, arith, flat_map, flat_map-append}
 use Rattle.reach.proofs.Names.{take-append-drop, take_all, take-suc}
 use Rattle.std.proofs.Common.{◌≡◌, ◌+◌, ◌<◌, ◌≤◌, ◌++◌, ◌∙◌}

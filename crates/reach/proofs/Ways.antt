@@ -1,4 +1,4 @@
--- The ways from an object, by what it holds.
+-- The steps from an object, by its content.
 use Rattle.reach.proofs.Names.{common_steps, nat_tests, ℕ, zero, suc, List, [], length, inl, inr, refl, sym, ap, subst, arith, Capability, Void, Content}
 use Rattle.reach.proofs.Names.{Object, Root, slots_in, content_at, Levels, Step, Way, Conveys, IsWay, FindsBy, IsBy, IsFrom, IsHeldIn, IsOwnedBelow, IsTheStep}
 use Rattle.reach.proofs.Names.{slice_index_or, named, None, Some, Links}
@@ -8,7 +8,7 @@ use Rattle.reach.specs.declared.step.Way.TheVariants as way
 use Rattle.reach.proofs.Finding.{finds_both, finds_same}
 use Rattle.reach.proofs.Members.{known}
 
--- the steps from a number with a content
+-- the parameters: a number with its content, and a step
 module _ (os : List Object) (follows : Links) (n : ℕ) (x : Content Capability) (is : content_at os n ≡ x) (s : Step) where
   pub way_from : IsFrom os follows n s → IsWay os follows n x s.way s.to
   way_from from = subst (λ (y : Content Capability). IsWay os follows n y s.way s.to) is
@@ -17,7 +17,7 @@ module _ (os : List Object) (follows : Links) (n : ℕ) (x : Content Capability)
   pub from_way : s.from ≡ n → IsWay os follows n x s.way s.to → IsFrom os follows n s
   from_way same by = grind (arith, nat_tests)
 
--- nothing past the end of a list conveys anything
+-- if a slot of a list conveys an object, its index is within the list
 conveys_within : (follows : Links) (slots : List Capability) (i m : ℕ) → Conveys follows (slice_index_or slots i Void) m → i < length slots
 conveys_within follows [] i m conveys = let none : None ≡ Some m = conveys.2 in absurd (cc)
 conveys_within follows (c ∷ cs) zero m conveys = omega arith
@@ -29,7 +29,7 @@ void_conveys : (follows : Links) (c : Capability) (m : ℕ) → Void ≡ c → C
 void_conveys follows c m is conveys = let none : None ≡ Some m = subst (λ (d : Capability). named d ≡ Some m) (sym is) conveys.2 in
     absurd (cc)
 
--- a capability of a list
+-- the parameters: a capability in a list that conveys an object
 module _ (follows : Links) (slots : List Capability) (i : ℕ) (c : Capability) (m : ℕ) (is : slice_index_or slots i Void ≡ c)
     (conveys : Conveys follows c m) where
   pub held_way : (from : ℕ) (s : Step) → s.from ≡ from → s.way ≡ way.Slot i c → s.to ≡ m → IsHeldIn follows slots (length slots) from s
@@ -40,7 +40,7 @@ module _ (follows : Links) (slots : List Capability) (i : ℕ) (c : Capability) 
         (same, by ∙ ap (way.Slot i) (sym is), subst (λ (k : ℕ). Conveys follows (slice_index_or slots i Void) k) (sym to) conveys_it),
       )
 
--- the ways from a list of slots
+-- the steps from an object with slots
 slots_held : (os : List Object) (follows : Links) (n : ℕ) (slots : List Capability) (w : Way) (m : ℕ) →
     IsWay os follows n (content.Node slots) w m → (s : Step) → s.from ≡ n → s.way ≡ w → s.to ≡ m → IsHeldIn follows slots (length slots) n s
 slots_held os follows n slots (way.Space c) m by s same is to = absurd (void_conveys follows c m by.0 by.1)
@@ -54,12 +54,12 @@ registers_held os follows n slots (way.Space c) m by s same is to = absurd (void
 registers_held os follows n slots (way.Slot i c) m by s same is to = held_way follows slots i c m by.0 by.1 n s same is to
 registers_held os follows n slots w m by s same is to = let wrong = by.0 in absurd (cc)
 
--- the ways from a bank
+-- the steps from a bank
 bank_owned : (os : List Object) (follows : Links) (n limit : ℕ) (w : Way) (m : ℕ) → IsWay os follows n (content.Bank limit) w m →
     (s : Step) → s.from ≡ n → s.way ≡ w → s.to ≡ m → IsOwnedBelow os (length os) n s
 bank_owned os follows n limit w m by s same is to = grind (arith, common_steps, known)
 
--- the ways from a process: its annex, its space, and its registers
+-- the steps from a process: to its annex, its space, and what its registers hold
 abbrev pub annex_step : ℕ → Root Capability → Step
 annex_step n root = record { from = n; way = way.Annex; to = root.annex }
 
@@ -74,7 +74,7 @@ process_ways : (os : List Object) (follows : Links) (n : ℕ) (root : Root Capab
     → IsOfProcess follows n root (slots_in (content_at os root.annex)) s
 process_ways os follows n root w m by s same is to = grind (arith, common_steps, held_way)
 
--- All that an object has authority over was found.
+-- all that an object has authority over was found
 module _ (os : List Object) (follows : Links) (n level : ℕ) (a b : Levels) where
   pub finds_of_slots : (slots : List Capability) → content_at os n ≡ content.Node slots →
       FindsBy (IsHeldIn follows slots (length slots) n) level a b → FindsBy (IsFrom os follows n) level a b

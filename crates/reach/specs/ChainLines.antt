@@ -37,27 +37,30 @@ step_text format.Json os n way.Owner m = kind_object (codes "bank") n (member.Nu
 step_text format.Json os n (way.Space c) m = kind_object (codes "process") n (member.Capability key.Space c ∷ [])
 step_text f os n (way.Slot i c) m = held_text f (kind_of (content_at os n)) n (place_of (content_at os n)) i c
 
+-- the line of a step
 abbrev pub step_line : Format → List Object → Step → List ℕ
 step_line f os s = line_of (step_text f os s.from s.way s.to)
 
--- a chain to an object, and the line of the object as `show` begins it
+-- a line for each step of a chain, then the line of the object that it leads to
 abbrev pub steps_text : Format → List Object → List Step → ℕ → List ℕ
 steps_text f os steps o = flat_map (step_line f os) steps ++ line_of (object_text f o (object_at os o))
 
--- if there is no chain: `cannot change page 48`, or `cannot read page 48`
+-- the words if there is no chain: `cannot change` or `cannot read`
 abbrev pub denial_of : Purpose → List ℕ
 denial_of purpose.Change = codes "cannot change"
 denial_of purpose.Read = codes "cannot read"
 
--- the same in JSON: `"can_change": false`
+-- the JSON key if there is no chain: `"can_change"` or `"can_read"`
 abbrev pub denied_key : Purpose → Key
 denied_key purpose.Change = key.CanChange
 denied_key purpose.Read = key.CanRead
 
+-- the line of an object that no chain leads to
 abbrev pub unchanged_text : Format → List Object → Purpose → ℕ → List ℕ
 unchanged_text format.Text os p o = spaced (denial_of p ∷ kind_of (content_at os o) ∷ decimal o ∷ [])
 unchanged_text format.Json os p o = kind_object (kind_of (content_at os o)) o (member.No (denied_key p) ∷ [])
 
+-- the lines of a chain to an object; if there is no chain, a line that says so
 unfoldable pub chain_text : Format → List Object → Purpose → ℕ → Option (Vec Step Global) → List ℕ
 chain_text f os p o None = line_of (unchanged_text f os p o)
 chain_text f os p o (Some steps) = steps_text f os steps.items o

@@ -1,4 +1,4 @@
--- What the definitions of chains say.
+-- Laws of chains.
 use Rattle.reach.specs.Names.{ℕ, Bool, List, IsTrue, Object, IsClosedBut, IsReadClosedBut, []}
 use Rattle.std.specs.Prelude.{◌↔◌, ◌∷◌}
 use Rattle.reach.specs.Reached.{CanChange, IsReach}
@@ -17,7 +17,8 @@ abbrev pub StepsAreAuthority : Type 0
 StepsAreAuthority = (os : List Object) (follows : Links) (inside : ℕ → Bool) →
     IsClosedFor follows os inside ↔ ((s : Step) → IsStep os follows s → IsTrue (inside s.from) → IsTrue (inside s.to))
 
--- To change: a set closed except for trusted processes. To read: a set closed for reading, except for these.
+-- A set is closed for the purpose to change exactly if it is closed but for trusted processes; for the purpose to
+-- read, exactly if it is closed for reading but for these.
 abbrev pub ClosedSetsAre : Type 0
 ClosedSetsAre = (os : List Object) (trusted inside : ℕ → Bool) →
     (IsClosedFor (links purpose.Change trusted) os inside ↔ IsClosedBut trusted os inside)

@@ -1,4 +1,4 @@
--- Numbers that were found, level by level. No public clause cites this.
+-- Numbers that a search found, level by level: n is at level k if k steps lead to it. No public clause uses this.
 use Rattle.reach.specs.Names.{ℕ, Bool, false, Option, None, Some, List, length, slice_index_or, All, Contains}
 use Rattle.reach.specs.Names.{Capability, Void, Object, is_free, named, content_at, owner_at}
 use Rattle.std.specs.Prelude.{◌≡◌, ◌⊎◌, ◌==◌, ◌+◌, ◌<◌, ◌≤◌}
@@ -17,23 +17,25 @@ found_at l n = slice_index_or l.found.items n None
 abbrev pub IsFound : Levels → ℕ → Type 0
 IsFound l n = (f : Found) × (found_at l n ≡ Some f)
 
--- n is found in at most `k` steps
+-- n was found at level k or below
 abbrev pub IsFoundIn : Levels → ℕ → ℕ → Type 0
 IsFoundIn l n k = (f : Found) × (found_at l n ≡ Some f) × (f.level ≤ k)
 
--- n is found at level `k`
+-- n was found at level k
 abbrev pub IsAt : Levels → ℕ → ℕ → Type 0
 IsAt l n k = (f : Found) × (found_at l n ≡ Some f) × (f.level ≡ k)
 
+-- whether this is at level k
 abbrev pub has_level : Option Found → ℕ → Bool
 has_level None k = false
 has_level (Some f) k = f.level == k
 
--- the search began with n; or found it, at a level, by a step that has the property `By`
+-- the search began with n: its level is 0
 pub record IsFirst (n : ℕ) (f : Found) : Type 0 where
   pub level : f.level ≡ 0
   pub none : f.step ≡ None
 
+-- n was found at this level, by a step with the property `By`
 pub record IsFoundBy (By : Step → Type 0) (level n : ℕ) (f : Found) : Type 0 where
   pub at : f.level ≡ level
   pub step : Step
@@ -41,7 +43,7 @@ pub record IsFoundBy (By : Step → Type 0) (level n : ℕ) (f : Found) : Type 0
   pub to : step.to ≡ n
   pub by : By step
 
--- a number is added with which the search begins
+-- `number` was added at level 0, unless it was found before
 pub record Begins (number : ℕ) (old new : Levels) : Type 0 where
   pub count : length new.found.items ≡ length old.found.items
   pub kept : (n : ℕ) (f : Found) → found_at old n ≡ Some f → found_at new n ≡ Some f
@@ -50,7 +52,7 @@ pub record Begins (number : ℕ) (old new : Levels) : Type 0 where
   pub greatest : new.greatest ≡ old.greatest
   pub work : missing new.found.items ≤ missing old.found.items
 
--- all numbers to which steps with the property `By` lead are found; the new ones are at this level
+-- every number that a step with the property `By` leads to was added at this level, unless it was found before
 pub record FindsBy (By : Step → Type 0) (level : ℕ) (old new : Levels) : Type 0 where
   pub count : length new.found.items ≡ length old.found.items
   pub kept : (n : ℕ) (f : Found) → found_at old n ≡ Some f → found_at new n ≡ Some f
@@ -60,34 +62,38 @@ pub record FindsBy (By : Step → Type 0) (level : ℕ) (old new : Levels) : Typ
   pub within : (n : ℕ) (f : Found) → found_at new n ≡ Some f → (found_at old n ≡ Some f) ⊎ (f.level ≤ new.greatest)
   pub work : missing new.found.items + new.greatest ≤ missing old.found.items + old.greatest
 
--- a capability names one of the first `count` numbers, or nothing
+-- the capability names one of the first `count` numbers, or nothing
 abbrev pub NamesWithin : ℕ → Capability → Type 0
 NamesWithin count c = elim (named c) [ None ↦ Unit {0} | Some n ↦ n < count ]
 
--- which steps: this one; one by a capability; one by a capability of a list; one from a bank to what it owns
+-- s is this step
 abbrev pub IsTheStep : Step → Step → Type 0
 IsTheStep step s = (s.from ≡ step.from) × (s.way ≡ step.way) × (s.to ≡ step.to)
 
+-- s goes from `from` by this capability
 abbrev pub IsBy : Links → ℕ → Way → Capability → Step → Type 0
 IsBy follows from by c s = (s.from ≡ from) × (s.way ≡ by) × Conveys follows c s.to
 
+-- s goes by one of the first `count` capabilities in these slots
 abbrev pub IsHeldIn : Links → List Capability → ℕ → ℕ → Step → Type 0
 IsHeldIn follows slots count from s = (i : ℕ) × (i < count)
     × IsBy follows from (way.Slot i (slice_index_or slots i Void))
     (slice_index_or slots i Void) s
 
+-- s goes from a bank to an object that it owns, whose number is below `count`
 abbrev pub IsOwnedBelow : List Object → ℕ → ℕ → Step → Type 0
 IsOwnedBelow os count bank s = (s.from ≡ bank) × (s.way ≡ way.Owner) × (s.to < count) ×
     (is_free (content_at os s.to) ≡ false) × (owner_at os s.to ≡ bank)
 
--- the steps from number n; the steps from the numbers of a level
+-- s goes from number n
 abbrev pub IsFrom : List Object → Links → ℕ → Step → Type 0
 IsFrom os follows n s = (s.from ≡ n) × IsStep os follows s
 
+-- s is a step of the search from a number found at this level
 abbrev pub IsFromLevel : List Object → Links → Levels → ℕ → ℕ → Step → Type 0
 IsFromLevel os follows l level count s = IsAt l s.from level × (s.from < count) × IsStep os follows s
 
--- a number was found by a step from one that was found in one step fewer
+-- n was found by a step from a number of the level before
 pub record IsAfter (os : List Object) (follows : Links) (l : Levels) (n : ℕ) (f : Found) : Type 0 where
   pub step : Step
   pub is : f.step ≡ Some step
@@ -97,7 +103,7 @@ pub record IsAfter (os : List Object) (follows : Links) (l : Levels) (n : ℕ) (
   pub from : found_at l step.from ≡ Some before
   pub level : f.level ≡ before.level + 1
 
--- the numbers with which the search begins were found, and those below a level were followed
+-- the starts were found, and all numbers below this level were followed
 pub record IsSearched (os : List Object) (follows : Links) (starts : List ℕ) (level : ℕ) (l : Levels) : Type 0 where
   pub count : length l.found.items ≡ length os
   pub begins : All (λ p. IsFoundIn l p 0) starts

@@ -1,4 +1,4 @@
--- The lines that print a closed set, with a reason for each member.
+-- The lines that print a closed set, and why members are in it.
 use Rattle.reach.specs.Names.{ℕ, Bool, false, not, List, [], codes, decimal, count_by, enumerate_from, flat_map}
 use Rattle.reach.specs.Names.{is_marked, Capability, Process, Start, Resume, Bank, Object, slots_in, capability_text}
 use Rattle.reach.specs.Names.{line_of, spaced, content_at, Format, Key, Member, key_text, number_line, text_object}
@@ -8,7 +8,7 @@ use Rattle.json_lines.specs.declared.key.Key.TheVariants as key
 use Rattle.json_lines.specs.declared.object.Member.TheVariants as member
 use Rattle.model.specs.declared.object.Content.TheVariants as content
 
--- the words with which `show` begins an object
+-- the words that `show` begins an object with
 abbrev pub words_of : ℕ → Object → List (List ℕ)
 words_of n o = elim o.content [
   | content.Free ↦ codes "free" ∷ decimal n ∷ []
@@ -20,7 +20,7 @@ words_of n o = elim o.content [
   | content.Bank limit ↦ codes "bank" ∷ decimal n ∷ codes "owner" ∷ decimal o.owner ∷ codes "limit" ∷ decimal limit ∷ []
 ]
 
--- how an object begins in JSON: `{"kind": "process", "number": 3`
+-- the beginning of an object in JSON: `{"kind": "process", "number": 3`
 abbrev pub kind_object : List ℕ → ℕ → List Member → List ℕ
 kind_object kind n rest = text_object (codes "kind") kind (member.Number key.Number n ∷ rest)
 
@@ -37,15 +37,16 @@ object_json n o = elim o.content [
       (member.Number key.Owner o.owner ∷ member.Number key.Limit limit ∷ [])
 ]
 
+-- the line of an object in a format
 abbrev pub object_text : Format → ℕ → Object → List ℕ
 object_text format.Text n o = spaced (words_of n o)
 object_text format.Json n o = object_json n o
 
--- the line of a member, and nothing for any other object
+-- the line of a member; nothing for any other object
 abbrev pub member_line : Format → List Bool → ℕ × Object → List ℕ
 member_line f marks p = if is_marked marks p.0 then line_of (object_text f p.0 p.1) else []
 
--- whether a capability of an object pulls another process or another bank into its set
+-- whether a capability of object n pulls another process or bank into the set
 abbrev pub pulls : ℕ → Capability → Bool
 pulls n (Process p) = not (p == n)
 pulls n (Start p key) = not (p == n)
@@ -60,13 +61,15 @@ held_text format.Text name n place i c = spaced
 held_text format.Json name n place i c = kind_object name n
     (member.Number place i ∷ member.Capability key.Capability c ∷ [])
 
+-- the line of a capability, if it pulls
 abbrev pub pull_line : Format → List ℕ → ℕ → Key → ℕ × Capability → List ℕ
 pull_line f name n place p = if pulls n p.1 then line_of (held_text f name n place p.0 p.1) else []
 
+-- a line for each of these capabilities that pulls
 abbrev pub pull_lines : Format → List ℕ → ℕ → Key → List Capability → List ℕ
 pull_lines f name n place capabilities = flat_map (pull_line f name n place) (enumerate_from 0 capabilities)
 
--- the lines of an object's capabilities that pull; a process has the registers of its annex
+-- a line for each capability of an object that pulls; a process has its annex's registers
 abbrev pub object_pulls : Format → List Object → ℕ → Object → List ℕ
 object_pulls f os n o = elim o.content [
   | content.Node slots ↦ pull_lines f (codes "node") n key.Slot slots
@@ -74,19 +77,20 @@ object_pulls f os n o = elim o.content [
   | _ ↦ []
 ]
 
+-- these lines, if the object is a member
 abbrev pub member_pulls : Format → List Object → List Bool → ℕ × Object → List ℕ
 member_pulls f os marks p = if is_marked marks p.0 then object_pulls f os p.0 p.1 else []
 
--- the members in rising order, and their count after a word
+-- the lines of the members in rising order, then this word and their count
 abbrev pub counted_text : Format → List ℕ → List Object → List Bool → List ℕ
 counted_text f word os marks = flat_map (member_line f marks) (enumerate_from 0 os)
     ++ line_of (number_line f word (count_by (λ b. b) marks))
 
--- processes, and their count
+-- the lines of processes, then `processes` and their count
 abbrev pub changers_text : Format → List Object → List Bool → List ℕ
 changers_text f os marks = counted_text f (codes "processes") os marks
 
--- the members, their count, and the capabilities that pull in processes and banks
+-- the lines of the members, `closed` and their count, then the capabilities that pull in processes and banks
 unfoldable pub reach_text : Format → List Object → List Bool → List ℕ
 reach_text f os marks = counted_text f (codes "closed") os marks
     ++ flat_map (member_pulls f os marks) (enumerate_from 0 os)

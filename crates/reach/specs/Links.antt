@@ -1,9 +1,9 @@
--- What a search follows, and the sets that it finds.
+-- What a search follows, and when a set is closed for it.
 use Rattle.reach.specs.Names.{ℕ, Bool, List, IsClosedBy, StaysBut, NamesBut, Capability, Object}
 use Rattle.reach.specs.declared.authority.Purpose.{Purpose}
 use Rattle.reach.specs.declared.authority.Purpose.TheVariants as purpose
 
--- the purpose of a search, and the trusted processes, whose start capabilities it doesn't follow
+-- what to search for, and the trusted processes, whose start capabilities are not followed
 pub record Links : Type 0 where
   pub purpose : Purpose
   pub trusted : ℕ → Bool
@@ -11,15 +11,15 @@ pub record Links : Type 0 where
 abbrev pub links : Purpose → (ℕ → Bool) → Links
 links p trusted = record { purpose = p; trusted = trusted }
 
--- a capability stays inside a set: to change nothing outside, or to read nothing outside
+-- a capability stays inside a set: to change, as in `confinement`; to read, as in `noninterference`
 abbrev pub StaysAs : Purpose → (ℕ → Bool) → (ℕ → Bool) → Capability → Type 0
 StaysAs purpose.Change trusted inside c = StaysBut trusted inside c
 StaysAs purpose.Read trusted inside c = NamesBut trusted inside c
 
--- the same for what a search follows
+-- a capability stays inside a set, for the purpose and the trusted processes of a search
 abbrev pub StaysFor : Links → (ℕ → Bool) → Capability → Type 0
 StaysFor l inside c = StaysAs l.purpose l.trusted inside c
 
--- a set closed for a purpose, except for trusted processes
+-- a set is closed for the purpose of a search, but for trusted processes
 abbrev pub IsClosedFor : Links → List Object → (ℕ → Bool) → Type 0
 IsClosedFor l os inside = IsClosedBy (StaysAs l.purpose l.trusted inside) os inside

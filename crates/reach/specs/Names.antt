@@ -1,4 +1,4 @@
--- The names of other crates that the definitions here cite.
+-- The names of other crates that the definitions here import.
 pub use Rattle.collections.specs.Marks.{is_marked}
 pub use Rattle.confinement.specs.Trusted.{IsClosedBut, IsConfinedBut, StartsOne, StaysBut}
 pub use Rattle.json_lines.specs.Objects.{key_text, number_line, text_object}

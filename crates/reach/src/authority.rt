@@ -10,16 +10,16 @@ ghost use Rattle.reach.specs.Links.{links};
 use collections::NumberSet;
 use model::{Access, Capability};
 
-/// What to search for.
+/// What a search is for.
 #[derive(Clone, Copy)]
 pub enum Purpose {
     /// All that the processes can ever change.
     Change,
-    /// All that the processes can ever read: weak capabilities are followed too.
+    /// All that the processes can ever read. Weak capabilities are followed too.
     Read,
 }
 
-// Whether a capability names nothing, or is read-only and weak.
+// Whether a capability names nothing, or is both read-only and weak.
 fn is_weak(capability: Capability) -> bool
     ensures { IsTrue result ↔ IsWeak capability }
 {
@@ -35,7 +35,7 @@ fn is_weak(capability: Capability) -> bool
     }
 }
 
-// Whether a search follows a capability: a weak one only if the purpose is to read.
+// Whether a search follows a capability. It follows a weak one only to find what can be read.
 fn is_followed(capability: Capability, purpose: Purpose) -> bool
     ensures { IsTrue result ↔ IsFollowed purpose capability }
 {
@@ -56,8 +56,8 @@ fn starts_one(capability: Capability, trusted: &NumberSet) -> bool
     }
 }
 
-/// Returns the number of the object that a capability lets its holder change, or read; `None` if there is no such
-/// object or the capability starts a trusted process.
+/// Returns the number of the object that a capability lets its holder change or read. Returns `None` if there is
+/// no such object, or if the capability starts a trusted process.
 pub(crate) fn authority_but(
     capability: Capability,
     purpose: Purpose,

@@ -12,10 +12,10 @@ use crate::step::Step;
 use model::Object;
 use std::alloc::{AllocError, Global};
 
-/// Finds a shortest chain of steps from one of the numbers `starts` to an object, first step first, in a sound world.
-/// No step uses a capability that starts a process of `trusted`. The chain is empty if the object is one of `starts`.
-/// Returns `None` if there is no chain: exactly if the object isn't in the set that `reach` finds for `purpose`,
-/// `starts` and `trusted`.
+/// Returns a shortest chain of steps from one of `starts` to an object, first step first, in a sound world. No step
+/// uses a capability that starts a process of `trusted`. The chain is empty if the object is one of `starts`.
+///
+/// Returns `None` exactly if the object isn't in the set that `reach` finds for `purpose`, `starts` and `trusted`.
 ///
 /// It follows each number once. `AllocError` means that memory ran out, which is tested, not proved.
 #[tactic(auto, using(crate::proofs::Chains::back_first))]

@@ -18,8 +18,8 @@ use collections::NumberSet;
 use model::{Capability, Content, Object};
 use std::alloc::{AllocError, Global};
 
-// Whether a capability lets its holder change, or read, a member of a set. One that starts a trusted process doesn't
-// count.
+// Whether a capability lets its holder change or read a member of a set. A capability that starts a trusted process
+// doesn't.
 fn conveys_into(
     capability: Capability,
     purpose: Purpose,
@@ -39,7 +39,7 @@ fn conveys_into(
     }
 }
 
-// Whether one of these capabilities has authority over a member of a set.
+// Whether one of these capabilities gives authority over a member of a set.
 fn some_convey_into(
     capabilities: &[Capability],
     purpose: Purpose,
@@ -101,8 +101,8 @@ fn leads_into(
     }
 }
 
-// Adds an object to a set, then its owner, the owner's owner, and so on up to a member. All that it adds are marked
-// to be followed.
+// Adds an object to a set, then its owner, the owner's owner, and so on up to a member. Marks all that it adds as
+// still to follow.
 fn add_owners(objects: &[Object], inside: &mut NumberSet, to_follow: &mut NumberSet, number: usize)
     requires sound { AreSoundObjects objects.now }
     requires count { length inside.old ≡ length objects.now }
@@ -167,7 +167,7 @@ fn add_all_leading(
     }
 }
 
-// Follows each marked member back to the objects that name it, adds these, and so on. Each is followed once.
+// Takes each member still to follow, and adds the objects that name it, until none is left.
 #[tactic(auto, using(crate::proofs::Sources::grows_none))]
 fn follow_back(
     objects: &[Object],
@@ -193,8 +193,8 @@ fn follow_back(
     }
 }
 
-// Goes over all objects once, and adds those that have authority over a member, with their owners.
-// Returns whether it added any.
+// Goes over all objects once. Adds those that have authority over a member, with their owners, and
+// returns whether it added any.
 fn widen(
     objects: &[Object],
     purpose: Purpose,
@@ -242,8 +242,8 @@ fn members_of(
     Ok(set)
 }
 
-// Returns all numbers that can ever change, or read, an object, without starting a trusted process. Fails only if
-// memory runs out.
+// Returns the set of all numbers that can ever change or read an object without starting a trusted process. Fails
+// only if memory runs out.
 fn sources(
     alloc: Global,
     objects: &[Object],
@@ -270,7 +270,7 @@ fn sources(
         &mut inside,
         &mut to_follow,
     );
-    // A pass that adds nothing proves that nothing is missing. Usually the first pass adds nothing.
+    // If a pass adds nothing, nothing is missing. Usually that is the first pass.
     let mut grew = true;
     while grew {
         grew = widen(objects, purpose, trusted, &mut inside, &mut to_follow);
@@ -278,9 +278,8 @@ fn sources(
     Ok(inside)
 }
 
-/// Returns those of the numbers `starts` that can ever change, or read, an object in a sound world: the object is in
-/// the set that `reach` finds for each of them, with `purpose` and `trusted`. It searches once, backwards from the
-/// object.
+/// Returns those of `starts` that can ever change or read an object in a sound world: the sets that `reach` finds
+/// for them contain the object. It searches once, backwards from the object.
 ///
 /// `AllocError` means that memory ran out, which is tested, not proved.
 pub fn changers(

@@ -12,19 +12,19 @@ use collections::NumberSet;
 use model::Object;
 use std::alloc::{AllocError, Global};
 
-/// Returns the least closed set that contains the numbers `starts`, in a sound world. A closed set contains the
-/// annexes of its processes, the objects that its banks own, and each object that a member holds a capability to. A
-/// capability that starts a process of `trusted` doesn't count; if the purpose is to change, a weak one doesn't count
-/// either.
+/// Returns the least closed set that contains `starts`, in a sound world. A closed set contains its processes'
+/// annexes, the objects that its banks own, and each object that a member holds a capability to. Two kinds of
+/// capabilities don't count: those that start a process of `trusted`, and, if the purpose is to change, weak ones.
 ///
 /// If the purpose is to read, the set is closed for reading: nothing outside determines an answer to its processes,
-/// except in turns that look outside or find the log full or the machine worn (crate `noninterference`).
+/// except in turns that look outside, or that are refused because the log is full or the machine worn (crate
+/// `noninterference`).
 ///
-/// Over any run of invocations, loads and stores by processes of the set, and by processes made from free numbers,
-/// objects outside the set that weren't free keep their content and their owner (EROS: confinement). Exceptions:
-/// capabilities to members may become void, and the root and the annex of a process of `trusted` receive messages.
-/// The same holds again from any later moment at which the set is closed in this sense, whatever others did
-/// meanwhile.
+/// The authority bound (EROS: confinement) holds over any run of invocations, loads and stores by processes of the
+/// set, and by processes that they make from free numbers: objects outside that weren't free keep their content and
+/// owner. Exceptions: capabilities to members may become void, and the roots and annexes of `trusted` processes
+/// receive messages. The bound holds again from any later moment at which the set is closed in this sense, whatever
+/// others did meanwhile.
 ///
 /// It follows each number once. `AllocError` means that memory ran out, which is tested, not proved.
 pub fn reach(

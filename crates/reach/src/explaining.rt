@@ -35,7 +35,7 @@ fn kind_at(objects: &[Object], number: u64) -> &'static [u8]
     }
 }
 
-// Returns the word for a place in an object that holds capabilities: slot or register.
+// Returns the word for where an object holds capabilities: slot or register.
 fn place_at(objects: &[Object], number: u64) -> Key
     ensures { result ≡ place_of (content_at objects.now number) }
 {
@@ -160,7 +160,7 @@ fn print_object<W: Output>(
     }
 }
 
-// Writes the lines of a chain to an object.
+// Writes a line for each step of a chain, then the line of the object that it leads to.
 #[tactic(auto, using(script::proofs::Fronts::writes_after))]
 fn print_to<W: Output>(
     format: Format,
@@ -176,7 +176,7 @@ fn print_to<W: Output>(
     print_object(format, objects, object, writer)
 }
 
-// Returns the words for an object to which no chain leads.
+// Returns the words before an object that no chain leads to.
 fn denial(purpose: Purpose) -> &'static [u8]
     ensures text { result.now ≡ denial_of purpose }
     ensures short { length result.now ≤ 16 }
@@ -187,7 +187,7 @@ fn denial(purpose: Purpose) -> &'static [u8]
     }
 }
 
-// Returns the JSON member for an object to which no chain leads.
+// Returns the JSON key for an object that no chain leads to.
 fn denied(purpose: Purpose) -> Key
     ensures { result ≡ denied_key purpose }
 {
@@ -197,7 +197,7 @@ fn denied(purpose: Purpose) -> Key
     }
 }
 
-// Returns the line of an object to which no chain leads.
+// Returns the line of an object that no chain leads to.
 fn line_of_unchanged(format: Format, objects: &[Object], purpose: Purpose, number: u64) -> LineText
     ensures text { result ≡ unchanged_text format objects.now purpose number }
     ensures short { length result < 320 }
@@ -218,9 +218,8 @@ fn line_of_unchanged(format: Format, objects: &[Object], purpose: Purpose, numbe
     }
 }
 
-/// Writes a chain to an object in a format: a line for each step, first step first, then the line of the object as
-/// `show` begins it. If there is no chain it writes `cannot change`, or `cannot read`, with the object's kind and
-/// number.
+/// Writes a chain to an object in a format: a line for each step, first step first, then the object's line as `show`
+/// begins it. If there is no chain, writes `cannot change` or `cannot read` with the object's kind and number.
 ///
 /// Returns `RunFault::Write` if the writer fails or accepts no bytes; then it accepted only a beginning of the text.
 /// It takes no memory.

@@ -1,17 +1,17 @@
-// For each object, which others name it.
+// Which objects name each object.
 
 use model::{Capability, Content, Object};
 use std::alloc::{AllocError, Global};
 
-/// For each number the objects that name it. They only give the order of a search, so no contract says what is
-/// listed.
+/// For each number, the objects that name it. The lists only choose the order of a search, so no contract says
+/// what they hold.
 #[derive(Drop)]
 pub(crate) struct Holders {
     lists: Vec<Vec<u64>>,
 }
 
 impl Holders {
-    /// Returns the lists for all these objects. Fails only if memory runs out.
+    /// Returns the lists for these objects. Fails only if memory runs out.
     pub(crate) fn of_objects(alloc: Global, objects: &[Object]) -> Result<Holders, AllocError> {
         let mut lists = Vec::new(alloc);
         for _ in 0..objects.len() {
@@ -24,7 +24,7 @@ impl Holders {
         Ok(holders)
     }
 
-    /// The objects that name a number.
+    /// Returns the objects that name a number.
     pub(crate) fn of_number(&self, number: usize) -> &[u64] {
         match self.lists.get(number) {
             Some(list) => list.as_slice(),

@@ -1,4 +1,4 @@
-//! Laws of chains. Each is the contract of a function that does nothing.
+//! Laws of chains. Each is the contract of an empty function.
 
 ghost use Rattle.reach.specs.Laws.{ClosedSetsAre, ReachIsChange, StepsAreAuthority};
 
@@ -8,14 +8,15 @@ pub fn steps_are_authority()
     ensures { StepsAreAuthority }
 {}
 
-/// A number can change, or read, an object exactly if the least closed set that contains the number contains the
-/// object.
+/// An object can change or read another exactly if the least closed set that contains the first contains the
+/// second.
 pub fn reach_is_change()
     ensures { ReachIsChange }
 {}
 
-/// For the purpose to change, a closed set is one that is closed but for trusted processes (crate `confinement`). For
-/// the purpose to read, it is one that is closed for reading but for trusted processes (crate `noninterference`).
+/// For the purpose to change, the closed sets are those that are closed but for trusted processes (crate
+/// `confinement`). For the purpose to read, they are those closed for reading but for trusted processes (crate
+/// `noninterference`).
 #[tactic(auto, using(crate::proofs::Chains::closed_sets_are))]
 pub fn closed_sets_are()
     ensures { ClosedSetsAre }

@@ -1,4 +1,4 @@
-// The numbers that a search found, and the number of steps to each.
+// The numbers that a search found, each with its level: how many steps lead to it.
 
 use crate::step::Step;
 use collections::NumberSet;
@@ -8,11 +8,11 @@ use std::alloc::{AllocError, Global};
 #[derive(Clone, Copy)]
 pub(crate) struct Found {
     level: u64,
-    // The last step, or `None` for a number with which the search began.
+    // `None` if the search began with the number.
     step: Option<Step>,
 }
 
-/// The numbers that were found, and the greatest level among them.
+/// The numbers that a search found, and the greatest level among them.
 #[derive(Drop)]
 pub(crate) struct Levels {
     found: Vec<Option<Found>>,
@@ -24,7 +24,7 @@ impl Levels {
     ghost use Rattle.collections.specs.Marks.{is_marked};
     ghost use Rattle.reach.specs.Levels.{Begins, FindsBy, IsTheStep, found_at, has_level};
 
-    /// Returns a value with none of `count` numbers found. Fails only if memory runs out.
+    /// Returns a value for `count` numbers, with none found. Fails only if memory runs out.
     pub(crate) fn new(alloc: Global, count: usize) -> Result<Levels, AllocError>
         ensures found { IfOk result (λ l. l.found.items ≡ replicate count None) }
         ensures greatest { IfOk result (λ l. l.greatest ≡ 0) }
@@ -107,7 +107,7 @@ impl Levels {
         }
     }
 
-    /// Returns the last step to a number; `None` if it was not found or the search began with it.
+    /// Returns the last step to a number, or `None` if the search didn't find it or began with it.
     pub(crate) fn step_to(&self, number: u64) -> Option<Step>
         ensures { result ≡ option_and_then (λ f. f.step) (found_at self.now number) }
     {

@@ -1,5 +1,5 @@
-//! The least closed set of numbers that contains some processes: all that these, and processes that they make, can
-//! change, or read. Also a shortest chain of capabilities from them to an object.
+//! The least closed set that contains some processes: what they, and processes that they make, can change or read.
+//! Also a shortest chain of capabilities from them to an object.
 #![tactic(auto)]
 
 mod authority;

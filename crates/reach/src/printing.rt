@@ -14,7 +14,7 @@ use json_lines::{Format, Key, Member, number_line, text_object};
 use model::{Capability, Content, Object};
 use script::{LineText, Output, RunFault};
 
-// Begins the line of an object.
+// Returns the beginning of an object's line.
 fn begin(name: &[u8], number: u64, owner: u64) -> LineText
     requires { length name.now ≤ 8 }
     ensures text { result ≡ spaced (name.now ∷ decimal number ∷ codes "owner" ∷ decimal owner ∷ []) }
@@ -101,8 +101,7 @@ fn print_member<W: Output>(
     line_of_object(format, number as u64, object).write_to(writer)
 }
 
-// Whether a capability of an object has authority over another process or another bank. It then pulls this into the
-// set.
+// Whether a capability of an object gives authority over another process or bank. Then it pulls this into the set.
 fn pulls(number: u64, capability: Capability) -> bool
     ensures { result ≡ pulls number capability }
 {
@@ -216,7 +215,8 @@ pub(crate) fn slots_of(objects: &[Object], number: u64) -> &[Capability]
     }
 }
 
-// Writes the capabilities by which an object pulls in others. A process holds them in the registers of its annex.
+// Writes a line for each capability by which an object pulls in others. A process holds them in its annex's
+// registers.
 fn print_object_pulls<W: Output>(
     format: Format,
     objects: &[Object],
@@ -244,7 +244,7 @@ fn print_object_pulls<W: Output>(
     }
 }
 
-// Writes the capabilities by which a member pulls in others.
+// If the object is a member, writes a line for each capability by which it pulls in others.
 fn print_member_pulls<W: Output>(
     format: Format,
     objects: &[Object],
@@ -263,7 +263,7 @@ fn print_member_pulls<W: Output>(
     print_object_pulls(format, objects, number as u64, object, writer)
 }
 
-// Writes the capabilities by which all members pull in others.
+// Writes a line for each capability by which a member pulls in others.
 #[tactic(auto, using(script::proofs::NumberedLines::lines_all))]
 fn print_all_pulls<W: Output>(
     format: Format,
@@ -295,8 +295,7 @@ fn count_members(inside: &NumberSet, total: usize) -> u64
     count
 }
 
-// Writes a set of numbers: the line of each member as `show` begins it, in rising order, then `word` with their
-// count.
+// Writes the lines of a set's members, as `show` begins them, in rising order, then `word` with their count.
 fn print_counted<W: Output>(
     format: Format,
     word: &[u8],
@@ -313,8 +312,8 @@ fn print_counted<W: Output>(
     number_line(format, word, count_members(inside, objects.len())).write_to(writer)
 }
 
-/// Writes a set of numbers in a format: the line of each member as `show` begins it, in rising order; `closed` with
-/// their count; and each capability of a member that names another process or another bank.
+/// Writes a set of objects in a format: the line of each as `show` begins it, in rising order; `closed` with their
+/// count; and each capability of a member that names another process or bank.
 ///
 /// Returns `RunFault::Write` if the writer fails or accepts no bytes; then it accepted only a beginning of the text.
 /// It takes no memory.

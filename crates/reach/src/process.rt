@@ -16,7 +16,7 @@ fn is_process(objects: &[Object], number: u64) -> bool
     }
 }
 
-/// Returns the first of these numbers that isn't a process's, or `None` if all are.
+/// Returns the first of these numbers that isn't a process's, or `None` if each is one.
 pub fn missing_process(objects: &[Object], numbers: &[u64]) -> Option<u64>
     ensures first { result ≡ find (λ n. not (is_process objects.now n)) numbers.now }
     ensures none { IsNone result → All (λ n. IsTrue (is_process objects.now n)) numbers.now }
@@ -29,7 +29,7 @@ pub fn missing_process(objects: &[Object], numbers: &[u64]) -> Option<u64>
     None
 }
 
-/// The numbers of all processes. Fails only if memory runs out.
+/// Returns the numbers of all processes. Fails only if memory runs out.
 pub fn all_processes(alloc: Global, objects: &[Object]) -> Result<Vec<u64>, AllocError>
     ensures { IfOk result (λ all. (n : ℕ) → Contains all.items n ↔ IsTrue (is_process objects.now n)) }
 {

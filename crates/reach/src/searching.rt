@@ -182,7 +182,7 @@ fn find_of_object(
     }
 }
 
-// Records all that the numbers found at a level have authority over in one step.
+// Records all that the numbers of a level have authority over in one step.
 #[tactic(auto, using(crate::proofs::Finding::finds_none))]
 fn follow_level(
     levels: &mut Levels,
@@ -207,7 +207,8 @@ fn follow_level(
     }
 }
 
-// Finds all numbers to which chains of steps lead. No step starts a process of `trusted`.
+// Returns all numbers that chains of steps from `starts` lead to. No step starts a process that
+// `trusted` marks.
 #[tactic(auto, using(crate::proofs::Searches::searched_first))]
 fn search_but(
     alloc: Global,
@@ -234,7 +235,7 @@ fn search_but(
     Ok(levels)
 }
 
-/// Returns the set with these numbers. Fails only if memory runs out.
+/// Returns the set of the numbers in a list. Fails only if memory runs out.
 pub(crate) fn set_of(alloc: Global, numbers: &[u64], total: usize) -> Result<NumberSet, AllocError>
     requires { All (λ n. n < total) numbers.now }
     ensures count { IfOk result (λ set. length set ≡ total) }
@@ -247,8 +248,8 @@ pub(crate) fn set_of(alloc: Global, numbers: &[u64], total: usize) -> Result<Num
     Ok(set)
 }
 
-/// Finds all numbers to which chains of steps from `starts` lead, each by a shortest chain. No step starts a process
-/// of `trusted`. Fails only if memory runs out.
+/// Returns all numbers that chains of steps from `starts` lead to, each found by a shortest chain. No step starts a
+/// process of `trusted`. Fails only if memory runs out.
 pub(crate) fn search(
     alloc: Global,
     objects: &[Object],

@@ -1,17 +1,17 @@
-// The steps by which one object has authority over another.
+// Steps: one object has authority over another.
 
 use model::Capability;
 
-/// By which way one object has authority over another.
+/// In which way one object has authority over another.
 #[derive(Clone, Copy)]
 pub enum Way {
     /// The first is a process, and the second its annex.
     Annex,
-    /// The first is a bank, and owns the second.
+    /// The first is a bank that owns the second.
     Owner,
-    /// The first is a process, and this capability, to the second, is its address space.
+    /// The first is a process, whose address space is this capability to the second.
     Space(Capability),
-    /// The first holds this capability, to the second, in a slot; if it is a process, in a register.
+    /// The first holds this capability to the second in a slot, or, as a process, in a register.
     Slot { index: u64, capability: Capability },
 }
 

@@ -1,4 +1,4 @@
-// The objects of a store, in a list.
+// Reading all objects of a store into a list.
 ghost use Rattle.std.specs.Prelude.{◌≡◌, ◌<◌, length, IfOk};
 ghost use Rattle.model.specs.World.{object_at};
 ghost use Rattle.capability.specs.Parts.{AreSound, OnlyReads, objects_in};
@@ -7,7 +7,7 @@ use capability::{Frames, view};
 use model::{Object, Refusal};
 use std::alloc::Global;
 
-// Fetches an object, and returns it with its stale capabilities void.
+// Fetches an object, and returns it with void in place of stale capabilities.
 fn object<F: Frames>(alloc: Global, store: &mut F, number: u64) -> Result<Object, Refusal>
     requires usable { F.IsUsable store.old }
     requires sound { AreSound (F.parts store.old) }
@@ -19,7 +19,7 @@ fn object<F: Frames>(alloc: Global, store: &mut F, number: u64) -> Result<Object
     Ok(view::object(alloc, store, number)?)
 }
 
-/// Returns all objects of a store, by number. It fetches each, and changes none.
+/// Returns all objects of a store, by number. Fetches each, and changes none.
 ///
 /// Returns `NoMemory` if memory runs out, and `Fault` exactly if the device fails.
 pub fn read_objects<F: Frames>(alloc: Global, store: &mut F) -> Result<Vec<Object>, Refusal>

@@ -19,9 +19,9 @@ pub(crate) const NO_FILE: &str = "not a regular file";
 /// The cause of a fault, if the program recorded it.
 #[derive(Drop)]
 pub(crate) enum Cause {
-    /// The cause isn't recorded.
+    /// The cause wasn't recorded.
     Unknown,
-    /// The error of the system.
+    /// The system returned this error.
     System(io::Error),
     /// The file can't be used as a device.
     File(FileFault),
@@ -29,11 +29,11 @@ pub(crate) enum Cause {
     Unfinished,
     /// The file is neither a regular file nor a block device.
     NoImageFile,
-    /// The file of the new image is the one from which the image is made.
+    /// The file of the new image is the file that the image is made from.
     Source,
 }
 
-/// A fault whose message isn't written yet, and its cause.
+/// A fault whose message hasn't been written, with its cause.
 #[derive(Drop)]
 pub(crate) struct Refusal {
     pub(crate) fault: Fault,
@@ -47,7 +47,7 @@ impl From<Fault> for Refusal {
 }
 
 impl Refusal {
-    /// A fault with this cause.
+    /// Returns a fault with this cause.
     pub(crate) fn new(fault: Fault, cause: Cause) -> Refusal {
         Refusal { fault, cause }
     }
@@ -128,7 +128,7 @@ pub(crate) fn line_in(rt: &HostRuntime) -> Streams<CountedWriter<Vec<u8>>, Count
     }
 }
 
-// Writes a line that `explain` returned.
+// Writes the line that `explain` wrote.
 fn tell_explained(rt: &HostRuntime, file: &str, line: &[u8]) {
     if let Ok(line) = str::from_utf8(line)
         && !line.is_empty()
@@ -173,7 +173,7 @@ fn tell_image(rt: &HostRuntime, file: &str) {
     }
 }
 
-// Whether a file is of a type that may hold an image.
+// Whether a file is of a type that can hold an image.
 fn may_have_image(rt: &HostRuntime, file: &str) -> bool {
     match fs::metadata(rt, file) {
         Ok(found) => {
@@ -184,7 +184,7 @@ fn may_have_image(rt: &HostRuntime, file: &str) -> bool {
     }
 }
 
-// Writes why a file can't be used as a device. To get the system's own words it tries to open the file again.
+// Writes why a file can't be used as a device. It tries to open the file again, to get the system's message.
 fn tell_file(rt: &HostRuntime, file: &str, how: &OpenOptions, fault: FileFault) {
     match fault {
         FileFault::Io => match how.open(rt, file) {
@@ -196,7 +196,7 @@ fn tell_file(rt: &HostRuntime, file: &str, how: &OpenOptions, fault: FileFault) 
     }
 }
 
-// Writes why a script can't be read: it may be a folder, for instance. A pipe isn't opened again.
+// Writes why a script can't be read: it may be a folder, for example. It doesn't open a pipe again.
 fn tell_script(rt: &HostRuntime, file: &str) {
     let is_pipe = match fs::metadata(rt, file) {
         Ok(found) => !found.is_file() && !found.is_dir(),
@@ -222,7 +222,7 @@ fn tell_refused(rt: &HostRuntime, file: &str, how: &OpenOptions, cause: Cause) {
     }
 }
 
-// Returns the options for opening an image, to write it or to make it if so.
+// Returns the options to open an image: to write it if `is_written`, to make it if `is_made`.
 fn options(is_written: bool, is_made: bool) -> OpenOptions {
     let mut how = OpenOptions::new();
     how.read(true).write(is_written).create(is_made);
@@ -251,8 +251,8 @@ fn tell_undescribed(rt: &HostRuntime, job: &Job<'_>, cause: Cause) {
     }
 }
 
-/// Writes a line with the file and the cause of a fault of a job, after the line of the fault itself. Writes none for
-/// a fault that is about no file, or whose cause isn't known.
+/// Writes a line with the file and the cause of a job's fault, to follow the line of the fault. If the fault is about
+/// no file, or its cause isn't known, writes nothing.
 pub(crate) fn tell_cause(rt: &HostRuntime, job: &Job<'_>, fault: Fault, cause: Cause) {
     match fault {
         Fault::CannotReadDescription

@@ -20,8 +20,8 @@ pub(crate) fn is_json(job: &Job<'_>) -> bool {
     }
 }
 
-/// If a job answers in JSON, writes its fault to standard output, as an object on a line, after the answers that were
-/// written before. Writes nothing if the fault is that standard output can't be written.
+/// If a job answers in JSON, writes its fault to standard output, as an object on a line after its answers. If the
+/// fault is that standard output can't be written, writes nothing.
 pub(crate) fn tell_json(rt: &HostRuntime, job: &Job<'_>, fault: Fault) {
     if !is_json(job) || matches!(fault, Fault::CannotWriteOutput) {
         return;

@@ -53,7 +53,7 @@ pub(crate) type Stdio = Streams<
     StandardError,
 >;
 
-/// How a command ended. The messages of its faults were written already.
+/// How a command ended. The messages of its faults are written already.
 #[derive(Clone, Copy)]
 pub(crate) struct End {
     /// The exit status.
@@ -96,7 +96,8 @@ fn errors_of(rt: &HostRuntime) -> StandardError {
     NamedOutput::new(CountedWriter::new(rt.stderr()), None)
 }
 
-// Returns standard output, with names in its lines if there are some, and standard error.
+// Returns standard output, which adds these names to its lines if there are any, and standard
+// error.
 fn stdio_of(rt: &HostRuntime, lines: Option<NamedLines>) -> Result<Stdio, Fault> {
     match BufWriter::new(rt.alloc(), rt.stdout()) {
         Ok(buffer) => Ok(Stdio {
@@ -115,9 +116,9 @@ fn open(rt: &HostRuntime, image: &str) -> Result<FileDevice, Refusal> {
     }
 }
 
-// Refuses a file that is neither a regular file nor a block device, such as a FIFO: opening one to read waits until
-// somebody writes to it. If the file is replaced before it is opened, the command may still wait, but the file that
-// it then opens is checked like any other image.
+// Refuses a file that is neither a regular file nor a block device, such as a FIFO. Opening one to read would wait
+// until somebody writes to it. If the file is replaced before it is opened, the command may still wait. It then
+// checks what it opens, as it does any image.
 fn refuse_pipe(rt: &HostRuntime, image: &str) -> Result<(), Refusal> {
     let kind = match fs::metadata(rt, image) {
         Ok(found) => found.file_type(),
@@ -130,7 +131,7 @@ fn refuse_pipe(rt: &HostRuntime, image: &str) -> Result<(), Refusal> {
     }
 }
 
-// Opens a device in the file of an existing image, only to read it.
+// Opens a device in the file of an existing image, to read only.
 fn open_to_read(rt: &HostRuntime, image: &str) -> Result<FileDevice, Refusal> {
     refuse_pipe(rt, image)?;
     match FileDevice::open_to_read(rt, image) {
@@ -139,11 +140,11 @@ fn open_to_read(rt: &HostRuntime, image: &str) -> Result<FileDevice, Refusal> {
     }
 }
 
-// How the lines of a script are run over an image.
+// What is done with an image.
 #[derive(Clone, Copy)]
 enum Mode<'w> {
     Plain,
-    // With a trace, as a strict run, or with saving at the end.
+    // Run a script with a trace, as a strict run, or with saving at the end.
     Watched { options: TraceOptions, saves: bool },
     // Lines are typed at a shell over the image in this file.
     Shell(&'w str),
@@ -151,7 +152,8 @@ enum Mode<'w> {
     Check(Format),
 }
 
-// Runs a script over the image on a device, with a store of type `S` and a tracer. Returns the end of the command.
+// Runs a script with a tracer over the image on a device, with a store of type `S`. Returns the end of the
+// command.
 fn trace_by<D: Device, S: ObjectStore<D>, R: Read, W: Output, V: Output + Drop>(
     alloc: Global,
     device: D,
@@ -299,7 +301,8 @@ fn open_script_and_run<D: SharedDevice>(
     }
 }
 
-// Opens an image and runs a script over it. After `stop_after` calls the device fails. Returns the command's end.
+// Opens an image and runs a script over it. If there is a `stop_after`, the device fails after that many calls.
+// Returns the end of the command.
 fn open_image_and_run(
     rt: &HostRuntime,
     image: &str,
@@ -318,7 +321,7 @@ fn open_image_and_run(
     open_script_and_run(rt, device, script, cache, mode, notes, stdio)
 }
 
-// Checks whether an image can be opened, and returns the end of the command. It keeps at most 8 objects in memory.
+// Checks whether an image can be opened, with at most 8 objects in memory, and returns the end of the command.
 fn check(rt: &HostRuntime, image: &str, format: Format, stdio: &mut Stdio) -> Result<End, Refusal> {
     let device = open_to_read(rt, image)?;
     let Some(least) = Capacity::new(8) else {
@@ -377,7 +380,8 @@ fn refuse_file<C: Display + Drop>(rt: &HostRuntime, file: &str, cause: C) -> End
     End::of_status(1)
 }
 
-// Refuses a file, as `refuse_file` does, because of an error of the system. If memory ran out, returns a fault instead.
+// Writes why a file can't be explained, for an error of the system, and returns the end of the command. If memory ran
+// out, returns a fault instead.
 fn refuse_for(rt: &HostRuntime, file: &str, error: &io::Error) -> Result<End, Refusal> {
     if error.kind() == ErrorKind::OutOfMemory {
         Err(Refusal::from(Fault::NoMemory))
@@ -402,8 +406,8 @@ fn explain_file<W: Output, V: Output>(
     }
 }
 
-// Writes why the bytes of a file are refused as a description or an image, and returns the end of the command. The
-// bytes are taken for an image if they aren't UTF-8 or one of them is zero.
+// Writes why the bytes of a file are refused as a description or an image, and returns the end of the command.
+// They are treated as an image if they aren't UTF-8 or one of them is zero.
 fn explain_bytes<W: Output, V: Output>(
     rt: &HostRuntime,
     file: &str,
@@ -432,8 +436,9 @@ fn explain_regular<W: Output, V: Output>(
     }
 }
 
-/// Writes why a file is refused as a description or an image. Returns the end of the command. A block device may hold
-/// an image. Any other irregular file, such as a FIFO, isn't opened: reading one waits until somebody writes to it.
+/// Writes why a file is refused as a description or an image, and returns the end of the command. A block device may
+/// hold an image. Any other irregular file, such as a FIFO, isn't opened, because reading it waits until somebody
+/// writes to it.
 pub(crate) fn explain<W: Output, V: Output>(
     rt: &HostRuntime,
     file: &str,
@@ -547,7 +552,8 @@ fn serve_whole(rt: &HostRuntime, job: &Job<'_>, naming: Naming) -> Result<End, R
     }
 }
 
-// Does a job with the names in a file, if one is given, and returns the end of the command.
+// Does a job, with the names of objects in a file if one is given, and returns the end of the
+// command.
 fn serve_named(rt: &HostRuntime, job: &Job<'_>, names: Option<&str>) -> Result<End, Refusal> {
     match naming_of(rt, job, is_json(job), names) {
         Ok(naming) => serve_whole(rt, job, naming),
@@ -556,8 +562,8 @@ fn serve_named(rt: &HostRuntime, job: &Job<'_>, names: Option<&str>) -> Result<E
     }
 }
 
-// Does a job, writes why it fails if it does, and returns the exit status. The cause of a failure is written too if
-// `is_verbose`, or if standard error is a terminal.
+// Does a job, and returns the exit status. If the job fails, writes why. Writes the cause too if `is_verbose`, or
+// if standard error is a terminal.
 fn serve_line(rt: &HostRuntime, job: &Job<'_>, is_verbose: bool, names: Option<&str>) -> u8 {
     let (end, cause) = match serve_named(rt, job, names) {
         Ok(end) => (end, Cause::Unknown),
@@ -620,7 +626,7 @@ fn work(rt: &HostRuntime) -> Result<u8, Fault> {
 }
 
 // Opens three files that can't be written. If standard output or standard error was closed, one of them takes its
-// descriptor. So no image that is opened later gets that descriptor.
+// descriptor, so no image opened later gets it.
 fn guards(rt: &HostRuntime) -> [Option<File>; 3] {
     [
         File::open(rt, "/dev/null").ok(),

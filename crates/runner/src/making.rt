@@ -55,8 +55,8 @@ fn is_one_file(rt: &HostRuntime, one: &str, other: &str) -> bool {
     }
 }
 
-/// Makes a device of `sectors` zero sectors in a file. An existing file is replaced, unless it is `source`, from
-/// which the new image is made.
+/// Makes a device of `sectors` zero sectors in a file. Replaces an existing file, unless it is `source`, the
+/// file that the new image is made from.
 pub(crate) fn create(
     rt: &HostRuntime,
     sectors: u64,
@@ -74,8 +74,8 @@ pub(crate) fn create(
     }
 }
 
-// Removes a file that is open, if its path still names it. If another program puts its own file there between the two
-// calls, that one is removed.
+// Removes an open file, if its path still names it. If another program puts its own file there between the two calls,
+// that file is removed.
 fn remove(rt: &HostRuntime, file: &File, path: &str) {
     let is_there = match (file.metadata(), fs::symlink_metadata(rt, path)) {
         (Ok(own), Ok(there)) => own.dev() == there.dev() && own.ino() == there.ino(),
@@ -86,7 +86,7 @@ fn remove(rt: &HostRuntime, file: &File, path: &str) {
     }
 }
 
-// Makes a device of `sectors` zero sectors in a new file. After a fault no file is left.
+// Makes a device of `sectors` zero sectors in a new file. A fault leaves no file.
 fn create_new(rt: &HostRuntime, sectors: u64, path: &str) -> Result<FileDevice, Refusal>
     ensures { IfOk result (λ device. (file_disk device).sectors ≡ sectors) }
 {
@@ -108,8 +108,8 @@ fn create_new(rt: &HostRuntime, sectors: u64, path: &str) -> Result<FileDevice, 
     }
 }
 
-// Builds an image in a new file, and returns the end of the command. After a fault no file is left, even if only the
-// output could not be written.
+// Builds an image in a new file, and returns the end of the command. A fault leaves no file, not even if only the
+// output couldn't be written.
 fn build_new(
     rt: &HostRuntime,
     blueprint: &Blueprint,
@@ -143,8 +143,8 @@ fn build_over(
     Ok(End::of_outcome(outcome))
 }
 
-/// Builds an image from its description, and returns the end of the command. If `is_new`, the whole description is
-/// checked before the file is made, and an existing file is refused.
+/// Builds an image from its description, and returns the end of the command. If `is_new`, checks the whole
+/// description before it makes the file, and refuses an existing file.
 pub(crate) fn build(
     rt: &HostRuntime,
     description: &str,

@@ -5,11 +5,11 @@ use names::{DRAWN, NamedLines, Names, NamesFault, TOLD};
 use std::fs;
 use toml::Table;
 
-/// Why no names could be read from a file.
+/// Why the names in a file can't be used.
 #[derive(Clone, Copy)]
 pub(crate) enum NoNames {
     NoMemory,
-    /// Another reason, which was written.
+    /// For another reason; its message is written already.
     Told,
 }
 
@@ -66,7 +66,7 @@ fn names_of(rt: &HostRuntime, file: &str, table: &Table) -> Result<Names, NoName
     }
 }
 
-// Returns the words that come before the number of an object in the output of a job.
+// Returns the words before an object's number in a job's output.
 fn kinds_of(job: &Job<'_>) -> &'static [&'static [u8]] {
     match job {
         Job::Draw { .. } => DRAWN,
@@ -74,7 +74,7 @@ fn kinds_of(job: &Job<'_>) -> &'static [&'static [u8]] {
     }
 }
 
-// Returns what adds the names of a table to lines.
+// Returns what adds the names in a table to a job's lines.
 fn lines_by(
     rt: &HostRuntime,
     job: &Job<'_>,

@@ -1,4 +1,4 @@
--- Two runs of one machine on the same lines.
+-- Two runs of one machine with the same lines.
 use Rattle.runs.proofs.Names.{arith, nat_tests, ℕ, true, List, [], Option, None, Some, refl, sym, ap, subst, append-nil, flat_map-append, Answer, Refusal}
 use Rattle.runs.proofs.Names.{Command, Geometry, Line, Machine, Running, Up, Reply, Reported, Turn, IsRun, Replies, reply_text, output_of, Answers, Outcome}
 use Rattle.runs.proofs.Names.{Step, takes_memory, Says, says_one, lines_in, SteadyRunsAgree, IsSteady, wants_memory_to_show}
@@ -7,7 +7,7 @@ use Rattle.model.specs.declared.answer.Answer.TheVariants as answer
 use Rattle.model.specs.declared.answer.Refusal.TheVariants as refusal
 use Rattle.model.specs.declared.line.Line.TheVariants as line
 
--- two answers of a machine that is up, which stays up
+-- both answers are equal, and both machines are the same and up
 record Agree (x y : Answer) (a b : Machine) : Type 0 where
   then_up : Running
   answers : x ≡ y
@@ -24,7 +24,7 @@ answers_agree : (s : Running) (o : Outcome) (r : Option Refusal) (x y : Answer) 
     AnswersBy s o r y b → Agree x y a b
 answers_agree s o r x y a b p q = search (arith, nat_tests)
 
--- the answer to a line for which the device didn't fail and memory didn't run out
+-- the reply isn't `Fault`, nor `NoMemory` to a command that takes memory
 record IsFine (l : Line) (p : Reply) : Type 0 where
   device : p ≢ Reported (answer.Refused refusal.Fault)
   memory : (c : Command) → l ≡ line.Command c → takes_memory c ≡ true → p ≢ Reported (answer.Refused refusal.NoMemory)
@@ -32,12 +32,12 @@ record IsFine (l : Line) (p : Reply) : Type 0 where
 fine : (t : Turn) (l : Line) → IsSteady t → Says t.line l → IsFine l t.reply
 fine t l steady says = record { device = steady.device; memory = λ c is. steady.memory c (subst (Says t.line) is says) }
 
--- the answer is that of the command
+-- if a reply is fine, it is the answer to the command
 own : (g : Geometry) (s : Running) (c : Command) (p : Reply) (a : Answer) (after : Machine) → IsFine (line.Command c) p →
     p ≡ Reported a → Step g (Up s) c a after → Answers g s c a after
 own g s c p a after steady reported step = search (arith, nat_tests, wants_memory_to_show)
 
--- two replies to the same line
+-- both replies are equal, and both machines are the same and up
 record AgreeOn (p q : Reply) (a b : Machine) : Type 0 where
   then_up : Running
   replies : p ≡ q

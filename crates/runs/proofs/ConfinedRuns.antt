@@ -1,4 +1,4 @@
--- A run over a kernel is a run of the machine, and so it is confined.
+-- A run over a kernel is a run of the machine, so it is confined.
 use Rattle.runs.proofs.Names.{arith, nat_tests, Disk, run_confined, Parts, View, RunsAreConfined}
 use Rattle.runs.proofs.Confining.{one_machine, sound_world}
 

@@ -1,4 +1,4 @@
--- What a run over a kernel changes, if its lines are by processes of a closed set.
+-- What a run over a kernel changes, if every line is by a process of a closed set.
 use Rattle.runs.proofs.Names.{arith, nat_tests, ℕ, Bool, List, [], Option, Ok, Err, ap, sym, subst, ⊎_elim, append-nil, Result, Consumes, All-cons, All-head}
 use Rattle.runs.proofs.Names.{All-nil, All-tail, Geometry, Line, Machine, Running, Up, IsRun, Turn, lines_of, IsSound, Says, Disk, AreBy, IsLineBy, with_free}
 use Rattle.runs.proofs.Names.{run_confined, Written, Parts, View, Power, Stands, RunFault, AreAll, AreFirst, AreLines, AreLinesBy, BeginsWith, Does, IsConfined}
@@ -7,7 +7,7 @@ use Rattle.std.proofs.Common.{◌≡◌, ◌∷◌, ◌++◌, ◌∙◌}
 use Rattle.script.specs.declared.fault.RunFault.TheVariants as fault
 use Rattle.runs.proofs.ScriptLines.{lines_before}
 
--- lines are the first of a text
+-- a text begins with these lines
 abbrev pub AreOf : List ℕ → List (List ℕ) → Type 0
 AreOf text lines = (more : List (List ℕ)) × (lines_of text ≡ lines ++ more)
 
@@ -26,7 +26,7 @@ first_of text left lines are = ⊎_elim (λ begins. begun_by text lines begins) 
 all_or_with_rest : (text : List ℕ) (left : Option (List ℕ)) (lines : List (List ℕ)) → AreAll text left lines → AreOf text lines
 all_or_with_rest text left lines are = ⊎_elim (λ some. with_rest text lines some.0 some.1) (λ whole. all_of text lines whole.1) are
 
--- the lines that were taken are the first of the text that was read
+-- the text that was read begins with the lines of the turns
 lines_read : (turns : List Turn) (input left : Option (List ℕ)) (output written : Written) (result : Result (Unit {0}) RunFault) →
     Does turns input left output written result →
     (text : List ℕ) × Consumes input left text × AreOf text (lines_in turns)
@@ -40,7 +40,7 @@ lines_read turns input left output written (Err fault.Write) does = (
 )
 lines_read turns input left output written (Err fault.Stopped) does = (does.0, does.1, first_of does.0 left (lines_in turns) does.2)
 
--- each turn is by the process of its line
+-- a turn whose line is by a process of the set, or has no command
 abbrev IsTurnBy : (ℕ → Bool) → Turn → Type 0
 IsTurnBy inside t = (l : Line) → Says t.line l → IsLineBy inside l
 
@@ -59,7 +59,7 @@ module _ {D S : Type 0} (disk : D → Disk) (view : S → View D) (parts : S →
       Stands disk view parts g p (Up t) → m ≡ Up t
   one_machine g p m t first second = search (arith, nat_tests)
 
-  -- the world of this machine is sound
+  -- a kernel that is up stands for a machine with a sound world
   pub sound_world : (g : Geometry) (p : Power D S) (s : Running) → Stands disk view parts g p (Up s) → IsSound g s.now
   sound_world g p s up = search (arith, nat_tests)
 

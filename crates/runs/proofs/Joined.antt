@@ -1,4 +1,4 @@
--- One run after another is a run.
+-- Two runs, one after the other, are a run.
 use Rattle.runs.proofs.Names.{AreTurnsOf, Disk, Geometry, IsRun, IsRunOf, List, Machine, Parts, Power, Turn, View, [], subst}
 use Rattle.std.proofs.Common.{◌≡◌, ◌++◌, ◌∷◌}
 

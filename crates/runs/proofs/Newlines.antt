@@ -1,9 +1,9 @@
--- The first newline.
+-- The first newline of a text.
 use Rattle.runs.proofs.Names.{ℕ, List, None, Some, Option, length, take, get_or, sym, subst, arith, slice_index_or, IfNone, IfSome, nat_tests, get_or-take}
 use Rattle.runs.proofs.Names.{get_or_default, length-take, take_all, IsFirstByte, Nowhere, Passes, is_byte, IsOneLine}
 use Rattle.std.proofs.Common.{◌≡◌, ◌<◌, ◌∙◌}
 
--- if no newline is found, the bytes are of one line
+-- if there is no newline before `end`, the bytes before it are one line
 one_line : (bytes : List ℕ) (end : ℕ) → Nowhere (Passes (is_byte 10) bytes) 0 end → IsOneLine (take end bytes)
 one_line bytes end nowhere k d lt = λ is.
     let before : k < end = omega (arith, length-take end bytes, lt) in

@@ -1,4 +1,4 @@
--- A line that is run alone is a run of one turn.
+-- Running one line alone is a run of one turn.
 use Rattle.runs.proofs.Names.{Bool, Disk, Err, Geometry, IsTurnOf, IsWritten, List, Machine, Ok, Parts, Power, Result, RunFault, Stands, TakesLine, Turn, View}
 use Rattle.runs.proofs.Names.{Written, Wrote, WroteFront, [], append-nil, refl, sym, ℕ, RunsLine}
 use Rattle.std.proofs.Common.{◌≡◌}
@@ -7,7 +7,7 @@ use Rattle.runs.proofs.TurnLists.{wrote_and_failed, wrote_kept}
 
 module _ {D S O : Type 0} (disk : D → Disk) (view : S → View D) (parts : S → Parts) (sees : Geometry → Turn → O → O → Bool → Type 0)
     (text : List ℕ) (old new : Power D S) (before seen : O) (written wrote : Written) where
-  -- a turn was taken, and passing on its answer succeeded or failed
+  -- if a line was taken, and its answer passed on or not, it ran as one turn
   pub line_taken : (taken : Result Bool RunFault) (last : Written) (r : Result Bool RunFault) →
       ((on : Bool) (reply : List ℕ) → IsWritten written wrote taken on reply → IsWritten written last r on reply) →
       ((g : Geometry) (m : Machine) → Stands disk view parts g old m →

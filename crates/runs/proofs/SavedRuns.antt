@@ -1,4 +1,4 @@
--- A command that is carried out is a run of one turn.
+-- Carrying out one command is a run of one turn.
 use Rattle.runs.proofs.Names.{Answer, Command, DenotesOne, Disk, Err, Geometry, IsCaused, IsLeftIn, IsRunOf, IsTurnOf, List, Machine, Ok, Parts, Power, Refusal}
 use Rattle.runs.proofs.Names.{Reported, Result, Serves, Stands, Turn, View, candidates, disk_of, leaves_weaker, refl, second, subst, [], ℕ, Fits, spelling}
 use Rattle.runs.proofs.Names.{CarriesOut, IsStage}
@@ -8,7 +8,7 @@ use Rattle.model.specs.declared.line.Line.TheVariants as line
 use Rattle.runs.proofs.Turning.{answer_reported, left_by}
 
 module _ {D S : Type 0} (disk : D → Disk) (view : S → View D) (parts : S → Parts) where
-  -- the result for an answer
+  -- the answer as a result: a refusal is an error
   abbrev pub IsResult : Answer → Result Answer Refusal → Type 0
   IsResult a (Ok b) = (b ≡ a) × ((why : Refusal) → a ≢ answer.Refused why)
   IsResult a (Err why) = a ≡ answer.Refused why

@@ -1,4 +1,4 @@
--- What a crash during a run leaves, and that it is opened.
+-- What a crash during a run leaves, and that it can be opened.
 use Rattle.runs.proofs.Names.{nat_tests, ℕ, List, [], sym, subst, inl, inr, arith, Geometry, Machine, Saved, Up, Down, candidates, opened, Turn, IsRun, Image}
 use Rattle.runs.proofs.Names.{Disk, LeavesOnly, leaves_on, leaves_weaker, started, OpenFault, Parts, View, Power, Denotes, DenotesOne, RefusesToOpen}
 use Rattle.runs.proofs.Names.{IsNoReason, Opens, Stands, disk_of, denotes_one, denoted_not_bad, AreTurnsOf, IsLeftIn, CrashesAreSurvived}
@@ -8,7 +8,7 @@ use Rattle.layout.specs.declared.open_fault.OpenFault.TheVariants as fault
 use Rattle.kernel.specs.Power as power
 use Rattle.runs.proofs.Turning.{denotes_this}
 
--- an image denotes what a run may save
+-- the image denotes a state that the run may save
 abbrev LeavesSaved : Geometry → ℕ → Machine → List Turn → Image → Type 0
 LeavesSaved g size m turns c = (s : Saved) × MaySave m turns s × Denotes g size c s
 
@@ -20,7 +20,7 @@ module _ {D S : Type 0} (disk : D → Disk) (view : S → View D) (parts : S →
   abbrev of : Power D S → Disk
   of p = disk_of disk view parts p
 
-  -- before the first turn
+  -- a crash before the first turn leaves a state that the run may save
   before_turns : (g : Geometry) (m : Machine) (p : Power D S) → Stands disk view parts g p m →
       LeavesOnly (of p) (of p) (LeavesSaved g (of p).sectors m [])
   before_turns g (Up r) (power.Up l) stands = search (arith, nat_tests, started, candidate)
@@ -29,7 +29,7 @@ module _ {D S : Type 0} (disk : D → Disk) (view : S → View D) (parts : S →
   before_turns g (Up r) (power.Down d) stands = absurd stands
   before_turns g m power.Between stands = absurd stands
 
-  -- turn after turn
+  -- a crash during the turns leaves a state that the run may save
   turns_leave : (g : Geometry) (turns : List Turn) (m last : Machine) (old new : Power D S) → Stands disk view parts g old m →
       IsRun g m turns last → AreTurnsOf disk view parts g old new turns → LeavesOnly (of old) (of new)
       (LeavesSaved g (of old).sectors m turns)
@@ -46,7 +46,7 @@ module _ {D S : Type 0} (disk : D → Disk) (view : S → View D) (parts : S →
       (leaves_weaker {old = of goes.0} {new = of new} {P = LeavesSaved g size t.after ts} (LeavesSaved g size m (t ∷ ts))
       (λ c is. (is.0, inr is.1, is.2)) rest)
 
-  -- a device with an image that denotes a saved state is opened at this state
+  -- if a device holds an image that denotes a saved state, it opens at this state
   opened_there : (g : Geometry) (size : ℕ) (c : Image) (s : Saved) → Denotes g size c s → IsOpenedAt disk view parts g size c s
   opened_there g size c s denoted d size_is seen_is =
       let held : Denotes g (disk d).sectors (disk d).seen s =
@@ -66,7 +66,7 @@ module _ {D S : Type 0} (disk : D → Disk) (view : S → View D) (parts : S →
       refuses d held back fault.NoMemory is = tt
       refuses d held back (fault.Bad reason) is = denoted_not_bad g (disk d).sectors (disk d).seen s reason held is.is_why.1
 
-  -- so is a device with any image that a crash leaves
+  -- an image that a crash leaves opens at a state that may be left
   survived : (g : Geometry) (old new : Power D S) (MayBeLeft : Saved → Type 0) →
       LeavesOnly (of old) (of new) (λ c. (s : Saved) × MayBeLeft s × Denotes g (of old).sectors c s) →
       IsSurvived disk view parts g old new MayBeLeft

@@ -1,4 +1,4 @@
--- What a tracer writes about a turn.
+-- What a tracer does at each turn.
 use Rattle.runs.proofs.Names.{arith, nat_tests, ℕ, min, Bool, Option, Some, List, [], codes, sym, subst, IfNone, IfSome, Answer, Command, Geometry, ResultCode}
 use Rattle.runs.proofs.Names.{BadLine, Reported, Turn, Says, line_of, spaced, says_one, LineFault, command_name, IsFaultOf, Cause, Stop, Tracer, reported_code}
 use Rattle.runs.proofs.Names.{Ends, EndsIf, IsCauseIn, IsCauseOf, IsOutcome, IsTrace, Notes, Sees, cause_text, place_text, Written}
@@ -13,7 +13,7 @@ ended : (g : Geometry) (t : Turn) (strict : Bool) (why : Option Cause) (place : 
     Ends g place t strict on stop
 ended g t strict why place on stop ends some none = search (arith, nat_tests)
 
--- ---- what is seen of a turn
+-- ---- what a tracer does at a turn
 
 module _ {V : Type 0} (written : V → Written) (g : Geometry) (t : Turn) (old new : Tracer V) (on : Bool) where
   module _ (place : ℕ) (text : List ℕ) (why : Option Cause) (noted : Notes written place text why old new on)
@@ -23,7 +23,7 @@ module _ {V : Type 0} (written : V → Written) (g : Geometry) (t : Turn) (old n
           Sees written g t old new on
       seen trace some none = search (arith, nat_tests, ended)
 
-      -- a command
+      -- the parameters: a turn with a command, its answer and its result code
       module _ (c : Command) (a : Answer) (reported : Option ResultCode) (says : Says t.line (line.Command c))
           (reply : t.reply ≡ Reported a)
           (coded : reported_code g t.before c a ≡ reported) where
@@ -56,7 +56,7 @@ module _ {V : Type 0} (written : V → Written) (g : Geometry) (t : Turn) (old n
             IfNone why ((w : Cause) → IsCauseIn a reported w → ⊥) → Sees written g t old new on
         answer_seen outcome is spelt some none = search (arith, nat_tests, seen, some_causes, no_causes)
 
-  -- a bad line
+  -- if a bad line was noted, the tracer saw its turn
   pub bad_seen : (place : ℕ) (text : List ℕ) (fault : LineFault) → Notes written place text (Some (cause.BadLine fault)) old new on →
       place ≡ min (old.line + 1) (2 ^ 64 - 1) →
       t.reply ≡ BadLine → IsFaultOf t.line fault → text ≡ spaced (place_text place ∷ cause_text (cause.BadLine fault) ∷ []) →

@@ -3,7 +3,7 @@ use Rattle.runs.proofs.Names.{ℕ, List, [], Option, None, Some, refl, sym, ap, 
 use Rattle.runs.proofs.Names.{WroteFront, flat_map-append, Geometry, Machine, wrote_trans, Turn, IsTurn, IsRun, reply_text, output_of, lines_in}
 use Rattle.std.proofs.Common.{◌≡◌, ◌<◌, ◌∷◌, ◌++◌, ◌∙◌}
 
--- a run with one more turn
+-- a run and one more turn are a run
 pub run_more : (g : Geometry) (m : Machine) (ts : List Turn) (mid : Machine) (t : Turn) →
     IsRun g m ts mid → t.before ≡ mid → IsTurn g t → IsRun g m (ts ++ t ∷ []) t.after
 run_more g m [] mid t run begins turn = (begins ∙ run, turn, refl)
@@ -16,7 +16,7 @@ lines_more (u ∷ us) t = ap (λ (ls : List (List ℕ)). u.line ∷ ls) (lines_m
 pub output_more : (ts : List Turn) (t : Turn) → output_of (ts ++ t ∷ []) ≡ output_of ts ++ reply_text t.reply
 output_more ts t = simp (flat_map-append (λ (u : Turn). reply_text u.reply) ts (t ∷ []), append-nil)
 
--- no text is written where nothing changes
+-- if nothing changes, the empty text was appended
 appends_none : (old : Option (List ℕ)) → Appends old old []
 appends_none None = tt
 appends_none (Some xs) = sym (append-nil xs)
@@ -24,7 +24,7 @@ appends_none (Some xs) = sym (append-nil xs)
 pub wrote_none : (old : Written) → Wrote old old []
 wrote_none old = record { taken = appends_none old.contents; none_failed = refl }
 
--- if nothing more is written, what was written stays
+-- writing a text and then nothing writes the text
 pub wrote_kept : (a b c : Written) (text : List ℕ) → Wrote a b text → Wrote b c [] → Wrote a c text
 wrote_kept a b c text wrote kept = subst (Wrote a c) (append-nil text) (wrote_trans a b c text [] wrote kept)
 
@@ -32,7 +32,7 @@ nothing_in_front : (a b : Option (List ℕ)) → AppendsFront a b [] → Appends
 nothing_in_front a b ([], rest, is, appends) = appends
 nothing_in_front a b (x ∷ xs, rest, is, appends) = cc
 
--- a text was written, and then passing it on failed
+-- if a text was written, and then passing it on failed, the text was appended and a failure counted
 pub wrote_and_failed : (a b c : Written) (text : List ℕ) → Wrote a b text → WroteFront b c [] →
     Appends a.contents c.contents text × (a.failures < c.failures)
 wrote_and_failed a b c text wrote failed = (

@@ -18,14 +18,14 @@ use Rattle.runs.proofs.TurnLists.{lines_more, output_more, run_more, wrote_and_f
 
 -- ---- what a crash leaves
 
--- an image that denotes one of two lists of states denotes one of the first or of the second
+-- an image that denotes a state of two joined lists denotes one of the first or of the second
 split_one : (g : Geometry) (size : ℕ) (c : Image) (ss ts : List Saved) → DenotesOne g size (ss ++ ts) c →
     DenotesOne g size ss c ⊎ DenotesOne g size ts c
 split_one g size c [] ts one = inr one
 split_one g size c (s ∷ ss) ts one = ⊎_elim (λ here. inl (inl here))
     (λ there. ⊎_elim (λ first. inl (inr first)) (λ last. inr last) (split_one g size c ss ts there)) one
 
--- an image that denotes one of several states denotes this state
+-- an image that denotes one of some states denotes a state among them
 pub denotes_this : (g : Geometry) (size : ℕ) (c : Image) (ss : List Saved) → DenotesOne g size ss c →
     (s : Saved) × Contains ss s × Denotes g size c s
 denotes_this g size c [] one = absurd one
@@ -34,7 +34,7 @@ denotes_this g size c (s ∷ ss) one = ⊎_elim
     (λ there. let is = denotes_this g size c ss there in (is.0, (suc is.1.0, omega (arith, is.1.1), is.1.2), is.2))
     one
 
--- in a turn a crash may leave a candidate, or the state that the command saves
+-- a candidate of the machine before a turn may be left in the turn
 left_before : (g : Geometry) (size : ℕ) (t : Turn) (c : Image) → DenotesOne g size (candidates t.before) c → IsLeftIn g size t c
 left_before g size t c one = let is = denotes_this g size c (candidates t.before) one in (is.0, inl is.1, is.2)
 
@@ -45,9 +45,9 @@ left_by g size t command says c one = ⊎_elim
     (λ last. let is = denotes_this g size c (second t.before command) last in (is.0, inr (command, says, is.1), is.2))
     (split_one g size c (candidates t.before) (second t.before command) one)
 
--- ---- failures
+-- ---- failures of the device
 
--- an answer reports a failure exactly if there was one
+-- if an answer is `Fault` exactly if the device failed, so is the reply
 pub answer_reported : (old new : Disk) (a : Answer) → IsCaused old new a → IsReportedBy old new (Reported a)
 answer_reported old new a caused = record {
   never_falls = caused.later;
@@ -57,16 +57,16 @@ answer_reported old new a caused = record {
     same_answer : (b : Answer) → Reported b ≡ Reported (answer.Refused refusal.Fault) → b ≡ answer.Refused refusal.Fault
     same_answer b is = cc
 
--- if no call is made, no failure is reported
+-- if no call is made, a reply other than `Fault` reports the failures correctly
 none_reported : (disk : Disk) (reply : Reply) → reply ≢ Reported (answer.Refused refusal.Fault) → IsReportedBy disk disk reply
 none_reported disk reply fine = record {
   never_falls = omega arith;
   cause = (λ is. absurd (fine is), λ rose. absurd (omega (arith, rose)));
 }
 
--- ---- what an observer saw
+-- ---- observers
 
--- an observer has seen one more turn
+-- if an observer saw some turns and let the run go on, it has seen them and one more
 pub seen_more : {O : Type 0} (sees : Turn → O → O → Bool → Type 0) (old mid new : O) (ts : List Turn) (t : Turn) (on : Bool) →
     AreSeen sees old mid ts true → sees t mid new on → AreSeen sees old new (ts ++ t ∷ []) on
 seen_more sees old mid new [] t true same seen = inl (new, subst (λ x. sees t x new true) same.0 seen, (refl, refl))
@@ -82,7 +82,7 @@ not_read e is read = let never : fault.Write ≡ fault.Read = sym is ∙ read in
 pub not_stopped : (e : RunFault) → e ≡ fault.Write → e ≢ fault.Stopped
 not_stopped e is stopped = let never : fault.Write ≡ fault.Stopped = sym is ∙ stopped in absurd cc
 
--- whether the run ends after a line that was taken, and by which fault
+-- with this result of a line the run ends, with fault e
 abbrev pub Ending : Result Bool RunFault → RunFault → Type 0
 Ending (Ok true) e = ⊥
 Ending (Ok false) e = e ≡ fault.Stopped
@@ -90,14 +90,14 @@ Ending (Err f) e = e ≡ f
 
 module _ {D S O : Type 0} (disk : D → Disk) (view : S → View D) (parts : S → Parts) (sees : Geometry → Turn → O → O → Bool → Type 0)
     (only_now : (d : D) (c : Image) → (disk d).left_since (disk d).moment c → (disk d).may_leave c) where
-  -- ---- a turn
+  -- ---- one turn
 
-  -- if no call is made, a crash leaves a candidate
+  -- if no call is made, a crash leaves a candidate of the machine
   here : (g : Geometry) (m : Machine) (p : Power D S) → Stands disk view parts g p m →
       LeavesOnly (disk_of disk view parts p) (disk_of disk view parts p) (DenotesOne g (disk_of disk view parts p).sectors (candidates m))
   here g m p stands = search (arith, nat_tests, started)
 
-  -- a line without a command
+  -- a line without a command is taken without a device call
   no_command : (g : Geometry) (m : Machine) (text : List ℕ) (says : Line) (p : Power D S) (before seen : O) (written wrote : Written)
       (result : Result Bool RunFault) (reply : Reply) (on : Bool) →
       Stands disk view parts g p m → Replies g says m reply m → reply ≢ Reported (answer.Refused refusal.Fault) →
@@ -152,21 +152,21 @@ module _ {D S O : Type 0} (disk : D → Disk) (view : S → View D) (parts : S �
         writes = writes;
       })
 
-  -- ---- a run
+  -- ---- turn after turn
 
   pub begun : (g : Geometry) (m : Machine) (p : Power D S) (seen : O) (line : LineBuffer) (output : Written) → Holds line [] →
       Stands disk view parts g p m →
       SoFar disk view parts sees g m p p seen seen [] line output output
   begun g m p seen line output empty stands = search (arith, nat_tests, no_lines, wrote_none)
 
-  -- one more turn
+  -- some turns and one more are turns from kernel to kernel
   turns_more : (g : Geometry) (old mid new : Power D S) (ts : List Turn) (t : Turn) → AreTurnsOf disk view parts g old mid ts →
       IsTurnOf disk view parts g mid new t →
       AreTurnsOf disk view parts g old new (ts ++ t ∷ [])
   turns_more g old mid new [] t same turn = (new, subst (λ (p : Power D S). IsTurnOf disk view parts g p new t) same turn, refl)
   turns_more g old mid new (u ∷ us) t goes turn = (goes.0, goes.1, turns_more g goes.0 mid new us t goes.2 turn)
 
-  -- more bytes of a line were read
+  -- reading bytes without a newline only extends the line so far
   pub longer : (g : Geometry) (m : Machine) (old new : Power D S) (first seen : O) (text : List ℕ) (line longer : LineBuffer)
       (output output_left : Written) (bytes : List ℕ) →
       SoFar disk view parts sees g m old new first seen text line output output_left → IsOneLine bytes →
@@ -182,7 +182,7 @@ module _ {D S O : Type 0} (disk : D → Disk) (view : S → View D) (parts : S �
     written = so_far.written;
   }
 
-  -- a line has ended, and this is its text
+  -- the parameters: a run so far, and a line that has ended and was carried out
   module _ (g : Geometry) (m : Machine) (old mid new : Power D S) (first before seen : O) (begins : List ℕ) (held next : LineBuffer)
       (output written wrote : Written)
       (so_far : SoFar disk view parts sees g m old mid first before begins held output written) (text rest : List ℕ)
@@ -223,7 +223,7 @@ module _ {D S O : Type 0} (disk : D → Disk) (view : S → View D) (parts : S �
     whole_lines : AreLines (text ++ 10 ∷ []) (lines_in turns_on) []
     whole_lines = search (arith, nat_tests, lines_more, line_more)
 
-    -- it ended at its newline
+    -- if the line ended at a newline, and the run goes on, the run so far has one more turn
     pub goes_on : true ≡ turn.on → Wrote written wrote (reply_text turn.reply) →
         SoFar disk view parts sees g m old new first seen (text ++ 10 ∷ []) next output wrote
     goes_on on all = record {
@@ -240,7 +240,7 @@ module _ {D S O : Type 0} (disk : D → Disk) (view : S → View D) (parts : S �
         g m old new first seen output wrote
     stopped more e ending = search (arith, nat_tests, more_run, all_seen, begins_with, whole_lines, stops_by)
 
-    -- it ended at the end of the input
+    -- if the input ended, the rest is the last line
     last_lines : (rest ≡ [] → ⊥) → lines_of text ≡ lines_in turns_on
     last_lines some = lines_with_rest text (lines_in so_far.turns) rest lines some ∙ sym (lines_more so_far.turns turn_of)
 
@@ -258,15 +258,15 @@ module _ {D S O : Type 0} (disk : D → Disk) (view : S → View D) (parts : S �
         Stopped disk view parts sees (λ lines. lines_of text ≡ lines) e g m old new first seen output wrote
     stopped_at_rest some e ending = search (arith, nat_tests, more_run, all_seen, last_lines, stops_by)
 
-  -- nothing is left of the input
+  -- if the input ended and there is no rest, the run has all lines
   pub ended : (g : Geometry) (m : Machine) (old new : Power D S) (first seen : O) (text : List ℕ) (line : LineBuffer)
       (output written : Written) (so_far : SoFar disk view parts sees g m old new first seen text line output written) → so_far.rest ≡ [] →
       Ended disk view parts sees g m old new first seen text output written
   ended g m old new first seen text line output written so_far none = search (arith, nat_tests, lines_whole)
 
-  -- ---- a piece
+  -- ---- a piece of the input
 
-  -- these bytes were read, beginning with a kernel, an observer, a line and a writer
+  -- the parameters: the state before a piece; `Goes` says how far the run has come after some bytes of the piece
   module _ (first : Power D S) (saw : O) (begun_line : LineBuffer) (had : Written) where
     abbrev pub Goes : List ℕ → Power D S → O → LineBuffer → Written → Type 0
     Goes read k seen line written = (g : Geometry) (m : Machine) (start : Power D S) (begins : O) (text : List ℕ) (output : Written) →
@@ -286,11 +286,11 @@ module _ {D S O : Type 0} (disk : D → Disk) (view : S → View D) (parts : S �
         (longer g m start k begins seen (text ++ read) line longer_line output written bytes (goes g m start begins text output so_far) one
         extended)
 
-    -- the first bytes of a piece were read, and `rest` is left
+    -- the first bytes of a piece were taken, and `rest` is left
     abbrev pub GoesTo : List ℕ → List ℕ → Power D S → O → LineBuffer → Written → Type 0
     GoesTo piece rest k seen line written = (read : List ℕ) × (piece ≡ read ++ rest) × Goes read k seen line written
 
-    -- a line has ended, and these are its last bytes
+    -- the parameters: the last bytes of a line that was carried out
     module _ (read : List ℕ) (k new : Power D S) (before seen : O) (line next : LineBuffer) (written wrote : Written)
         (goes : Goes read k before line written) (bytes : List ℕ) (one : IsOneLine bytes)
         (empty : (held : List ℕ) → Holds line held → Holds next []) (result : Result Bool RunFault)
@@ -299,7 +299,7 @@ module _ {D S O : Type 0} (disk : D → Disk) (view : S → View D) (parts : S �
       text_is : (text : List ℕ) → ((text ++ read) ++ bytes) ++ 10 ∷ [] ≡ text ++ ((read ++ bytes) ++ 10 ∷ [])
       text_is text = search (arith, nat_tests, append_assoc)
 
-      -- the line with its newline, in the run so far
+      -- the parameters: a run so far, which the line and its newline extend
       module _ (g : Geometry) (m : Machine) (start : Power D S) (begins : O) (text : List ℕ) (output : Written)
           (so_far : SoFar disk view parts sees g m start first begins saw text begun_line output had) where
         abbrev now : SoFar disk view parts sees g m start k begins before (text ++ read) line output written
@@ -327,7 +327,7 @@ module _ {D S O : Type 0} (disk : D → Disk) (view : S → View D) (parts : S �
             (bytes_more (text ++ read) (lines_in now.turns) now.rest bytes now.lines one) (empty now.rest now.held) result taken more e
             ending)
 
-    -- the rest of a piece begins with the end of a line, which was carried out
+    -- the parameters: a rest that begins with the end of a line, which was carried out
     module _ (piece rest : List ℕ) (k new : Power D S) (before seen : O) (line next : LineBuffer) (written wrote : Written)
         (goes : GoesTo piece rest k before line written)
         (end : ℕ) (within : end < length rest) (one : IsOneLine (take end rest)) (newline : slice_index_or rest end 0 ≡ 10)
@@ -359,7 +359,7 @@ module _ {D S O : Type 0} (disk : D → Disk) (view : S → View D) (parts : S �
           ending (drop (suc end) rest) piece
           (line_taken piece goes.0 rest end goes.1 within newline)
 
-    -- or the rest has no newline
+    -- if the rest has no newline, the whole piece is taken
     pub goes_to_end : (piece rest : List ℕ) (k : Power D S) (seen : O) (line longer_line : LineBuffer) (written : Written) →
         GoesTo piece rest k seen line written → IsOneLine rest →
         ((l : List ℕ) → Holds line l → Holds longer_line (l ++ rest)) → Goes piece k seen longer_line written
@@ -367,9 +367,9 @@ module _ {D S O : Type 0} (disk : D → Disk) (view : S → View D) (parts : S �
         subst (λ (read : List ℕ). Goes read k seen longer_line written) (sym goes.1)
         (goes_longer goes.0 k seen line longer_line written rest goes.2 one extended)
 
-  -- ---- a run
+  -- ---- the whole run
 
-  -- the run so far, for any machine that the first kernel stands for
+  -- for each machine that the first kernel stands for, the run so far is one of it
   abbrev pub RunsSoFar : Power D S → Power D S → O → O → List ℕ → LineBuffer → Written → Written → Type 0
   RunsSoFar old new first seen text line output output_left = (g : Geometry) (m : Machine) → Stands disk view parts g old m →
       SoFar disk view parts sees g m old new first seen text line output output_left
@@ -377,12 +377,12 @@ module _ {D S O : Type 0} (disk : D → Disk) (view : S → View D) (parts : S �
   pub no_text : (old : Option (List ℕ)) → Consumes old old []
   no_text old = search (arith, nat_tests)
 
-  -- a text was read, and the run so far is that of its lines
+  -- a text was read, and the run has taken its lines
   abbrev pub HasRead : Power D S → Power D S → O → O → LineBuffer → Option (List ℕ) → Option (List ℕ) → Written → Written → Type 0
   HasRead old new first seen line input input_left output output_left =
       (text : List ℕ) × Consumes input input_left text × RunsSoFar old new first seen text line output output_left
 
-  -- the run so far keeps what was written
+  -- if answers were passed on, the run so far stays
   kept_so_far : (g : Geometry) (m : Machine) (old new : Power D S) (first seen : O) (text : List ℕ) (line : LineBuffer)
       (output written kept : Written) → Wrote written kept [] →
       SoFar disk view parts sees g m old new first seen text line output written →
@@ -395,7 +395,7 @@ module _ {D S O : Type 0} (disk : D → Disk) (view : S → View D) (parts : S �
 
   module _ (old mid : Power D S) (first before : O) (line : LineBuffer) (input read left : Option (List ℕ)) (output written : Written)
       (so_far : HasRead old mid first before line input read output written) where
-    -- passing on what was written succeeded or failed
+    -- the parameters: the writer passed on the answers
     module _ (passed : Written) (kept : Wrote written passed []) where
       pub passed_on : HasRead old mid first before line input read output passed
       passed_on = (
@@ -414,7 +414,7 @@ module _ {D S O : Type 0} (disk : D → Disk) (view : S → View D) (parts : S �
         let wrote = wrote_and_failed output written passed (output_of s.turns) s.written failed.1 in
         (s.turns, s.run, (so_far.0, so_far.1, inr (inl (s.rest, s.lines), wrote.0, wrote.1)), true, s.are_seen, tt))
 
-    -- the reader failed
+    -- if the reader failed, the run ended with all whole lines answered
     pub none_was_read : (piece : List ℕ) (e : RunFault) → ReadsPiece read left piece (Err e) →
         RunsSeen disk view parts sees old mid first before input left output written (Err e)
     none_was_read piece e failed = search (arith, nat_tests, append-nil, Consumes-trans)
@@ -431,7 +431,7 @@ module _ {D S O : Type 0} (disk : D → Disk) (view : S → View D) (parts : S �
         λ g m stands. goes g m old first so_far.0 output (so_far.2 g m stands),
       )
 
-      -- a run that stops early has read and written as it should
+      -- a run that ends early did with its input and output what `Does` says
       does_stop : (AreTaken : List (List ℕ) → Type 0) (text : List ℕ) → Consumes input left text →
           ((lines : List (List ℕ)) → AreTaken lines → AreFirst text left lines) →
           (e : RunFault) (g : Geometry) (m : Machine) (s : Stopped disk view parts sees AreTaken e g m old new first seen output wrote) →
@@ -452,7 +452,7 @@ module _ {D S O : Type 0} (disk : D → Disk) (view : S → View D) (parts : S �
           (λ lines begin. inl begin) e g m s in
           (s.turns, s.run, does.0, s.on, s.are_seen, does.1)
 
-    -- the input has ended
+    -- the parameters: the input has ended
     module _ (new : Power D S) (seen : O) (wrote : Written) (none : Consumes read left []) (end : IsAtEnd left) where
       all_read : Consumes input left so_far.0
       all_read = subst (Consumes input left) (append-nil so_far.0) (Consumes-trans input read left so_far.0 [] so_far.1 none)
@@ -468,7 +468,7 @@ module _ {D S O : Type 0} (disk : D → Disk) (view : S → View D) (parts : S �
           (λ lines whole. inr (end, whole)) e g m s in
           (s.turns, s.run, does.0, s.on, s.are_seen, does.1)
 
-      -- passing on the answers succeeded or failed
+      -- whether the last answers were passed on or not, the run did what `RunsSeen` says
       pub end_passed_on : (passed : Written) →
           ((g : Geometry) (m : Machine) (start : Power D S) (begins : O) (text : List ℕ) (out : Written) →
           SoFar disk view parts sees g m start mid begins before text line out written →
@@ -488,7 +488,7 @@ module _ {D S O : Type 0} (disk : D → Disk) (view : S → View D) (parts : S �
             subst (λ (d : RunFault). EndsBy true (Err d)) (sym failed.0) tt,
           )
 
-  -- ---- the rest at the end
+  -- ---- the rest at the end of the input
 
   module _ (k new : Power D S) (before seen : O) (line : LineBuffer) (next : LineBuffer) (written wrote : Written) (empty : Holds next [])
       (is_empty : Bool) (tells : (l : List ℕ) → Holds line l → (IsTrue is_empty ↔ (l ≡ []))) (some : is_empty ≡ false)
@@ -520,7 +520,7 @@ module _ {D S O : Type 0} (disk : D → Disk) (view : S → View D) (parts : S �
         result taken
         (not_none so_far.rest so_far.held) e ending
 
-  -- ---- what the observer adds is left out
+  -- ---- a run without its observer
 
   pub run_of_seen : (old new : Power D S) (first seen : O) (input left : Option (List ℕ)) (output wrote : Written)
       (result : Result (Unit {0}) RunFault) → RunsSeen disk view parts sees old new first seen input left output wrote result →

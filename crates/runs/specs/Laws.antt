@@ -1,4 +1,4 @@
--- What holds of every run: its output is determined if nothing fails, crashes are survived, its changes are bounded.
+-- Laws of runs: if nothing fails, the output is determined; crashes are survived; changes are bounded.
 use Rattle.runs.specs.Names.{ℕ, Bool, true, false, List, [], Contains, Command, Geometry, IsClosed, Machine, Running}
 use Rattle.runs.specs.Names.{Saved, Up, candidates, opened, Reported, Turn, IsRun, output_of, takes_memory, Says}
 use Rattle.runs.specs.Names.{object_at, Disk, Image, LeavesOnly, OpenFault, AreBy, IsKept, with_free, Parts, View}
@@ -9,7 +9,7 @@ use Rattle.model.specs.declared.answer.Refusal.TheVariants as refusal
 use Rattle.model.specs.declared.line.Line.TheVariants as line
 use Rattle.runs.specs.KernelRuns.{IsRunOf, IsTurnOf, MaySaveIn, lines_in}
 
--- the device didn't fail in a turn, and memory didn't run out if its command takes memory
+-- in this turn the device didn't fail, and memory didn't run out
 pub record IsSteady (t : Turn) : Type 0 where
   pub device : t.reply ≢ Reported (answer.Refused refusal.Fault)
   pub memory : (c : Command) → Says t.line (line.Command c) → takes_memory c ≡ true →
@@ -19,21 +19,22 @@ abbrev pub AreSteady : List Turn → Type 0
 AreSteady [] = Unit {0}
 AreSteady (t ∷ ts) = IsSteady t × AreSteady ts
 
--- two steady runs of a machine that is up, on the same lines, write the same and end at the same machine
+-- if two runs begin at the same machine, have the same lines, and nothing fails, they write the same and end at the
+-- same machine
 abbrev pub SteadyRunsAgree : Type 0
 SteadyRunsAgree = (g : Geometry) (s : Running) (ts us : List Turn) (a b : Machine) → IsRun g (Up s) ts a →
     IsRun g (Up s) us b → lines_in ts ≡ lines_in us →
     AreSteady ts → AreSteady us → (output_of ts ≡ output_of us) × (a ≡ b)
 
--- what a crash since a run began may leave saved: what a crash in one of its turns may, or a candidate at its end
+-- s may be saved if a crash comes during a run: it may be saved in one of its turns, or is a candidate at the end
 abbrev pub MaySave : Machine → List Turn → Saved → Type 0
 MaySave m [] s = Contains (candidates m) s
 MaySave m (t ∷ ts) s = MaySaveIn t s ⊎ MaySave t.after ts s
 
--- The parameters are ghost members of a device and of an object store.
+-- The parameters: the ghost members of a device and of an object store.
 module _ {D S : Type 0} (disk : D → Disk) (view : S → View D) (parts : S → Parts) where
-  -- the authority bound: over a run of invocations and memory references by processes of a closed set, and by those
-  -- that they make of free numbers, each object outside the set that wasn't free is kept
+  -- the authority bound. Take a run of invocations, loads and stores by processes of a closed set, or by those that
+  -- they make from free numbers. Then each object outside the set that wasn't free is kept
   abbrev pub RunsAreConfined : Type 0
   RunsAreConfined = (g : Geometry) (s t : Running) (old new : Power D S) (turns : List Turn) (inside : ℕ → Bool) →
       Stands disk view parts g old (Up s) → Stands disk view parts g new (Up t) →
@@ -42,25 +43,26 @@ module _ {D S : Type 0} (disk : D → Disk) (view : S → View D) (parts : S →
       with_free s.now.objects inside n ≡ false →
       IsKept inside (object_at s.now.objects n) (object_at t.now.objects n)
 
-  -- a device that holds this image is opened at this saved state, or the device fails, or memory runs out
+  -- a device that holds this image opens at this saved state, unless it fails or memory runs out
   abbrev pub IsOpenedAt : Geometry → ℕ → Image → Saved → Type 0
   IsOpenedAt g size c s = (d : D) → (disk d).sectors ≡ size → (disk d).seen ≡ c →
       ((k : Power D S) → Opens disk view parts d k → Stands disk view parts g k (Up (opened g s)))
       × ((back : D) (why : OpenFault) → RefusesToOpen disk d back why → IsNoReason why)
 
-  -- a crash at any moment from one kernel to another leaves an image that denotes a saved state which may be left, and
-  -- the image opens at this state
+  -- a crash at any moment between two kernels leaves an image that denotes a state which may be left, and opens at
+  -- this state
   abbrev pub IsSurvived : Geometry → Power D S → Power D S → (Saved → Type 0) → Type 0
   IsSurvived g old new MayBeLeft = LeavesOnly (disk_of disk view parts old) (disk_of disk view parts new)
       (λ c. (s : Saved) × MayBeLeft s × Denotes g (disk_of disk view parts old).sectors c s
       × IsOpenedAt g (disk_of disk view parts old).sectors c s)
 
-  -- the main theorem: a crash at any moment of a turn leaves a state that may be saved in it, and the image opens there
+  -- the main theorem: if a crash comes at any moment of a turn, the image opens at a state that may be saved in the
+  -- turn
   abbrev pub CrashesAreSurvived : Type 0
   CrashesAreSurvived = (g : Geometry) (old new : Power D S) (t : Turn) → IsTurnOf disk view parts g old new t →
       IsSurvived g old new (MaySaveIn t)
 
-  -- the same for a crash at any moment since a run began, and for what may be saved during the run
+  -- if a crash comes at any moment of a run, the image opens at a state that may be saved in the run
   abbrev pub CrashesInRunsAreSurvived : Type 0
   CrashesInRunsAreSurvived = (g : Geometry) (m : Machine) (old new : Power D S) (turns : List Turn) →
       Stands disk view parts g old m → IsRunOf disk view parts g m old new turns →

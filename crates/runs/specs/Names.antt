@@ -1,4 +1,4 @@
--- The names of other crates that the definitions here cite.
+-- The names of other crates that the definitions here import.
 pub use Rattle.capability.specs.Parts.{Parts}
 pub use Rattle.checkpoint.specs.Store.{View}
 pub use Rattle.device.specs.Disk.{Disk, Image}

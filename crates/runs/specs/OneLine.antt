@@ -1,15 +1,15 @@
--- A line that is run alone.
+-- Running one line alone.
 use Rattle.runs.specs.Names.{ℕ, Bool, List, [], Result, Disk, Geometry, Machine, Parts, Power, RunFault, Stands, Turn}
 use Rattle.runs.specs.Names.{View, Written, reply_text}
 use Rattle.std.specs.Prelude.{◌≡◌, ◌∷◌}
 use Rattle.runs.specs.KernelRuns.{IsRunOf}
 use Rattle.runs.specs.Taking.{IsWritten}
 
--- The parameters are ghost members of a device, of an object store, and of an observer.
+-- The parameters: the ghost members of a device, of an object store and of an observer.
 module _ {D S O : Type 0} (disk : D → Disk) (view : S → View D) (parts : S → Parts)
     (sees : Geometry → Turn → O → O → Bool → Type 0) where
-  -- whichever machine the kernel stands for, the line was a run of one turn, which an observer saw and whose answer was
-  -- written; or the writer failed
+  -- for each machine that the kernel stands for, the line ran as one turn, which the observer saw; its answer was
+  -- written, or the writer failed
   abbrev pub RunsLine : List ℕ → Power D S → Power D S → O → O → Written → Written → Result Bool RunFault → Type 0
   RunsLine line old new before after output output_left result =
       (g : Geometry) (m : Machine) → Stands disk view parts g old m →

@@ -1,4 +1,4 @@
--- What a run did that isn't committed.
+-- Recording what a run did that isn't committed.
 use Rattle.runs.specs.Names.{Bool, true, false, Answer, Command, Geometry, Reply, Reported, Turn, Says}
 use Rattle.std.specs.Prelude.{◌≡◌}
 use Rattle.model.specs.declared.answer.Answer.TheVariants as answer
@@ -9,8 +9,8 @@ use Rattle.runs.specs.declared.unsaved.Unsaved.{Unsaved}
 abbrev pub nothing_unsaved : Unsaved
 nothing_unsaved = record { present = false; frozen = false }
 
--- After each invocation or store that is carried out, something present isn't committed. A checkpoint freezes that, a
--- commit saves what is frozen, and a restart loses both.
+-- What isn't committed after this command. Every invocation and store that is carried out is uncommitted. A
+-- checkpoint freezes that, a commit saves what is frozen, and a restart loses both.
 abbrev pub unsaved_after : Command → Answer → Unsaved → Unsaved
 unsaved_after (command.Evict n) answer.Done old = old
 unsaved_after c answer.Done old = record { present = true; frozen = old.frozen }
@@ -19,11 +19,11 @@ unsaved_after c (answer.Committed g) old = record { present = old.present; froze
 unsaved_after c (answer.At g age) old = nothing_unsaved
 unsaved_after c a old = old
 
--- a line that is no command changes nothing
+-- what isn't committed after the reply to a turn; without a command it stays
 abbrev pub NotesReply : Turn → Reply → Unsaved → Unsaved → Type 0
 NotesReply t (Reported a) old new = (c : Command) × Says t.line (line.Command c) × (new ≡ unsaved_after c a old)
 NotesReply t reply old new = new ≡ old
 
--- what isn't committed after a turn; the run goes on
+-- the observer records what isn't committed after a turn, and lets the run go on
 abbrev pub Notes : Geometry → Turn → Unsaved → Unsaved → Bool → Type 0
 Notes g t old new on = (on ≡ true) × NotesReply t t.reply old new

@@ -15,7 +15,7 @@ pub enum Cause {
     BadLine(LineFault),
     /// The command was refused.
     Refused(Refusal),
-    /// The order that the command gave has this result code, which isn't `Done`.
+    /// The order had this result code, which isn't `Done`.
     Code(ResultCode),
 }
 
@@ -59,7 +59,7 @@ pub fn add_code(line: &mut LineText, code: ResultCode)
     line.push(b")");
 }
 
-/// Returns why a bad line is bad. `text` is the line, or `None` if it is too long.
+/// Returns why a line is bad. `text` is the line, or `None` if it is too long.
 pub fn fault_of(text: Option<&[u8]>) -> LineFault
     requires { IfSome text (λ t. Says t.now Line.Bad) }
     ensures { (line : List ℕ) → IsTextOf (option_map (λ t. t.now) text.entry) line → IsFaultOf line result }

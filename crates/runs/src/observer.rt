@@ -8,15 +8,16 @@ ghost use Rattle.script.specs.Lines.{IsTextOf};
 
 use model::{Answer, Command, Line, ResultCode};
 
-/// Observes a run: it is shown each turn, and decides after it whether the run continues.
+/// An observer sees each turn of a run, and decides whether the run goes on after it.
 pub trait Observer {
-    // How the observer changes when it sees a turn of a machine of this geometry, and whether the run continues.
+    // How the observer changes when it sees a turn of a machine of this geometry. The flag says whether the run
+    // goes on.
     ghost sees: { Geometry → Turn → Self → Self → Bool → Type 0 };
 
-    // Whether the observer may end a run.
+    // Whether the observer can end a run.
     ghost may_end: { Bool };
 
-    /// Sees a line that was skipped. Returns whether the run continues, as the next two do.
+    /// Sees a skipped line. Returns whether the run goes on, as the next two functions do.
     fn skip(&mut self) -> bool
         ensures seen { (g : Geometry) (t : Turn) → t.reply ≡ Nothing → sees g t self.old self.new result }
         ensures goes_on { may_end ≡ false → result ≡ true };
@@ -28,7 +29,8 @@ pub trait Observer {
             → t.reply ≡ BadLine → sees g t self.old self.new result }
         ensures goes_on { may_end ≡ false → result ≡ true };
 
-    /// Sees a command, its answer, and the result code if the command was an invocation that gave an order.
+    /// Sees a command and its answer. If the command was an invocation of a kernel object, `code` is the
+    /// order's result code.
     fn answer(&mut self, command: &Command, answer: &Answer, code: Option<ResultCode>) -> bool
         ensures seen { (g : Geometry) (t : Turn) → Says t.line (Line.Command command.now)
             → t.reply ≡ Reported answer.now → reported_code g t.before command.now answer.now ≡ code

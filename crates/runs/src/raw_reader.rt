@@ -1,4 +1,4 @@
-// A reader, with a contract for each of its calls.
+// Readers with a contract for each call.
 ghost use Rattle.std.specs.Prelude.{◌≡◌, ◌≢◌, ℕ, List, Option, None, option_map, IfErr, OnOk};
 ghost use Rattle.std.specs.Io.{ReadsAtMost};
 ghost use Rattle.std.specs.Io.KnownBytes.{ReadConsumes};
@@ -7,16 +7,16 @@ ghost use Rattle.script.specs.CallErrors.{CallErrors, more_errors};
 
 use std::io::{self, ErrorKind, Read};
 
-/// A reader. Where it is known, also which of its calls failed.
+/// A reader. For some readers it is known which calls failed.
 pub trait RawReader {
-    // The bytes that the reader will still return, where they are known.
+    // The bytes that the reader will still return, if they are known.
     ghost rest: { Self → Option (List ℕ) };
 
-    // The number of errors so far, where it is known.
+    // The errors so far, if they are known.
     ghost errors: { Self → Option CallErrors };
 
-    /// Reads bytes into the front of `into`, as many as the reader returns in one call. Returns how many; 0 is the
-    /// end.
+    /// Reads bytes into the front of `into`, as many as the reader returns in one call. Returns their number; 0 is
+    /// the end.
     fn get(&mut self, into: &mut [u8]) -> io::Result<usize>
         ensures bound { ReadsAtMost result into.new }
         ensures bytes { ReadConsumes (rest self.old) (rest self.new) result into.new }
@@ -27,7 +27,7 @@ pub trait RawReader {
             → errors self.new ≡ option_map (more_errors 1 0) (errors self.old)) };
 }
 
-/// Nothing is known about the errors of this reader.
+/// The errors of this reader are unknown.
 impl<R: Read> RawReader for R {
     ghost rest = { R.remaining };
 

@@ -26,7 +26,7 @@ use script::{LineBuffer, Output, RunFault, parse_line, print_answer, print_bad_l
 const PIECE_SIZE: usize = 4096;
 
 // Carries out a parsed line, shows the turn to the observer, and writes the answer. Returns whether the observer lets
-// the run continue. `text` is the line, or `None` if it is too long.
+// the run go on. `text` is the line, or `None` if it is too long.
 #[inline(never)]
 fn take<D: Device, S: ObjectStore<D>, W: Output, O: Observer>(
     kernel: &mut Kernel<D, S>,
@@ -59,7 +59,7 @@ fn take<D: Device, S: ObjectStore<D>, W: Output, O: Observer>(
     }
 }
 
-// Carries out the line that ends with `bytes`, where `line` has its beginning; then clears `line`.
+// Carries out a line, then clears `line`. The line is what `line` holds and then `bytes`.
 #[inline(always)]
 fn take_line<D: Device, S: ObjectStore<D>, W: Output, O: Observer>(
     kernel: &mut Kernel<D, S>,
@@ -105,8 +105,8 @@ fn take_held<D: Device, S: ObjectStore<D>, W: Output, O: Observer>(
     taken
 }
 
-// Carries out each line that ends in a piece of the script, and keeps the beginning of the next in `line`. A line
-// that lies in the piece as a whole isn't copied.
+// Carries out each line that ends in this piece of the script, and leaves the beginning of the next one in
+// `line`. A line that lies wholly in the piece isn't copied.
 fn take_piece<D: Device, S: ObjectStore<D>, W: Output, O: Observer>(
     kernel: &mut Kernel<D, S>,
     line: &mut LineBuffer,
@@ -141,7 +141,7 @@ fn take_piece<D: Device, S: ObjectStore<D>, W: Output, O: Observer>(
     Ok(())
 }
 
-// At the end of the input, carries out the rest in `line` unless it is empty.
+// At the end of the input, carries out the rest in `line`, unless it is empty.
 fn take_rest<D: Device, S: ObjectStore<D>, W: Output, O: Observer>(
     kernel: &mut Kernel<D, S>,
     line: &mut LineBuffer,
@@ -203,25 +203,27 @@ fn run_turns<D: Device, S: ObjectStore<D>, R: Script, W: Output, O: Observer>(
     }
 }
 
-/// Runs a script over a kernel: reads it in pieces of at most 4096 bytes, which may end anywhere, and writes the
-/// answer to each line that isn't skipped before it takes the next line. A line outside the grammar is answered `bad
-/// line`. The written answers are passed on before each read, and at the end of the input. All lines that end in a
-/// piece are answered before the next piece is read: that is tested, not proved.
+/// Runs a script over a kernel. Answers each line that isn't skipped before it takes the next; a line outside the
+/// grammar is answered `bad line`. It reads the script in pieces of at most 4096 bytes, which may end anywhere.
+/// Answers are passed on before each read, and at the end of the input. All lines that end in a piece are answered
+/// before the next piece is read; that is tested, not proved.
 ///
-/// The text written is the printed answers of a run of the machine on the commands of these lines. The run may begin
-/// with any machine that the kernel stands for, and includes power cuts and failures of the device. A crash at any
-/// moment of a line leaves a candidate of the machine before the line, or the state that its command saves. `fault`
-/// is answered exactly if the device failed.
+/// - **Output.** The text written is the printed answers of a run of the machine on these commands. The run may
+///   begin with any machine that the kernel stands for, and includes power cuts and failures of the device. `fault`
+///   is answered exactly if the device failed.
+/// - **Crashes.** After a crash at any moment of a line, the image denotes a candidate of the machine before the
+///   line, or the state that its command saves.
+/// - **Confinement** (EROS). Let each line be an invocation, load or store by a process of a closed set, or by one
+///   made from free numbers. Then objects outside the set that weren't free keep their content and owner. Exception:
+///   capabilities to members may become void.
+/// - **Read errors.** Returns `RunFault::Read` exactly if a read failed. Then each line whose newline was read was
+///   answered.
+/// - **Write errors.** Returns `RunFault::Write` exactly if a call of the writer failed. Then the lines taken are
+///   the first of those read whole, or of all lines if the input ended. Only the last answer may be cut short. If
+///   the failed call was one that passes on, all of them were answered. The kernel is in the state after the lines
+///   taken.
 ///
-/// If each line is an invocation, a load or a store by a process of a closed set, or by one made from free numbers,
-/// then objects outside the set that weren't free keep their content and their owner (EROS: confinement). Exception:
-/// capabilities to members may become void.
-///
-/// Returns `RunFault::Read` exactly if a read failed: then each line whose newline was read was answered. Returns
-/// `RunFault::Write` exactly if a call of the writer failed. Then the lines taken are the first of those that were
-/// read whole (at the end of the input, of all), and only the answer to the last of them may be cut short; if the
-/// failed call was one that passes on, all of them were answered. The kernel then stands where the lines taken left
-/// it. A read that was interrupted is tried again. Reading lines and printing answers takes no memory.
+/// Interrupted reads are repeated. Reading lines and printing answers takes no memory.
 pub fn run<D: Device, S: ObjectStore<D>, R: Script, W: Output>(
     kernel: &mut Kernel<D, S>,
     reader: &mut R,
@@ -238,11 +240,11 @@ pub fn run<D: Device, S: ObjectStore<D>, R: Script, W: Output>(
     run_observed(kernel, reader, writer, &mut Silent)
 }
 
-/// Runs a script over a kernel as `run` does, and shows each turn to an observer, in order. Which observer it is
-/// doesn't change the text written.
+/// Runs a script over a kernel as `run` does, and shows each turn to an observer, in order. The text written
+/// doesn't depend on the observer.
 ///
-/// Returns `RunFault::Stopped` exactly if the observer ended the run: then all lines taken were answered, and the
-/// last of them is the line at which it ended.
+/// Returns `RunFault::Stopped` exactly if the observer ended the run. Then all lines taken were answered, and the
+/// run ended at the last of them.
 pub fn run_observed<D: Device, S: ObjectStore<D>, R: Script, W: Output, O: Observer>(
     kernel: &mut Kernel<D, S>,
     reader: &mut R,
@@ -263,10 +265,10 @@ pub fn run_observed<D: Device, S: ObjectStore<D>, R: Script, W: Output, O: Obser
 }
 
 /// Runs one line over a kernel: carries it out, shows the turn to an observer, writes the answer and passes it on.
-/// Returns whether the observer lets a run continue.
+/// Returns whether the observer lets a run go on.
 ///
-/// Returns `RunFault::Write` exactly if a call of the writer failed: then the answer may be cut short, and the kernel
-/// stands where the line left it.
+/// Returns `RunFault::Write` exactly if a call of the writer failed. Then the answer may be cut short, and the kernel
+/// is in the state after the line.
 pub fn run_line<D: Device, S: ObjectStore<D>, W: Output, O: Observer>(
     kernel: &mut Kernel<D, S>,
     line: &[u8],

@@ -8,7 +8,7 @@ use device::Device;
 use kernel::Kernel;
 use model::{Answer, Command, Refusal};
 
-// Carries out a command. Returns its answer, or an error if this is a refusal.
+// Carries out a command. Returns its answer; a refusal is an error.
 fn carry_out<D: Device, S: ObjectStore<D>>(
     kernel: &mut Kernel<D, S>,
     order: Command,
@@ -23,8 +23,8 @@ fn carry_out<D: Device, S: ObjectStore<D>>(
     Ok(answer)
 }
 
-/// Makes the present state the saved one: copies home what an earlier save left in the log, freezes the machine,
-/// writes each frozen object to the log, and commits. Returns the answer to the commit.
+/// Commits the present state. It copies home what an earlier save left in the log, freezes the machine, writes
+/// each frozen object to the log, and commits. Returns the answer to the commit.
 ///
 /// Fails with the first refusal, and begins no stage after it.
 pub fn commit_all<D: Device, S: ObjectStore<D>>(
@@ -38,7 +38,7 @@ pub fn commit_all<D: Device, S: ObjectStore<D>>(
     carry_out(kernel, Command::Commit)
 }
 
-/// Copies each saved object home, and returns `committed`. Fails if this is refused.
+/// Copies each saved object home, and returns `committed`. Fails if the migration is refused.
 pub fn migrate_all<D: Device, S: ObjectStore<D>>(
     kernel: &mut Kernel<D, S>,
     committed: Answer,
@@ -51,8 +51,8 @@ pub fn migrate_all<D: Device, S: ObjectStore<D>>(
     }
 }
 
-/// Saves the present state: copies home what an earlier save left in the log, freezes the machine, writes each frozen
-/// object to the log, commits, and copies each saved object home. Returns the answer to the commit.
+/// Saves the present state: does what `commit_all` does, then copies each saved object home. Returns the answer to
+/// the commit.
 ///
 /// Fails with the first refusal, and begins no stage after it.
 pub fn save<D: Device, S: ObjectStore<D>>(kernel: &mut Kernel<D, S>) -> Result<Answer, Refusal>

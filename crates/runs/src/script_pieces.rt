@@ -5,7 +5,7 @@ ghost use Rattle.runs.specs.Taking.{LeavesFewer, ReadsPiece};
 
 use script::{Output, RunFault};
 
-/// The result of one read.
+/// The result of a read.
 #[derive(Clone, Copy)]
 pub enum Piece {
     /// The number of bytes that were read.
@@ -16,9 +16,9 @@ pub enum Piece {
     Nothing,
 }
 
-/// A script that comes in pieces. Each piece is read only once the answers to the earlier ones are passed on.
+/// A script that is read in pieces. A piece is read only after the answers to the earlier ones are passed on.
 pub trait Script {
-    // The bytes that are still to be read, where they are known.
+    // The bytes still to be read, if they are known.
     ghost unread: { Self → Option (List ℕ) };
 
     // How many reads failed.
@@ -27,8 +27,8 @@ pub trait Script {
     // The most reads that can still succeed before the end.
     ghost reads_left: { Self → ℕ };
 
-    /// Reads a piece. No answer may wait in `output`: whoever writes the script has received them all. Returns
-    /// `RunFault::Read` if reading fails; only then the count of failures rises.
+    /// Reads a piece. No answer may wait in `output`, so whoever writes the script has received them all.
+    /// Returns `RunFault::Read` if reading fails; only then the count of failures rises.
     fn read_piece<W: Output>(&mut self, output: &W, piece: &mut [u8]) -> Result<Piece, RunFault>
         requires none_waits { W.waiting output.now ≡ [] }
         requires room { 0 < length piece.old }

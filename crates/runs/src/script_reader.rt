@@ -1,4 +1,4 @@
-// A script that comes from a reader.
+// A script that is read from a reader.
 ghost use Rattle.std.specs.Prelude.{◌≡◌, ◌<◌, ◌+◌, ◌-◌, ◌^◌, [], length, IsErr, OnOk};
 ghost use Rattle.script.specs.CallErrors.{HasCause};
 ghost use Rattle.runs.specs.KernelRuns.{IsCounted};
@@ -11,7 +11,7 @@ use collections::Tally;
 use script::{Output, RunFault};
 use std::io::ErrorKind;
 
-/// Reads a script from a reader, and counts the reads that fail. After 2^64 - 1 reads, every read fails.
+/// Reads a script from a reader, and counts failed reads. After 2^64 - 1 reads, every read fails.
 #[derive(Drop)]
 pub struct ScriptReader<R> {
     inner: R,
@@ -20,7 +20,7 @@ pub struct ScriptReader<R> {
 }
 
 impl<R: RawReader> ScriptReader<R> {
-    /// Returns a script that is read from `inner`; no read has failed yet.
+    /// Returns a script that is read from `inner`, with a count of failures of 0.
     pub fn new(inner: R) -> ScriptReader<R>
         ensures inner { read_from result ≡ inner }
         ensures left { left_to_read result ≡ 2 ^ 64 - 1 }
@@ -33,7 +33,7 @@ impl<R: RawReader> ScriptReader<R> {
         }
     }
 
-    // Counts a read that failed, and returns its fault.
+    // Counts a failed read, and returns its fault.
     fn fail(&mut self) -> RunFault
         ensures fault { result ≡ RunFault.Read }
         ensures inner { self.new.inner ≡ self.old.inner }

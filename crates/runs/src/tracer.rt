@@ -1,4 +1,4 @@
-// Tracing: a line on standard error about each line of a script.
+// Tracing: for each line of a script, a line on standard error.
 ghost use Rattle.std.specs.Prelude.{◌≡◌, ◌+◌, ◌-◌, ◌<◌, ◌≤◌, ◌^◌, ◌∷◌, [], ◌++◌, List, ℕ, IfNone, IfSome, Some, codes};
 ghost use Rattle.std.specs.Prelude.{length, min, true};
 ghost use Rattle.model.specs.Text.{line_of, spaced};
@@ -11,17 +11,17 @@ use crate::observer::Observer;
 use model::{Answer, Command, ResultCode};
 use script::{LineFault, LineText, Output, answer_line, command_word};
 
-/// What a traced run does besides writing the answers.
+/// What a traced run does besides writing answers.
 #[derive(Clone, Copy)]
 pub struct TraceOptions {
-    /// Whether it writes a line of trace for each line of the script.
+    /// Whether to write a line of trace for each line of the script.
     pub trace: bool,
-    /// Whether it ends at the first line that is bad or refused, or whose order has a result code other than 0.
+    /// Whether to end at the first line that is bad, is refused, or has a result code other than 0.
     pub strict: bool,
 }
 
-/// Traces a run: for each line of the script that isn't skipped, writes a line with its number, its command and the
-/// answer. If the trace can't be written, the run continues.
+/// Traces a run: for each line of the script that isn't skipped, writes a line with its number, command and answer.
+/// If the trace can't be written, the run goes on.
 #[derive(Drop)]
 pub struct Tracer<V> {
     errors: V,
@@ -55,7 +55,7 @@ impl<V: Output> Tracer<V> {
         self.stop
     }
 
-    // Writes a line of the trace, unless the options have no trace or an earlier line was lost.
+    // Writes a line of the trace, unless no trace is wanted or an earlier line was lost.
     fn write(&mut self, line: LineText)
         requires { length line < 320 }
         ensures traced { IsTraced self.old.options.trace self.old.is_lost self.new.is_lost
@@ -81,8 +81,8 @@ impl<V: Output> Tracer<V> {
         self.line.saturating_add(1)
     }
 
-    // Records that a line was seen, and writes its trace. A strict run ends there if the line has a cause. Returns
-    // whether the run continues.
+    // Counts a line, and writes its trace. A strict run ends here if the line has a cause. Returns whether the run
+    // goes on.
     fn note(&mut self, place: u64, text: LineText, cause: Option<Cause>) -> bool
         requires { length text < 320 }
         ensures { Notes V.written place text cause self.old self.new result }
@@ -95,7 +95,7 @@ impl<V: Output> Tracer<V> {
         }
     }
 
-    // Ends a strict run at this line. Returns whether the run continues.
+    // Ends the run at this line if it is strict. Returns whether the run goes on.
     fn end_at(&mut self, cause: Cause) -> bool
         ensures ends { EndsIf self.old.options.strict (Some cause) self.old.line result self.new.stop }
         ensures options { self.new.options ≡ self.old.options }
@@ -114,7 +114,7 @@ impl<V: Output> Tracer<V> {
     }
 }
 
-// Returns the beginning of a line's trace: its number.
+// Returns the beginning of a line's trace: the line's number.
 fn begin(place: u64) -> LineText
     ensures text { result ≡ place_text place }
     ensures short { length result ≤ 21 }
@@ -156,7 +156,7 @@ fn answer_trace(
     line
 }
 
-// Returns why a strict run ends at a command, or `None` if it doesn't.
+// Returns why a strict run ends at a command, or `None` if it goes on.
 fn cause_of(answer: &Answer, code: Option<ResultCode>) -> Option<Cause>
     ensures some { IfSome result (IsCauseIn answer.now code) }
     ensures none { IfNone result ((why : Cause) → IsCauseIn answer.now code why → ⊥) }

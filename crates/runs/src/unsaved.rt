@@ -8,9 +8,9 @@ use model::{Answer, Command, ResultCode};
 /// An observer that records whether there are uncommitted invocations and stores. It never ends a run.
 #[derive(Clone, Copy)]
 pub struct Unsaved {
-    // Whether there were some since the last checkpoint or restart.
+    // Whether there are some since the last checkpoint or restart.
     present: bool,
-    // Whether there were some before the last checkpoint, and this isn't committed.
+    // Whether there are some before the last checkpoint, which isn't committed.
     frozen: bool,
 }
 

@@ -8,7 +8,7 @@ use Rattle.script.specs.declared.named.Kind.TheVariants as kind
 use Rattle.script.proofs.Commands.{bind_some, guard_some, both, some_is, number_again, number_takes, one_takes}
 use Rattle.script.proofs.Tables.{every_kind, first_named}
 
--- ---- what is spelt is read
+-- ---- each capability's words are read as that capability
 
 access_again : (a : Access) → IsAccess a → access_at (access_words a) ≡ Some (a, [])
 unfolding access_at access_in
@@ -65,7 +65,7 @@ capability_again (capability.Resume p) has = (decimal p ∷ [], refl, rw (number
 capability_again (capability.Bank b) has = (decimal b ∷ [], refl, rw (number_again b [] has.1) refl)
 capability_again c has = ([], refl, refl)
 
--- ---- what is read was spelt
+-- ---- what was read has these words
 
 access_in_some : (word : List ℕ) (a : Access) → access_in word ≡ Some a → IsAccess a × (word ∷ [] ≡ access_words a)
 unfolding access_in
@@ -88,7 +88,7 @@ key_takes : (words : Words) (p : ℕ × Words) → key_at words ≡ Some p → (
 unfolding key_at
 key_takes words p e = grind (arith, nat_tests, bind_some, guard_some, number_takes)
 
--- the capability that was read, and the words that were taken for it
+-- `p` is a capability of kind `k`, and the words left after reading it
 abbrev IsReadFrom : Kind → Words → Capability × Words → Type 0
 IsReadFrom k words p = HasText p.0 × (kind_name k ∷ words ≡ capability_words p.0 ++ p.1)
 
@@ -134,9 +134,9 @@ kind_at_name : (k : Kind) → kind_at (kind_name k) ≡ Some k
 unfolding kind_at
 kind_at_name k = grind (arith, nat_tests)
 
--- ---- what the words of a text name
+-- ---- the capabilities that a text may name
 
--- the capability that was read is the only one with these words
+-- if the words are a capability's, reading them gives this capability and leaves no word
 pub arguments_are : (words rest : Words) (word : List ℕ) (k : Kind) (c : Capability) → words ≡ word ∷ rest → word ≡ kind_name k →
     HasText c → words ≡ capability_words c
     → capability_at k rest ≡ Some (c, [])

@@ -9,18 +9,18 @@ use Rattle.script.specs.declared.keyword.Keyword.TheVariants as keyword
 use Rattle.script.proofs.Numbers.{decimal_is_digits}
 use Rattle.script.proofs.Tables.{every_keyword, first_named}
 
--- the value of a step that did not fail
+-- if a chain of steps succeeded, its first step gave a value from which the rest succeeded
 pub bind_some : {A B : Type 0} (r : Option A) (f : A → Option B) (y : B) → (r >>= f) ≡ Some y → (x : A) × (r ≡ Some x) × (f x ≡ Some y)
 bind_some {A} {B} r f y e = grind (arith, nat_tests)
 
--- a test that did not fail
+-- if a tested step succeeded, the test is true and its value is the result
 pub guard_some : {A : Type 0} (b : Bool) (x y : A) → cond b (Some x) None ≡ Some y → (b ≡ true) × (x ≡ y)
 guard_some {A} b x y e = grind (arith, nat_tests)
 
 pub both : (a b : Bool) → (a && b) ≡ true → (a ≡ true) × (b ≡ true)
 both a b e = grind (arith, nat_tests)
 
--- a word that is a number
+-- ---- words that are numbers
 
 pub number_in_decimal : (word : List ℕ) (n : ℕ) → n < 2 ^ 64 → word ≡ decimal n → number_in word ≡ Some n
 unfolding number_in
@@ -39,13 +39,13 @@ number_in_none word none = go (number_in word) refl where
   go None e = e
   go (Some n) e = let found = number_in_some word n e in absurd (none n found.0 found.1)
 
--- the number of a word is the one that was read
+-- if a word was read as n, `number_at` gives n
 pub number_gives : (r : Option ℕ) (word : List ℕ) (old left : Words) → old ≡ word ∷ left
     → IfSome r (λ n. (n < 2 ^ 64) × (word ≡ decimal n)) → IfNone r ((n : ℕ) → n < 2 ^ 64 → word ≢ decimal n) → Gives r left (number_at old)
 unfolding number_at
 number_gives r word old left is found none = grind (arith, nat_tests, number_in_none, number_in_decimal)
 
--- ---- what is read from the words of a command
+-- ---- the words of each command are read as that command
 
 pub number_again : (n : ℕ) (rest : Words) → n < 2 ^ 64 → number_at (decimal n ∷ rest) ≡ Some (n, rest)
 unfolding number_at
@@ -171,7 +171,7 @@ command_again (command.Migrate n) fits = (decimal n ∷ [], refl, rw (number_aga
 command_again (command.Journal n) fits = (decimal n ∷ [], refl, rw (number_again n [] fits) refl)
 command_again c fits = ([], refl, refl)
 
--- ---- the words of what was read
+-- ---- what was read has these words
 
 pub one_takes : {A : Type 0} (make : ℕ → A) (words : Words) (p : A × Words) →
     (number_at words >>= (λ (n : ℕ × Words). Some (make n.0, n.1))) ≡ Some p →
@@ -235,7 +235,7 @@ arguments_takes keyword.Store words p e =
     grind (arith, nat_tests, some_is)
 arguments_takes k words p e = grind (arith, nat_tests, one_takes, one_read, some_is)
 
--- ---- the keyword of a word
+-- ---- the keywords that a word may name
 
 keyword_at : List ℕ → Option Keyword
 keyword_at word = first_named keyword_name word every_keyword
@@ -244,9 +244,9 @@ keyword_at_name : (k : Keyword) → keyword_at (keyword_name k) ≡ Some k
 unfolding keyword_at
 keyword_at_name k = grind (arith, nat_tests)
 
--- ---- what the words of a line say
+-- ---- the command that a line may contain
 
--- the arguments that were read are those of the only command with these words
+-- if the words are a command's, reading them gives this command and leaves no word
 arguments_are : (words rest : Words) (word : List ℕ) (k : Keyword) (c : Command) → words ≡ word ∷ rest → word ≡ keyword_name k → Fits c →
     words ≡ command_words c
     → arguments_at k rest ≡ Some (c, [])

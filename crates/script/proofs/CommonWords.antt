@@ -1,4 +1,4 @@
--- Lines that begin with the words that most lines begin with.
+-- Lines that begin with one of the words that most lines begin with: `load`, `store`, `call`, `send`, `return`.
 use Rattle.script.proofs.Names.{ℕ, List, codes, length, get_or, ap, subst, sym, arith, get_or-take, join_with_byte-slice_split, Call, Operation, Return, Send}
 use Rattle.script.proofs.Names.{Keyword, keyword_name, operation_name, words_of}
 use Rattle.script.specs.Keywords.{BeginsWith, IsCommon}
@@ -7,12 +7,12 @@ use Rattle.std.proofs.Common.{◌≡◌, ◌+◌, ◌<◌, ◌++◌, ◌∙◌}
 use Rattle.std.specs.List.{join_with_byte}
 use Rattle.std.specs.Prelude.{IfNone, None, Option, Some}
 
--- such a line begins with the bytes of the word and a space
+-- the parameters: a line that begins with a word and a space, and has at least `more` bytes after them
 module _ (word : List ℕ) (more : ℕ) (line : List ℕ) (begins : BeginsWith word more line) where
   pub byte_is : (i : ℕ) → i < length word + 1 → get_or line i 0 ≡ get_or (word ++ codes " ") i 0
   byte_is i lt = sym (get_or-take (length word + 1) line i 0 lt) ∙ ap (λ (l : List ℕ). get_or l i 0) begins.front
 
--- the first bytes of a line that names an operation
+-- the first bytes of the line are those of the operation's name
 abbrev pub HasName : Operation → List ℕ → Type 0
 HasName Call line = (get_or line 0 0 ≡ 99) × (get_or line 1 0 ≡ 97) × (get_or line 2 0 ≡ 108) × (get_or line 3 0 ≡ 108)
     × (get_or line 4 0 ≡ 32)
@@ -44,7 +44,7 @@ store_bytes line begins =
       omega (arith, begins.room),
     )
 
--- a line that names an operation is as long
+-- a line that begins with an operation's name has more than 23 bytes, and the bytes of that name
 pub operation_bytes : (line : List ℕ) (o : Operation) → BeginsWith (operation_name o) 19 line → (23 < length line) × HasName o line
 operation_bytes line Call begins =
     let at = byte_is (codes "call") 19 line begins in
@@ -75,7 +75,7 @@ one_line a b same = sym (join_with_byte-slice_split 32 a) ∙ ap (join_with_byte
 moved : (word : List ℕ) (m n : ℕ) (a b : List ℕ) → m ≡ n → a ≡ b → BeginsWith word m a → BeginsWith word n b
 moved word m n a b more same begins = subst (λ (l : List ℕ). BeginsWith word n l) same (subst (λ (k : ℕ). BeginsWith word k a) more begins)
 
--- a line from which no such word is taken begins with none
+-- if a line contains no load, store or invocation, its keyword is none of the common ones
 pub none_common : (rest line : List ℕ) (k : Keyword) (least : ℕ) → (BeginsWith (codes "load") 3 rest → ⊥) →
     (BeginsWith (codes "store") 5 rest → ⊥) → ((o : Operation) → BeginsWith (operation_name o) 19 rest → ⊥) →
     words_of rest ≡ words_of line → IsCommon k least
@@ -96,7 +96,7 @@ none_common rest line keyword.Journal least load store order same common begins 
 none_common rest line keyword.Restart least load store order same common begins = absurd common
 none_common rest line keyword.Cut least load store order same common begins = absurd common
 
--- none of these words begins the rest of a line
+-- if the words were not taken, the rest of the line begins with none of the common ones
 pub none_taken : {A : Type 0} (result : Option A) (words : List (List ℕ)) (rest : List ℕ) → words ≡ words_of rest →
     (BeginsWith (codes "load") 3 rest → ⊥) → (BeginsWith (codes "store") 5 rest → ⊥) →
     ((o : Operation) → BeginsWith (operation_name o) 19 rest → ⊥)

@@ -1,4 +1,4 @@
--- A word of one digit, with a space after it or at the end.
+-- Reading a word of one digit, which a space or the end of the text follows.
 use Rattle.script.proofs.Names.{ℕ, List, [], Some, length, get_or, take, drop, decimal, sym, arith, IsInRange, nat_tests, decimal_digit, take_more}
 use Rattle.script.proofs.Names.{position_or_len_is, first_end, first_word, number_at, words_of}
 use Rattle.std.proofs.Common.{◌≡◌, ◌<◌, ◌≤◌, ◌-◌, ◌==◌}

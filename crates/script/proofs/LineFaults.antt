@@ -1,4 +1,4 @@
--- Words that aren't valid at their places, and lines whose words are.
+-- Words that aren't valid operands, and lines with such words.
 use Rattle.script.proofs.Names.{ℕ, zero, suc, Bool, true, false, List, [], None, Some, length, take, get_or, decimal, codes, refl, sym, ap, subst, arith}
 use Rattle.script.proofs.Names.{append_assoc, append-nil, map, slice_get, All, nat_tests, take_all, IsInRange, decimal_digit, digits_more, digit_value_digit}
 use Rattle.script.proofs.Names.{AllDigits, digits_value, Command, Fits, Says, command_words, spelling_from_words, Keyword, LineFault, keyword_name, AreOperands}
@@ -11,19 +11,19 @@ use Rattle.script.specs.declared.line_fault.LineFault.TheVariants as fault
 use Rattle.script.proofs.Commands.{all_four, number_again, number_takes}
 use Rattle.script.proofs.Numbers.{digits_are_decimal}
 
--- ---- a word
+-- ---- one word
 
 pub too_great : (word : List ℕ) → ((n : ℕ) → n < 2 ^ 64 → word ≢ decimal n) → AllDigits 10 word → 0 < length word →
     (get_or word 0 0 ≡ 48 → length word ≡ 1) → 2 ^ 64 ≤ digits_value 10 word
 too_great word none digits some first = grind (arith, nat_tests, digits_are_decimal)
 
--- a zero before other digits
+-- a word with a leading zero that is no decimal text has a second byte
 pub zero_longer : (word : List ℕ) → ((n : ℕ) → n < 2 ^ 64 → word ≢ decimal n) → 0 < length word → get_or word 0 0 ≡ 48 → 1 < length word
 zero_longer [] none some first = absurd (omega (arith, some))
 zero_longer (b ∷ []) none some first = absurd (none 0 (omega arith) (ap (λ (x : ℕ). x ∷ []) first ∙ sym (decimal_digit 0 (omega arith))))
 zero_longer (b ∷ c ∷ bs) none some first = omega arith
 
--- one more byte is a digit, or isn't
+-- the first i + 1 bytes are digits exactly if the first i are and the next one is
 pub digits_on : (ds : List ℕ) (i : ℕ) → i < length ds → AllDigits 10 (take i ds) → IsInRange 48 57 (get_or ds i 0) →
     AllDigits 10 (take (i + 1) ds)
 digits_on ds i lt so_far digit = digits_more 10 ds i lt so_far (omega (arith, digit_value_digit (get_or ds i 0) digit, digit.1))
@@ -31,7 +31,7 @@ digits_on ds i lt so_far digit = digits_more 10 ds i lt so_far (omega (arith, di
 pub no_number : (old rest : Words) (word : List ℕ) → old ≡ word ∷ rest → number_at old ≡ None → (n : ℕ) → n < 2 ^ 64 → word ≢ decimal n
 no_number old rest word is none n small spelt = grind (arith, nat_tests, number_again)
 
--- a number that is too great for a machine number, or for a register where one is needed
+-- a number above the greatest allowed is a fault: of a register, or of a number with 64 bits
 pub register_fault : (is_register : Bool) (old left : Words) (n most : ℕ) → number_at old ≡ Some (n, left) →
     most + 1 ≡ (if is_register then 32 else 2 ^ 64) → most < n →
     (place : ℕ) → (word : List ℕ) × (rest : Words) × (old ≡ word ∷ rest) × IsWordFault word place is_register (fault.NoRegister n)
@@ -94,7 +94,7 @@ operands_length registers words are = absurd are
 
 -- ---- faults of a line
 
--- a word after the keyword has a place in the line
+-- a word after the keyword and the words `before` is at place length before + 2
 has_word : (line : List ℕ) (k : Keyword) (before after : Words) (word : List ℕ) (place : ℕ) → Names line k (before ++ word ∷ after) →
     place ≡ length before + 2 → HasWord line place word
 has_word line k before after word place names is = (keyword_name k ∷ before, after, names, omega (arith, is))
@@ -143,7 +143,7 @@ word_is_fault k all left rest count place word why lt taken is at faulty line na
   )
   go other is = absurd is
 
--- no word is missing
+-- the parameters: the operands taken so far are valid, and none is missing
 module _ (k : Keyword) (all left : Words) (count : ℕ) (end : length (are_registers k) ≤ count)
     (taken : Taken (are_registers k) all count left) where
   operands : AreOperands (are_registers k) taken.0
@@ -156,7 +156,7 @@ module _ (k : Keyword) (all left : Words) (count : ℕ) (end : length (are_regis
       rw (← none) (has_word line k _ rest word place (names ∙ ap (λ (l : Words). keyword_name k ∷ l) split)
       (omega (arith, at, operands_length _ _ operands)))
 
--- the same for a table of operands
+-- the parameters: as above, for a table of operands equal to that of the keyword
 module _ (registers : List Bool) (k : Keyword) (same : registers ≡ are_registers k) (all left : Words) (count : ℕ)
     (taken : Taken registers all count left)
   where
@@ -175,7 +175,7 @@ module _ (registers : List Bool) (k : Keyword) (same : registers ≡ are_registe
     empty_behind_table end word rest place is at none = empty_word k all left count (rw (← same) end) taken_of word rest place is
         (rw (← same) at) (empty_list word none)
 
--- ---- a line without a fault is a command's
+-- ---- a line without a fault contains a command
 
 first : (b : Bool) (bs : List Bool) (ws : Words) → AreOperands (b ∷ bs) ws →
     (n : ℕ) × (rest : Words) × (n < (if b then 32 else 2 ^ 64)) × (ws ≡ decimal n ∷ rest) × AreOperands bs rest

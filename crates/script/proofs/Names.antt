@@ -1,4 +1,4 @@
--- The names that the proofs here cite: of other crates, and of the definitions of this one.
+-- The names that the proofs here import: from other crates, and from the definitions of this one.
 pub use Rattle.model.specs.Capability.{IsAccess, IsWellFormed, named}
 pub use Rattle.model.specs.Text.{Fits, IsSkipped, Says, access_text, capability_line, fault_number, headed, line_of, operation_name, registers_of, spaced}
 pub use Rattle.model.specs.Text.{state_text, unjournaled_number, word_line}

@@ -1,4 +1,4 @@
--- Lines of items with their numbers.
+-- Writing items as lines, each with its number.
 use Rattle.script.proofs.Names.{nat_tests, ℕ, add-one, List, [], length, get_or, take, drop, refl, sym, ap, append-nil, arith, flat_map, enumerate_from}
 use Rattle.script.proofs.Names.{flat_map-append, take-append-drop, take_all, take-suc}
 use Rattle.std.proofs.Common.{length-take-le, ◌≡◌, ◌+◌, ◌<◌, ◌≤◌, ◌∷◌, ◌++◌, ◌∙◌}
@@ -9,7 +9,7 @@ enumerate_append n [] ys = let same : n + 0 ≡ n = omega arith in rw same refl
 enumerate_append {A} n (x ∷ xs) ys = grind (arith, nat_tests, enumerate_append (n + 1) xs ys)
 
 module _ {A : Type 0} (line : ℕ × A → List ℕ) (xs : List A) where
-  -- the lines of the first i parts
+  -- the lines of the first i items
   abbrev pub lines_before : ℕ → List ℕ
   lines_before i = flat_map line (enumerate_from 0 (take i xs))
 

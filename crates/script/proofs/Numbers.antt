@@ -1,4 +1,4 @@
--- The decimal text of a number, and the words that are such texts.
+-- The decimal text of a number, and words that are decimal texts.
 use Rattle.script.proofs.Names.{nat_tests, ℕ, List, Option, length, get_or, take, decimal, sym, ap, subst, arith, IfSome, IfNone, IsInRange, digit_value_digit}
 use Rattle.script.proofs.Names.{AllDigits, digits_value, decimal_nonempty, first_decimal, decimal_digit, digits_decimal, digits_value-decimal}
 use Rattle.script.proofs.Names.{decimal-digits_value, digits_value_more, digits_more, IsNumeralModel, numerals_by_value, tells_digits, digits_value-take-le}
@@ -22,13 +22,13 @@ pub digits_are_decimal : (word : List ℕ) → AllDigits 10 word → 0 < length 
     → digits_value 10 word < 2 ^ 64 → word ≡ decimal (digits_value 10 word)
 digits_are_decimal word digits some first small = sym (decimal-digits_value own word digits some first small)
 
--- one more digit
+-- appending a digit multiplies the value by ten and adds the digit
 pub value_more : (digits : List ℕ) (i value : ℕ) → i < length digits → AllDigits 10 (take i digits) →
     value ≡ digits_value 10 (take i digits) → IsInRange 48 57 (get_or digits i 0)
     → AllDigits 10 (take (i + 1) digits) × (value * 10 + (get_or digits i 0 - 48) ≡ digits_value 10 (take (i + 1) digits))
 value_more digits i value lt so_far is digit = grind (arith, nat_tests, digit_value_digit, digits_more, digits_value_more)
 
--- the value of the digits so far is too great already
+-- if the value of the first digits is too great, so is that of the whole word
 pub value_great : (digits : List ℕ) (i value : ℕ) → i < length digits → value ≡ digits_value 10 (take i digits)
     → IsInRange 48 57 (get_or digits i 0) → (value * 10 + (get_or digits i 0 - 48) < 2 ^ 64 → ⊥) → 2 ^ 64 ≤ digits_value 10 digits
 value_great digits i value lt is digit great =
@@ -40,7 +40,7 @@ value_great digits i value lt is digit great =
       great,
     )
 
--- the first word of a text is too great
+-- if the value of the first digits and the next one is too great, the first word has no value below 2^64
 pub word_great : (text : List ℕ) (i value : ℕ) → i < first_end text → value ≡ digits_value 10 (take i text)
     → IsInRange 48 57 (get_or text i 0) → (value * 10 + (get_or text i 0 - 48) < 2 ^ 64 → ⊥) → 2 ^ 64 ≤ digits_value 10 (first_word text)
 word_great text i value lt is digit great =

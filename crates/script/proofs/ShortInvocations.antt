@@ -1,4 +1,4 @@
--- The command of numbers that are read one after the other.
+-- If the numbers of an invocation, load or store were read one after the other, the line contains it.
 use Rattle.script.proofs.Names.{nat_tests, ℕ, List, [], Option, Some, length, get_or, drop, refl, ap, arith, IfSome, IsSome, lt-ltb, Command, Operation, Fits}
 use Rattle.script.proofs.Names.{command_words, operation_name, keyword_name, Words, arguments_at, invocation_at, number_at, numbers_at, register_at}
 use Rattle.script.proofs.Names.{registers_at, words_of}
@@ -39,7 +39,7 @@ invocation_read : (o : Operation) (one two three four : Words) (process register
 unfolding arguments_at invocation_at
 invocation_read o one two three four process register words sent a b c d = rw (a, b, c, d) refl
 
--- a line with an operation, a process, a register, four words and four registers
+-- if all parts were read, the line contains the invocation with them
 pub invocation_said : (o : Operation) (line : List ℕ) (one two three four : Words) (process register : ℕ) (words : List ℕ) (sent : List ℕ)
     → words_of line ≡ operation_name o ∷ one
     → number_at one ≡ Some (process, two) → register_at two ≡ Some (register, three) → numbers_at three ≡ Some (words, four) →
@@ -58,7 +58,7 @@ void_begins a b c d pa pb pc pd is = grind (arith, nat_tests)
 void_ends : (a b c d : ℕ) → a < 256 → b < 256 → c < 256 → d < 256 → four a b c d ≡ 807415840 → (a ≡ 32) × (b ≡ 48) × (c ≡ 32) × (d ≡ 48)
 void_ends a b c d pa pb pc pd is = grind (arith, nat_tests)
 
--- the four registers are 0
+-- if the last seven bytes are `0 0 0 0`, all four registers are 0
 pub void_read : (text : List ℕ) (at : ℕ) → length text ≡ at + 7 → ((i : ℕ) → get_or text i 0 < 256)
     → four (get_or text at 0) (get_or text (at + 1) 0) (get_or text (at + 2) 0) (get_or text (at + 3) 0) ≡ 540024880
     → four (get_or text (at + 3) 0) (get_or text (at + 3 + 1) 0) (get_or text (at + 3 + 2) 0) (get_or text (at + 3 + 3) 0) ≡ 807415840
@@ -80,7 +80,7 @@ void_read text at whole bytes begins ends =
     registers_read _ _ _ _ 0 0 0 0 (register_reads _ _ 0 first (omega arith)) (register_reads _ _ 0 second (omega arith))
     (register_reads _ _ 0 third (omega arith)) (register_reads _ _ 0 fourth (omega arith))
 
--- a line with a load and two numbers
+-- if two numbers were read after `load`, the line contains that load
 pub load_said : (line : List ℕ) (one two : Words) (process address : ℕ) → words_of line ≡ keyword_name keyword.Load ∷ one
     → number_at one ≡ Some (process, two) → number_at two ≡ Some (address, [])
     → Fits (command.Load process address) × (words_of line ≡ command_words (command.Load process address))
@@ -88,7 +88,7 @@ unfolding arguments_at
 load_said line one two process address named a b = command_found _ one [] (keyword_name keyword.Load) keyword.Load _ named refl
     (rw (a, b) refl) refl
 
--- a line with a store and three numbers
+-- if three numbers were read after `store`, the line contains that store
 pub store_said : (line : List ℕ) (one two three : Words) (process address value : ℕ) → words_of line ≡ keyword_name keyword.Store ∷ one
     → number_at one ≡ Some (process, two) → number_at two ≡ Some (address, three) → number_at three ≡ Some (value, [])
     → Fits (command.Store process address value) × (words_of line ≡ command_words (command.Store process address value))

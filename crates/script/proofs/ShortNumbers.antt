@@ -1,4 +1,4 @@
--- A number at a place of a text, with a space after it or at the end.
+-- Reading a number at a place of a text, which a space or the end follows.
 use Rattle.script.proofs.Names.{ℕ, List, [], Option, Some, IfSome, length, get_or, take, drop, decimal, refl, sym, ap, subst, arith, IsInRange, AllDigits}
 use Rattle.script.proofs.Names.{digits_value, nat_tests, get_or-take, get_or-drop, take_all, length-drop, drop-drop, position_or_len_is, digit_at, first_end}
 use Rattle.script.proofs.Names.{first_word, number_at, words_of, digits_value_short, length-take-le}
@@ -7,7 +7,7 @@ use Rattle.script.proofs.Commands.{number_gives}
 use Rattle.script.proofs.Numbers.{digits_are_decimal, own, value_more}
 use Rattle.script.proofs.Split.{word_alone, word_and_more}
 
--- a text that begins with a number of digits, up to a space or the end
+-- the first word of the text has `size` bytes, all digits, without a leading zero, and its value is n
 abbrev Begins : List ℕ → ℕ → ℕ → Type 0
 Begins text size n =
     (0 < size) × (size ≤ length text) × AllDigits 10 (take size text) × (get_or text 0 0 ≡ 48 → size ≡ 1)
@@ -65,7 +65,7 @@ values_three : (text : List ℕ) (at one two three : ℕ) → at + 2 < length te
 values_three text at one two three within first second third =
     digit_more text at 2 (one * 10 + two) three within (values_two text at one two (omega (arith, within)) first second) third
 
--- the same, by the place where the digits end
+-- three digits in a row are this number
 pub values_up_to_three : (text : List ℕ) (at one two three : ℕ) → at + 2 < length text → IsDigit text at one → IsDigit text (at + 1) two →
     IsDigit text (at + 2) three → Values text at (at + 3 - at) ((one * 10 + two) * 10 + three)
 values_up_to_three text at one two three within first second third =
@@ -108,13 +108,13 @@ three_digits text at one two three n within first some second third space is = r
     second third)
     (λ zero. absurd (some zero)) (omega (arith, first, second, third))))
 
--- the value of few digits
+-- a number of at most `most` digits is below 10^`most`
 pub value_below : (text : List ℕ) (at size most n : ℕ) → at + size ≤ length text → size ≤ most → Values text at size n → n < 10 ^ most
 value_below text at size most n within few values =
     let long : length (take size (drop at text)) ≡ size = length-take-le size (drop at text) (omega (arith, within, length-drop at text)) in
     rw values.1 (digits_value_short own (take size (drop at text)) most values.0 (omega (arith, long, few)))
 
--- one more digit at a place
+-- appending a digit at a place multiplies the value by ten and adds the digit
 pub place_more : (text : List ℕ) (at place value digit : ℕ) → at < place → place < length text → Values text at (place - at) value →
     IsDigit text place digit → Values text at (place + 1 - at) (value * 10 + digit)
 place_more text at place value digit begun within so_far is =
@@ -122,7 +122,7 @@ place_more text at place value digit begun within so_far is =
     subst (λ (size : ℕ). Values text at size (value * 10 + digit)) (omega (arith, begun))
     (digit_more text at (place - at) value digit (omega (arith, begun, within)) so_far (subst (λ (k : ℕ). IsDigit text k digit) here is))
 
--- digits up to a space
+-- digits up to a space are read as their number
 pub digits_read : (text : List ℕ) (at place n : ℕ) → at < place → place < length text → place ≤ at + 19 → get_or text place 0 ≡ 32 →
     (get_or text at 0 ≡ 48 → ⊥) → Values text at (place - at) n
     → number_at (words_of (drop at text)) ≡ Some (n, words_of (drop (place + 1) text))
@@ -134,7 +134,7 @@ digits_read text at place n begun within few space some values =
     (begins_behind text at (place - at) n (omega (arith, begun, within)) (omega (arith, begun)) values (λ zero. absurd (some zero))
     (omega (arith, below)))
 
--- digits up to the end
+-- digits up to the end of the text are read as their number
 pub digits_last : (text : List ℕ) (at place n : ℕ) → at < place → place ≡ length text → place ≤ at + 19 → (get_or text at 0 ≡ 48 → ⊥) →
     Values text at (place - at) n → number_at (words_of (drop at text)) ≡ Some (n, [])
 digits_last text at place n begun whole few some values =
@@ -147,7 +147,7 @@ digits_last text at place n begun whole few some values =
 pub last_one : (text : List ℕ) (at n : ℕ) → length text ≡ at + 1 → IsDigit text at n → number_at (words_of (drop at text)) ≡ Some (n, [])
 last_one text at n whole first = grind (arith, nat_tests, digits_alone, begins_behind, values_one, length-drop)
 
--- the same, for a digit that may be missing
+-- if the last byte of the text is a digit, it is read as its number
 pub last_one_found : (text : List ℕ) (at : ℕ) (r : Option ℕ) → length text ≡ at + 1 → IfSome r (λ n. IsDigit text at n)
     → IfSome r (λ n. number_at (words_of (drop at text)) ≡ Some (n, []))
 last_one_found text at r whole found = grind (arith, nat_tests, last_one)

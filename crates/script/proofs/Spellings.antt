@@ -4,11 +4,11 @@ use Rattle.script.proofs.Names.{spelling_from_words, spells_one, split_spelling,
 use Rattle.std.proofs.Common.{◌≡◌, ◌≢◌, ◌∙◌}
 use Rattle.model.specs.declared.line.Line.TheVariants as line
 
--- a spelling is neither empty nor a comment
+-- the spelling of a command is neither empty nor a comment
 pub spelling_said : (c : Command) → Fits c → IsSkipped (spelling c) → ⊥
 spelling_said c fits skipped = skip_is_no_command (spelling c) c (length-spelling c fits, skipped) (fits, refl)
 
--- a line whose words are those of a command is that command
+-- if a line has the words of a command, it contains that command
 pub says_said : (text : List ℕ) (c : Command) → Fits c × (words_of text ≡ command_words c) → Says text (line.Command c)
 says_said text c said = (said.0, spelling_from_words text c said.1)
 

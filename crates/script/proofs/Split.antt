@@ -14,7 +14,7 @@ pub first_piece : (line : List ℕ) (i : ℕ) → position is_space line ≡ Som
     → words_of line ≡ take i line ∷ words_of (take (length line - (i + 1)) (drop (i + 1) line))
 first_piece line i some = grind (arith, nat_tests, position-Some, position_or_len_is, take_all, length-drop, slice_split_first)
 
--- the words of a text, by the place where the first word ends
+-- if the first word ends before the text does, the words are the first word and the words of the rest
 pub word_and_more : (text : List ℕ) (end : ℕ) → end ≡ first_end text → end < length text
     → words_of text ≡ first_word text ∷ words_of (take (length text - (end + 1)) (drop (end + 1) text))
 word_and_more text end is within = grind (arith, nat_tests, slice_split_first, take_all, length-drop)

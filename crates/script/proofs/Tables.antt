@@ -1,11 +1,11 @@
--- Every keyword, every kind and every state has a place in the table of words.
+-- Every keyword, kind and state is found in its table of names.
 use Rattle.script.proofs.Names.{nat_tests, ℕ, List, [], get_or, arith, Call, Return, Send, State, Available, Running, Waiting, state_text, Keyword, Kind}
 use Rattle.script.proofs.Names.{Discrim, keyword_name, kind_name, Number, Page, Node, Space, Process, Start, Resume, Bank, Option, None, Some, bytes_eq}
 use Rattle.std.proofs.Common.{◌≢◌, ◌<◌, ◌∷◌, if◌then◌else◌}
 use Rattle.script.specs.declared.named.Kind.TheVariants.{Void}
 use Rattle.script.specs.declared.keyword.Keyword.TheVariants as keyword
 
--- the first of a list that has this name
+-- the first item of a list that has this name
 abbrev pub first_named : {A : Type 0} → (A → List ℕ) → List ℕ → List A → Option A
 first_named name word [] = None
 first_named name word (x ∷ xs) = if bytes_eq word (name x) then Some x else first_named name word xs
@@ -16,7 +16,7 @@ every_keyword =
     keyword.Restart ∷ keyword.Cut
     ∷ keyword.Load ∷ keyword.Store ∷ keyword.Invoke Call ∷ keyword.Invoke Return ∷ keyword.Invoke Send ∷ []
 
--- a word that is no name in the table is no name at all
+-- a word that differs from the names of all 14 keywords is no keyword's name
 pub no_keyword_left : (word : List ℕ) → ((i : ℕ) → i < 14 → word ≢ keyword_name (get_or every_keyword i (keyword.Invoke Send))) →
     (k : Keyword) → word ≢ keyword_name k
 no_keyword_left word none k =

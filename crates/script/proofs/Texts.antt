@@ -34,7 +34,7 @@ put_spaced : (word : List ℕ) (words more numbers last : List (List ℕ))
     ≡ spaced (word ∷ (((words ++ more) ++ numbers) ++ last))
 put_spaced word words more numbers last = grind (arith, nat_tests, put_all_is, spaced_more)
 
--- the first line of a process, in the form in which the code appends its parts
+-- the first line of a process, written as the code appends its parts
 abbrev pub process_put : ℕ → ℕ → ℕ → ℕ → List ℕ → List ℕ → List ℕ → List ℕ
 process_put number owner annex key state words space =
     ((((((((spaced (headed (codes "process") number owner) ++ 32 ∷ codes "annex") ++ 32 ∷ decimal annex) ++ 32 ∷ state) ++ 32 ∷ codes "key")
@@ -62,7 +62,7 @@ bank_text number owner limit used =
     ∙ sym (spaced_more (codes "bank") (decimal number ∷ codes "owner" ∷ decimal owner ∷ [])
     (codes "limit" ∷ decimal limit ∷ codes "used" ∷ decimal used ∷ []))
 
--- ---- an object, by what it is
+-- ---- the lines of each kind of object
 
 module _ (n : ℕ) (o : Object) (registers : Option (List Capability)) (used : ℕ) where
   pub object_free : o.content ≡ content.Free → object_text n o registers used ≡ line_of (spaced (codes "free" ∷ decimal n ∷ []))
@@ -98,7 +98,7 @@ module _ (n : ℕ) (o : Object) (registers : Option (List Capability)) (used : �
   unfolding object_text
   object_bank limit is = rw is refl
 
--- a space and the digits of a small number
+-- a small number's text is one digit
 pub one_digit_text : (line : List ℕ) (n : ℕ) → n < 10 → (line ++ 32 ∷ []) ++ (48 + n) ∷ [] ≡ line ++ 32 ∷ decimal n
 one_digit_text line n small = rw (decimal_digit n small) (append_assoc line (32 ∷ []) ((48 + n) ∷ []))
 

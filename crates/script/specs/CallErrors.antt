@@ -1,4 +1,4 @@
--- The errors that the calls of a reader or a writer returned.
+-- The errors that calls of a reader or a writer returned.
 use Rattle.script.specs.Names.{ℕ, Option, Result, MatchResult, option_map}
 use Rattle.std.specs.Prelude.{◌≡◌, ◌⊎◌, ◌≤◌, ◌+◌, ◌-◌, ◌^◌}
 
@@ -23,6 +23,6 @@ abbrev pub OneFailed : Option CallErrors → Option CallErrors → Type 0
 OneFailed old new = (n : ℕ)
     × ((new ≡ option_map (more_errors 1 n) old) ⊎ ((2 ^ 64 - 1 ≤ n) × (new ≡ option_map (more_errors 0 n) old)))
 
--- an error is returned exactly if a call failed
+-- a result is an error exactly if a call failed
 abbrev pub HasCause : {T E : Type 0} → Option CallErrors → Option CallErrors → Result T E → Type 0
 HasCause old new result = MatchResult result (λ _. NoneFailed old new) (λ _. OneFailed old new)

@@ -23,12 +23,12 @@ keyword_name Cut = codes "cut"
 abbrev pub command_name : Command → List ℕ
 command_name c = slice_index_or (command_words c) 0 []
 
--- a line begins with a word and a space, and has at least this many more bytes
+-- a line begins with this word and a space, and has at least `more` bytes after them
 pub record BeginsWith (word : List ℕ) (more : ℕ) (line : List ℕ) : Type 0 where
   pub front : take (length word + 1) line ≡ word ++ codes " "
   pub room : length word + 1 + more ≤ length line
 
--- the keywords that most lines begin with, and the least bytes that the words after them take
+-- a keyword that most lines begin with, and the least number of bytes that its operands take
 abbrev pub IsCommon : Keyword → ℕ → Type 0
 IsCommon (Invoke operation) least = least ≡ 19
 IsCommon Load least = least ≡ 3

@@ -20,7 +20,7 @@ are_registers keyword.Restart = []
 are_registers keyword.Cut = []
 are_registers _ = false ∷ []
 
--- the line begins with a keyword, and these words follow
+-- the line's first word is the keyword, and these words follow it
 abbrev pub Names : List ℕ → Keyword → Words → Type 0
 Names line k words = words_of line ≡ keyword_name k ∷ words
 
@@ -29,12 +29,12 @@ abbrev pub HasWord : List ℕ → ℕ → List ℕ → Type 0
 HasWord line place word = (before : Words) × (after : Words) × (words_of line ≡ before ++ word ∷ after) ×
     (place ≡ suc (length before))
 
--- the word at a place of the line is an operand of a keyword, with which the line begins
+-- the word at this place of the line is an operand of the line's keyword
 abbrev pub HasOperand : List ℕ → ℕ → List ℕ → Type 0
 HasOperand line place word = (k : Keyword) × (words : Words) × Names line k words
     × (i : ℕ) × (place ≡ i + 2) × (i < length (are_registers k)) × (slice_get words i ≡ Some word)
 
--- this fault is one of the line
+-- the line has this fault
 abbrev pub IsFaultOf : List ℕ → LineFault → Type 0
 IsFaultOf line fault.Long = 256 < length line
 IsFaultOf line fault.CarriageReturn = (i : ℕ) × (i < length line) × (get_or line i 0 ≡ 13)
@@ -65,7 +65,7 @@ AreOperands [] [] = Unit {0}
 AreOperands (is_register ∷ others) (word ∷ words) = IsOperand is_register word × AreOperands others words
 AreOperands _ _ = ⊥
 
--- why the word at a place can't be there
+-- the word at this place isn't a valid operand, for this reason
 abbrev pub IsWordFault : List ℕ → ℕ → Bool → LineFault → Type 0
 IsWordFault word place is_register (fault.EmptyWord at) = (at ≡ place) × (word ≡ [])
 IsWordFault word place is_register (fault.NoNumber at) = (at ≡ place) × (AllDigits 10 word → ⊥)

@@ -1,4 +1,4 @@
--- What is kept of a line while it is read.
+-- What a buffer keeps of a line while the line is read.
 use Rattle.script.specs.Names.{ℕ, true, false, Option, None, Some, List, length, All}
 use Rattle.std.specs.Prelude.{◌≡◌, ◌≢◌, ◌⊎◌, ◌<◌}
 use Rattle.script.specs.declared.lines.LineBuffer.{LineBuffer}

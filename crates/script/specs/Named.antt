@@ -1,4 +1,4 @@
--- The words of a capability's text, and reading them from left to right.
+-- The words of a capability's text, and how they are read from left to right.
 use Rattle.script.specs.Names.{ℕ, nat_lt, nat_le, Option, None, Some, List, [], codes, decimal, bytes_eq, full, weak}
 use Rattle.script.specs.Names.{Access, Capability}
 use Rattle.std.specs.Prelude.{◌==◌, ◌&&◌, ◌^◌, if◌then◌else◌, ◌∷◌}
@@ -50,11 +50,13 @@ access_at (word ∷ words) = do
   a ← access_in word
   Some (a, words)
 
+-- the height of a space, read from these words: 1 to 4
 unfoldable pub height_at : Words → Option (ℕ × Words)
 height_at words = do
   h ← number_at words
   if nat_le 1 h.0 && nat_le h.0 4 then Some h else None
 
+-- the key of a start capability, read from these words: below 65536
 unfoldable pub key_at : Words → Option (ℕ × Words)
 key_at words = do
   key ← number_at words
@@ -73,7 +75,7 @@ object_of make words = do
   access ← access_at object.1
   Some (make object.0 access.0, access.1)
 
--- the capability of this kind, read from the words after its first one, and the words left
+-- the capability of this kind, read from the words after its first, and the words left
 unfoldable pub capability_at : Kind → Words → Option (Capability × Words)
 capability_at Void words = Some (capability.Void, words)
 capability_at Number words = one_of (λ n. capability.Number n) words

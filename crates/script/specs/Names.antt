@@ -1,4 +1,4 @@
--- The names of other crates that the definitions here cite.
+-- The names of other crates that the definitions here import.
 pub use Rattle.model.specs.Capability.{full, weak}
 pub use Rattle.model.specs.Text.{line_of, operation_name, spaced}
 unfoldable pub use Rattle.model.specs.Text.{command_words, printed}

@@ -1,4 +1,4 @@
--- Reading the words of a line from left to right.
+-- How the words of a line are read from left to right.
 use Rattle.script.specs.Names.{ℕ, nat_lt, Option, None, Some, List, [], decimal, take, slice_split, position_or_len}
 use Rattle.script.specs.Names.{bytes_eq, digits_value, Command, Operation}
 use Rattle.std.specs.Prelude.{◌≡◌, ◌==◌, ◌&&◌, ◌^◌, if◌then◌else◌, ◌∷◌}
@@ -18,37 +18,42 @@ Words = List (List ℕ)
 abbrev pub words_of : List ℕ → Words
 words_of line = slice_split (λ b. b == 32) line
 
+-- the words of the rest of a line, or none if there is no rest
 abbrev pub words_left : Option (List ℕ) → Words
 words_left None = []
 words_left (Some rest) = words_of rest
 
--- where the first word of a text ends, and the word
+-- the index at which the first word of a text ends
 abbrev pub first_end : List ℕ → ℕ
 first_end text = position_or_len (λ b. b == 32) text
 
+-- the first word of a text
 abbrev pub first_word : List ℕ → List ℕ
 first_word text = take (first_end text) text
 
--- the value that a reader returned, and the words that it left, are those that `read` says
+-- a reader returned what `read` gives: the value and the words left, or nothing
 abbrev pub Gives : {A : Type 0} → Option A → Words → Option (A × Words) → Type 0
 Gives None left read = read ≡ None
 Gives (Some x) left read = read ≡ Some (x, left)
 
--- the number whose decimal text the word is
+-- the number that has this word as its decimal text, if there is one below 2^64
 unfoldable pub number_in : List ℕ → Option ℕ
 number_in word = let n = digits_value 10 word in if bytes_eq word (decimal n) && nat_lt n (2 ^ 64) then Some n else None
 
+-- the number in the first of these words, and the words after it
 unfoldable pub number_at : Words → Option (ℕ × Words)
 number_at [] = None
 number_at (word ∷ words) = do
   n ← number_in word
   Some (n, words)
 
+-- the register in the first of these words, and the words after it
 unfoldable pub register_at : Words → Option (ℕ × Words)
 register_at words = do
   n ← number_at words
   if nat_lt n.0 32 then Some n else None
 
+-- the numbers in the first four of these words, and the words after them
 unfoldable pub numbers_at : Words → Option (List ℕ × Words)
 numbers_at words = do
   a ← number_at words
@@ -57,6 +62,7 @@ numbers_at words = do
   d ← number_at c.1
   Some (a.0 ∷ b.0 ∷ c.0 ∷ d.0 ∷ [], d.1)
 
+-- the registers in the first four of these words, and the words after them
 unfoldable pub registers_at : Words → Option (List ℕ × Words)
 registers_at words = do
   a ← register_at words
@@ -65,6 +71,7 @@ registers_at words = do
   d ← register_at c.1
   Some (a.0 ∷ b.0 ∷ c.0 ∷ d.0 ∷ [], d.1)
 
+-- the invocation with this operation, read from these words
 unfoldable pub invocation_at : Operation → Words → Option (Command × Words)
 invocation_at operation words = do
   process ← number_at words

@@ -1,4 +1,4 @@
-// Writers whose failures are counted.
+// Writers that count their failures.
 ghost use Rattle.std.specs.Prelude.{◌≡◌, ◌<◌, ◌≤◌, ◌+◌, [], length, take, IfOk, IfErr, OnErr, OnOk};
 ghost use Rattle.std.specs.Io.Buffered.{writer_inner};
 ghost use Rattle.std.specs.Io.KnownBytes.{Appends, Keeps};
@@ -13,7 +13,7 @@ use collections::Tally;
 use std::alloc::Allocator;
 use std::io::{BufWriter, ErrorKind, Write};
 
-/// A writer, with a count of its calls that failed. It has no buffer.
+/// A writer without a buffer that counts its failed calls.
 #[derive(Drop)]
 pub struct CountedWriter<W> {
     inner: W,
@@ -21,7 +21,7 @@ pub struct CountedWriter<W> {
 }
 
 impl<W: RawWriter> CountedWriter<W> {
-    /// Returns a writer to `inner`, none of whose calls has failed yet.
+    /// Returns a writer to `inner` whose count of failures is 0.
     pub fn new(inner: W) -> CountedWriter<W>
         ensures inner { inner_writer result ≡ inner }
         ensures failures { failed_writes result ≡ 0 }
@@ -32,14 +32,14 @@ impl<W: RawWriter> CountedWriter<W> {
         }
     }
 
-    /// Returns the writer beneath.
+    /// Returns the inner writer.
     pub fn get_ref(&self) -> &W
         ensures { result.now ≡ inner_writer self.now }
     {
         &self.inner
     }
 
-    /// Returns the writer beneath, without the count.
+    /// Returns the inner writer, and drops the count.
     pub fn into_inner(self) -> W
         ensures { result ≡ inner_writer self }
     {
@@ -56,8 +56,8 @@ impl<W: RawWriter> CountedWriter<W> {
         RunFault::Write
     }
 
-    // Writes at least the first byte of the text, and returns how many bytes it wrote. Repeats a call that was
-    // interrupted.
+    // Writes at least the first byte of the text, and returns how many bytes it wrote. Repeats an interrupted
+    // call.
     fn write_some(&mut self, text: &[u8]) -> Result<usize, RunFault>
         requires { 0 < length text.now }
         ensures count { IfOk result (λ n. (0 < n) × (n ≤ length text.now)) }
@@ -132,14 +132,14 @@ impl<W: RawWriter> Output for CountedWriter<W> {
     }
 }
 
-/// A buffered writer, with a count of its calls that failed.
+/// A writer with a buffer that counts its failed calls.
 #[derive(Drop)]
 pub struct BufferedOutput<B: RawBuffer> {
     counted: CountedWriter<B>,
 }
 
 impl<W: Write + Drop, A: Allocator> BufferedOutput<BufWriter<W, A>> {
-    /// Returns a writer to `buffer`, none of whose calls has failed yet.
+    /// Returns a writer to `buffer` whose count of failures is 0.
     pub fn new(buffer: BufWriter<W, A>) -> BufferedOutput<BufWriter<W, A>>
         ensures inner { inner_writer (counted_buffer result) ≡ buffer }
         ensures failures { failed_writes (counted_buffer result) ≡ 0 }
@@ -149,7 +149,7 @@ impl<W: Write + Drop, A: Allocator> BufferedOutput<BufWriter<W, A>> {
         }
     }
 
-    /// Returns the writer behind the buffer.
+    /// Returns the writer below the buffer.
     pub fn get_ref(&self) -> &W
         ensures { result.now ≡ writer_inner (inner_writer (counted_buffer self.now)) }
     {

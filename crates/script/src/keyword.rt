@@ -80,7 +80,7 @@ impl Keyword {
     }
 }
 
-/// Returns the first word of a command's line.
+/// Returns the first word of the command's line.
 #[tactic(auto, unfolding(model::specs::Text::command_words))]
 pub fn command_word(command: &Command) -> &'static [u8]
     ensures word { result.now ≡ command_name command.now }
@@ -162,15 +162,15 @@ pub fn is_store(line: &[u8]) -> bool
     line.len() >= 11 && four_at(line, 0) == STORE && line[4] == b'e' && line[5] == b' '
 }
 
-/// The operation with which a line begins, and where the words after it begin.
+/// The operation that a line begins with, and the index at which the words after it begin.
 #[derive(Clone, Copy)]
 pub struct Named {
     pub operation: Operation,
     pub next: usize,
 }
 
-/// Returns the operation with which a line begins, or `None` if there is none or the line is too short for ten
-/// numbers after it.
+/// Returns the operation that a line begins with. Returns `None` if there is none, or if the line is too short
+/// for ten numbers after it.
 #[inline(always)]
 #[tactic(auto, using(crate::proofs::CommonWords::operation_bytes))]
 pub fn operation_in(line: &[u8]) -> Option<Named>

@@ -25,9 +25,9 @@ pub enum LineFault {
     EmptyWord(u64),
     /// Its first word names no command.
     NoCommand,
-    /// It has fewer words than its command, which has this many.
+    /// It has fewer words than its command needs: this many.
     FewWords(u64),
-    /// It has more words than its command, which has this many.
+    /// It has more words than its command has: this many.
     ManyWords(u64),
     /// The word at this place isn't a decimal number.
     NoNumber(u64),

@@ -150,7 +150,7 @@ impl LineText {
         self.number(number);
     }
 
-    /// Appends numbers, with a space before each.
+    /// Appends the numbers, each after a space.
     pub fn numbers(&mut self, numbers: &[u64])
         requires { length self.old + 21 * length numbers.now ≤ 320 }
         ensures text { self.new ≡ self.old ++ flat_map (λ n. 32 ∷ decimal n) numbers.now }
@@ -161,7 +161,7 @@ impl LineText {
         }
     }
 
-    // Appends a space and the restriction of a capability, if there is one.
+    // Appends ` ro` or ` weak` if the access is restricted.
     fn access(&mut self, access: Access)
         requires { length self.old ≤ 300 }
         ensures text { self.new ≡ self.old ++ access_text access }

@@ -1,4 +1,4 @@
-// A line of a script, which is read in pieces.
+// Reading a line of a script in pieces.
 ghost use Rattle.std.specs.Prelude.{◌≡◌, ◌↔◌, List, ℕ, [], ◌++◌, IfSome, IsTrue, option_map};
 ghost use Rattle.script.specs.Lines.{Holds, IsTextOf};
 ghost use Rattle.model.specs.Text.{Says};
@@ -7,7 +7,7 @@ use crate::parse::{LONGEST_LINE, parse_line};
 use arrayvec::ArrayVec;
 use model::Line;
 
-/// The bytes of a line that were read so far. For a line of more than `LONGEST_LINE` bytes it records only that the
+/// The bytes of a line that were read so far. For a line of more than `LONGEST_LINE` bytes it only records that the
 /// line is too long.
 #[derive(Drop)]
 pub struct LineBuffer {
@@ -54,7 +54,7 @@ impl LineBuffer {
         }
     }
 
-    /// Parses the line.
+    /// Parses the line, and returns what it contains.
     pub fn says(&self) -> Line
         ensures { (line : List ℕ) → Holds self.now line → Says line result }
     {

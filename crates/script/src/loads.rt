@@ -1,4 +1,4 @@
-// Fast readers of loads and stores, in one pass over a line. `None` is no proof that the line has no load or store.
+// Fast parsers of loads and stores, in one pass over a line. If they return `None`, the general parser decides.
 ghost use Rattle.std.specs.Prelude.{◌≡◌, IfSome};
 ghost use Rattle.model.specs.declared.command.Command.{Command};
 ghost use Rattle.model.specs.Text.{Fits, command_words};
@@ -22,7 +22,7 @@ pub struct Store {
     pub value: u64,
 }
 
-/// Returns the load that a line contains. `None` may also mean that the general parser must decide.
+/// Returns the load in a line. `None` means that the general parser must decide.
 #[tactic(auto, using(crate::proofs::ShortInvocations::load_said))]
 #[inline(always)]
 pub fn load_in(line: &[u8]) -> Option<Load>
@@ -40,7 +40,7 @@ pub fn load_in(line: &[u8]) -> Option<Load>
     })
 }
 
-/// Returns the store that a line contains. `None` may also mean that the general parser must decide.
+/// Returns the store in a line. `None` means that the general parser must decide.
 #[tactic(auto, using(crate::proofs::ShortInvocations::store_said))]
 #[inline(always)]
 pub fn store_in(line: &[u8]) -> Option<Store>

@@ -154,12 +154,12 @@ fn arguments(kind: Kind, words: &mut Words<'_>) -> Option<Capability>
     }
 }
 
-/// Returns the capability with this text, which has the form that `show` prints, or `None`.
+/// Returns the capability with this text, in the form that `show` prints, or `None`. It takes no memory.
 ///
 /// The forms are `void`, `number N`, `page OBJECT`, `node OBJECT`, `space OBJECT HEIGHT`, `process PROCESS`, `start
-/// PROCESS KEY`, `resume PROCESS`, `bank BANK` and `discrim`. `ro` or `weak` may follow a page, a node and a space.
-/// There is one space between words; numbers are decimal without leading zeros and below 2^64, heights 1 to 4, keys
-/// below 65536. For any other text it returns `None`. It takes no memory.
+/// PROCESS KEY`, `resume PROCESS`, `bank BANK` and `discrim`. A page, a node and a space may end with `ro` or
+/// `weak`. One space separates words. Numbers are decimal, below 2^64 and without leading zeros; heights are 1 to
+/// 4, keys below 65536.
 #[tactic(auto, using(crate::proofs::CapabilityTexts::no_text, crate::proofs::CapabilityWords::no_words))]
 pub fn capability_of(text: &[u8]) -> Option<Capability>
     ensures some { IfSome result (λ c. IsWellFormed c
@@ -177,9 +177,8 @@ pub fn capability_of(text: &[u8]) -> Option<Capability>
     }
 }
 
-/// Returns the state of a process with this text: `available`, `running` or `waiting`.
-///
-/// For any other text it returns `None`. It takes no memory.
+/// Returns the state of a process with this text: `available`, `running` or `waiting`. Returns
+/// `None` for any other text. It takes no memory.
 #[tactic(auto, using(crate::proofs::Tables::no_state_left))]
 pub fn state_of(text: &[u8]) -> Option<State>
     ensures some { IfSome result (λ s. state_text s ≡ text.now) }

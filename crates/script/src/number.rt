@@ -3,7 +3,7 @@ ghost use Rattle.std.specs.Prelude.{◌≡◌, ◌≢◌, ℕ, ◌+◌, ◌*◌,
 ghost use Rattle.std.specs.Str.Parse.{AllDigits, digits_value};
 ghost use Rattle.script.specs.Reading.{first_end, first_word};
 
-/// The number with which a text begins.
+/// The number that a text begins with.
 #[derive(Clone, Copy)]
 pub struct Front {
     pub number: u64,
@@ -27,7 +27,8 @@ fn with_digit(number: u64, digit: u64) -> Option<u64>
     number.checked_mul(10)?.checked_add(digit)
 }
 
-// Returns the value of the first word of a text, or `None` if that has other bytes than digits or is 2^64 or above.
+// Returns the value of the first word of a text. Returns `None` if the word has a byte that is no digit, or if the
+// value is 2^64 or above.
 #[tactic(auto, using(crate::proofs::FirstWords::ends_here, crate::proofs::FirstWords::first_end_within))]
 fn value_in_front(text: &[u8]) -> Option<Front>
     ensures size { IfSome result (λ front. front.size ≡ first_end text.now) }
@@ -52,8 +53,8 @@ fn value_in_front(text: &[u8]) -> Option<Front>
     })
 }
 
-/// Returns the number with which a text begins: its first word, in decimal without leading zeros. `None` if that is
-/// no number.
+/// Returns the number that a text begins with: its first word, in decimal without leading zeros. Returns `None` if
+/// that word is no such number.
 #[tactic(auto, using(crate::proofs::FirstWords::word_length, crate::proofs::Numbers::decimal_not_empty))]
 #[inline(never)]
 pub fn number_in_front(text: &[u8]) -> Option<Front>

@@ -4,7 +4,7 @@ ghost use Rattle.script.specs.Writing.{Writes, Written};
 
 use crate::fault::RunFault;
 
-/// A writer that may buffer bytes until `pass_on`, with a count of its calls that failed.
+/// A writer that may keep bytes in a buffer until `pass_on`, and counts its failed calls.
 pub trait Output {
     // The bytes that were accepted, and how many calls have failed.
     ghost written: { Self → Written };
@@ -12,7 +12,7 @@ pub trait Output {
     // The bytes that were accepted but not passed on.
     ghost waiting: { Self → List ℕ };
 
-    /// Writes all of the text. A write that was interrupted is tried again.
+    /// Writes all of the text. Repeats an interrupted write.
     ///
     /// Returns `RunFault::Write` if the writer fails or accepts no bytes; then it accepted only a beginning of the
     /// text.

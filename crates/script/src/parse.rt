@@ -12,7 +12,7 @@ use crate::short::{last_registers, order_in};
 use crate::words::Words;
 use model::{Command, Invocation, Line, Operation};
 
-/// The most bytes that a line may have and not be bad.
+/// The most bytes of a line. A longer one is bad.
 pub const LONGEST_LINE: usize = 256;
 
 // Takes the first word, and returns its keyword.
@@ -86,7 +86,7 @@ fn is_skipped(line: &[u8]) -> bool
     matches!(line, [] | [b'#', ..])
 }
 
-// Returns the command on a line, or `None`.
+// Returns the command in a line, or `None`.
 #[tactic(auto, using(crate::proofs::Commands::no_keyword))]
 fn command_in(line: &[u8]) -> Option<Command>
     ensures found { IfSome result (λ c. Fits c × (words_of line.now ≡ command_words c)) }
@@ -102,7 +102,7 @@ fn command_in(line: &[u8]) -> Option<Command>
     }
 }
 
-// Parses any line. The fast readers have read most invocations, loads and stores before.
+// Parses any line. The fast parsers come first, and handle most invocations, loads and stores.
 #[tactic(auto, using(crate::proofs::Spellings::spelling_said, crate::proofs::Spellings::says_said))]
 #[inline(never)]
 fn other_line(line: &[u8]) -> Line
@@ -121,11 +121,11 @@ fn other_line(line: &[u8]) -> Line
     }
 }
 
-/// Parses a line of a script: the bytes before a newline.
+/// Parses a line of a script: the bytes before a newline. It takes no memory.
 ///
-/// An empty line and one that begins with `#` are skipped. Any other line is a command if it is the only spelling of
-/// one: its words with one space between them, numbers decimal without leading zeros and below 2^64, registers below
-/// 32. Anything else is bad, and so is every line of more than 256 bytes. It takes no memory.
+/// An empty line, or one that begins with `#`, is skipped. Any other line is a command if it is the command's only
+/// spelling: words with one space between them, numbers in decimal without leading zeros and below 2^64, registers
+/// below 32. Every other line is bad, and so is one of more than 256 bytes.
 #[inline(never)]
 pub fn parse_line(line: &[u8]) -> Line
     ensures says { Says line.now result }
@@ -157,8 +157,7 @@ pub fn parse_line(line: &[u8]) -> Line
             }));
         }
     }
-    // The result of this call has its own variable, so the compiler can build the others directly in the caller's
-    // memory.
+    // As a variable, this result lets the compiler build the others directly in the caller's memory.
     let other = other_line(line);
     other
 }

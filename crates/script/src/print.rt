@@ -11,7 +11,7 @@ use crate::short_line::ShortLine;
 use crate::shown::print_object;
 use model::{Answer, Description, Refusal, Unjournaled};
 
-// Returns the line of a refusal to journal a page.
+// Returns the line that refuses to journal a page.
 fn unjournaled_line(why: Unjournaled) -> LineText
     ensures text { result ≡ codes "not journaled " ++ decimal (unjournaled_number why) }
     ensures short { length result ≤ 41 }
@@ -45,7 +45,7 @@ pub fn refusal_line(refusal: Refusal) -> LineText
     }
 }
 
-/// Returns the line of an answer; for an object the line is `shown`. It takes no memory.
+/// Returns the line of an answer; for an object it is `shown`. It takes no memory.
 #[tactic(auto, unfolding(model::specs::Text::printed))]
 pub fn answer_line(answer: &Answer) -> LineText
     ensures text { IsAnswerText answer.now result }
@@ -65,7 +65,7 @@ pub fn answer_line(answer: &Answer) -> LineText
     }
 }
 
-// Returns the line with the generation and the age at which the machine stands.
+// Returns the line `at`, with the machine's generation and age.
 fn place_line(generation: u64, age: u64) -> LineText
     ensures text { result ≡ spaced (codes "at" ∷ decimal generation ∷ decimal age ∷ []) }
     ensures short { length result ≤ 44 }
@@ -88,7 +88,7 @@ fn print_numbered<W: Output>(word: &[u8], number: u64, writer: &mut W) -> Result
     line.print(writer)
 }
 
-// Writes the answer to a load, as `print_numbered` would. Here the word is a constant, so it is copied faster.
+// Writes the answer to a load, as `print_numbered` would. The word is a constant here, so it is copied faster.
 #[inline(never)]
 fn print_value<W: Output>(value: u64, writer: &mut W) -> Result<(), RunFault>
     ensures { Writes (W.written writer.old) (W.written writer.new) result
@@ -100,7 +100,7 @@ fn print_value<W: Output>(value: u64, writer: &mut W) -> Result<(), RunFault>
     line.print(writer)
 }
 
-// Writes the line with the generation and the age at which the machine stands.
+// Writes the line `at`, with the machine's generation and age.
 #[inline(never)]
 fn print_place<W: Output>(generation: u64, age: u64, writer: &mut W) -> Result<(), RunFault>
     ensures { Writes (W.written writer.old) (W.written writer.new) result

@@ -1,4 +1,4 @@
-// A writer, with a contract for each of its calls.
+// Writers with a contract for each call.
 ghost use Rattle.std.specs.Prelude.{◌≡◌, ◌≢◌, ◌<◌, ℕ, List, [], Option, None, length, option_map, IfErr, IfOk, OnOk};
 ghost use Rattle.std.specs.Prelude.{OnErr};
 ghost use Rattle.std.specs.Io.{WritesAtMost};
@@ -10,15 +10,15 @@ ghost use Rattle.script.specs.CallErrors.{CallErrors, more_errors};
 use std::alloc::Allocator;
 use std::io::{self, BufWriter, ErrorKind, Write};
 
-/// A writer. Where it is known, also which of its calls failed.
+/// A writer. For some writers it is known which calls failed.
 pub trait RawWriter {
-    // The bytes that the writer holds, where they are known.
+    // The bytes that the writer holds, if they are known.
     ghost held: { Self → Option (List ℕ) };
 
-    // The number of errors so far, where it is known.
+    // The errors so far, if they are known.
     ghost errors: { Self → Option CallErrors };
 
-    /// Writes the first of these bytes, as many as the writer accepts, by one call. Returns how many.
+    /// Writes as many of the first bytes as the writer accepts, by one call. Returns their number.
     fn put(&mut self, text: &[u8]) -> io::Result<usize>
         ensures bound { WritesAtMost result text.now }
         ensures bytes { WriteAppends (held self.old) (held self.new) result text.now }
@@ -32,9 +32,9 @@ pub trait RawWriter {
             → errors self.new ≡ option_map (more_errors 1 0) (errors self.old)) };
 }
 
-/// A writer behind a buffer.
+/// A writer with a buffer.
 pub trait RawBuffer: RawWriter {
-    // The bytes that the buffer accepted and didn't pass on.
+    // The bytes that the buffer accepted but hasn't passed on.
     ghost buffered: { Self → List ℕ };
 
     /// Passes on all buffered bytes, by one call.
@@ -45,7 +45,7 @@ pub trait RawBuffer: RawWriter {
         ensures failed { OnErr result (Self.errors self.new ≡ option_map (more_errors 1 0) (Self.errors self.old)) };
 }
 
-/// Nothing is known about the errors of this writer.
+/// The errors of this writer are unknown.
 impl<W: Write> RawWriter for W {
     ghost held = { W.contents };
 

@@ -1,5 +1,5 @@
-// Fast readers of the parts of an invocation, at an index of a line. `None` is no proof that the line has no
-// invocation.
+// Fast parsers of the parts of an invocation, each at an index of a line. If they return `None`, the general
+// parser decides.
 ghost use Rattle.std.specs.Prelude.{◌≡◌, ◌≢◌, ◌+◌, ◌-◌, ◌%◌, ◌/◌, ◌<◌, ◌≤◌, ℕ, List, [], Some, IfSome, length};
 ghost use Rattle.std.specs.Prelude.{drop, take, slice_index_or};
 ghost use Rattle.std.specs.Int.{IsInRange};
@@ -23,14 +23,14 @@ const ZERO_AND_SPACE: u64 = 0x2030;
 
 const NINE_AND_SPACE: u64 = 0x2039;
 
-// The bytes of the first and the last digit, and of a space. They are `u64`, as the values of digits are.
+// The bytes of the first digit, the last digit and a space, as `u64` like the values of digits.
 const FIRST_DIGIT: u64 = 48;
 
 const LAST_DIGIT: u64 = 57;
 
 const SPACE: u64 = 32;
 
-/// A number in a text, and where the next word begins.
+/// A number in a text, and the index at which the next word begins.
 #[derive(Clone, Copy)]
 pub struct Short {
     pub number: u64,
@@ -47,7 +47,7 @@ fn two_at(text: &[u8], at: usize) -> u64
     u64::from(text[at]) + u64::from(text[at + 1]) * 0x100
 }
 
-// Returns the value of the digit at an index, or `None` if there is no digit.
+// Returns the value of the digit at an index, or `None` if the byte there is no digit.
 #[inline(always)]
 fn digit_at(text: &[u8], at: usize) -> Option<u64>
     requires { at < length text.now }
@@ -61,7 +61,8 @@ fn digit_at(text: &[u8], at: usize) -> Option<u64>
     Some(byte - FIRST_DIGIT)
 }
 
-// Returns where at most 19 digits from index `at` on may end. A number of 19 digits is below 2^64.
+// Returns an index up to which the digits from `at` on may reach: at most 19 of them, whose number
+// is below 2^64.
 #[inline(always)]
 fn digits_end(text: &[u8], at: usize) -> usize
     requires { at < length text.now }
@@ -75,8 +76,8 @@ fn digits_end(text: &[u8], at: usize) -> usize
     }
 }
 
-// Returns the number whose digits begin at `at`; `number` is the value of those before `from`. If there are more than
-// 19 digits, or no space follows them, `next` is beyond the text.
+// Returns the number whose digits begin at `at`, given the value `number` of those before `from`. If there are more
+// than 19 digits, or no space follows them, `next` is beyond the text.
 #[tactic(auto, using(crate::proofs::ShortNumbers::place_more))]
 #[inline(never)]
 fn digits_before(text: &[u8], at: usize, from: usize, number: u64) -> Short
@@ -110,7 +111,7 @@ fn digits_before(text: &[u8], at: usize, from: usize, number: u64) -> Short
     }
 }
 
-// Returns the number at `at`, if it has two or more digits and a space follows it. Otherwise `next` is beyond the
+// Returns the number at `at` if it has at least two digits and a space follows it. Otherwise `next` is beyond the
 // text.
 #[tactic(auto, using(crate::proofs::ShortNumbers::values_up_to_three))]
 #[inline(never)]
@@ -152,8 +153,8 @@ fn longer_before(text: &[u8], at: usize) -> Short
     digits_before(text, at, at + 3, three)
 }
 
-/// Returns the number at `at`, if a space follows it. At least `behind` bytes must follow the one at `at`; then at
-/// least `behind - 2` follow the first byte of the next word.
+/// Returns the number at `at` if a space follows it. The caller shows that at least `behind` bytes follow the one
+/// at `at`; then at least `behind - 2` follow the first byte of the next word.
 #[inline(always)]
 pub fn number_before(text: &[u8], at: usize, behind: usize) -> Option<Short>
     requires room { at + behind < length text.now }
@@ -177,14 +178,14 @@ pub fn number_before(text: &[u8], at: usize, behind: usize) -> Option<Short>
     Some(short)
 }
 
-// A register that a text names, and where the next word begins.
+// A register in a text, and the index at which the next word begins.
 #[derive(Clone, Copy)]
 struct ShortRegister {
     register: Register,
     next: usize,
 }
 
-// Returns the register at `at`, if a space follows its number.
+// Returns the register at `at` if a space follows its number.
 #[tactic(auto, using(crate::proofs::ShortInvocations::register_reads))]
 #[inline(always)]
 fn register_before(text: &[u8], at: usize, behind: usize) -> Option<ShortRegister>
@@ -271,7 +272,8 @@ fn last_register(text: &[u8], at: usize) -> Option<Register>
     register_of(last_number(text, at)?)
 }
 
-/// Returns the four registers at `at`, if they are the last words. Most are `0 0 0 0`, which is tried first.
+/// Returns the four registers at `at` if they are the last words. First it tries `0 0 0 0`, the most
+/// frequent.
 #[tactic(auto, using(crate::proofs::ShortInvocations::void_read, crate::proofs::ShortInvocations::registers_read))]
 #[inline(always)]
 pub fn last_registers(text: &[u8], at: usize) -> Option<[Register; 4]>
@@ -292,14 +294,14 @@ pub fn last_registers(text: &[u8], at: usize) -> Option<[Register; 4]>
     Some([first.register, second.register, third.register, fourth])
 }
 
-// Four numbers in a text, and where the next word begins.
+// Four numbers in a text, and the index at which the next word begins.
 #[derive(Clone, Copy)]
 struct Shorts {
     numbers: [u64; 4],
     next: usize,
 }
 
-// Returns the four numbers at `at`, if the line is long enough for four more.
+// Returns the four numbers at `at` if the line is long enough for four more words.
 #[tactic(auto, using(crate::proofs::ShortInvocations::numbers_read))]
 #[inline(always)]
 fn numbers_before(text: &[u8], at: usize) -> Option<Shorts>
@@ -318,7 +320,7 @@ fn numbers_before(text: &[u8], at: usize) -> Option<Shorts>
     })
 }
 
-/// The part of an invocation before the registers that it sends, and where these begin.
+/// An invocation without the registers that it sends, and the index at which these begin.
 #[derive(Clone, Copy)]
 pub struct Order {
     pub operation: Operation,
@@ -328,7 +330,7 @@ pub struct Order {
     pub next: usize,
 }
 
-/// Returns the beginning of an invocation's line. `None` may also mean that the general parser must decide.
+/// Returns the first part of an invocation's line. `None` means that the general parser must decide.
 #[inline(always)]
 pub fn order_in(line: &[u8]) -> Option<Order>
     ensures reads { IfSome result (λ o. (sent : List ℕ)

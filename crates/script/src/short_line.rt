@@ -8,8 +8,8 @@ use crate::output::Output;
 use itoa::Buffer;
 use std::marker::Model;
 
-/// A line of text of at most 60 bytes that is assembled before it is written. A `LineText` is longer, and takes more
-/// time to clear.
+/// A line of text of at most 60 bytes that is assembled before it is written. Clearing it takes less time than
+/// clearing a `LineText`.
 #[derive(Drop)]
 pub struct ShortLine {
     bytes: [u8; 60],

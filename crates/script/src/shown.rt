@@ -9,7 +9,7 @@ use crate::line_text::LineText;
 use crate::output::Output;
 use model::{Capability, Content, Object, Root, Slots, State};
 
-// Begins a line with `NAME number owner OWNER`, as for all objects.
+// Writes `NAME number owner OWNER`, the beginning of every object's first line, into `line`.
 fn begin_heading(line: &mut LineText, name: &[u8], number: u64, owner: u64)
     requires { length name.now ≤ 8 }
     ensures text { line.new ≡ spaced (headed name.now number owner) }
@@ -82,7 +82,7 @@ fn print_word<W: Output>(
     line.print(writer)
 }
 
-// Writes the lines of all words that aren't 0.
+// Writes a line for each word that isn't 0.
 fn print_words<W: Output>(
     line: &mut LineText,
     words: &[u64],
@@ -118,7 +118,7 @@ fn print_capability<W: Output>(
     line.print(writer)
 }
 
-// Writes the lines of all capabilities that aren't void.
+// Writes a line for each capability that isn't void.
 fn print_capabilities<W: Output>(
     line: &mut LineText,
     name: &[u8],
@@ -135,7 +135,7 @@ fn print_capabilities<W: Output>(
     Ok(())
 }
 
-// Writes `line`, then the lines of all capabilities that aren't void.
+// Writes `line`, then a line for each capability that isn't void.
 fn print_holder<W: Output>(
     line: &mut LineText,
     name: &[u8],

@@ -19,7 +19,8 @@ fn first_space(bytes: &[u8]) -> Option<usize>
     bytes.iter().position(|byte| *byte == b' ')
 }
 
-// Returns the text after the space at `end`, where the first word ends, or `None` if there is no space.
+// Returns the text after the first word and its space, or `None` if there is no space. The first word
+// ends at `end`.
 #[tactic(auto, using(crate::proofs::Split::word_and_more, crate::proofs::Split::word_alone))]
 fn behind_first(text: &[u8], end: usize) -> Option<&[u8]>
     requires { end ≡ first_end text.now }
@@ -33,7 +34,7 @@ fn behind_first(text: &[u8], end: usize) -> Option<&[u8]>
     }
 }
 
-/// Returns the register with a number, or `None` if processes don't have it.
+/// Returns the register with this number, or `None` if the number is above 31.
 #[inline(always)]
 pub fn register_of(number: u64) -> Option<Register>
     ensures register { IfSome result (λ r. r ≡ number) }
@@ -45,7 +46,7 @@ pub fn register_of(number: u64) -> Option<Register>
     }
 }
 
-/// The words of a line that weren't taken yet, with one space between them.
+/// The words of a line that aren't taken yet.
 #[derive(Drop)]
 pub struct Words<'a> {
     rest: Option<&'a [u8]>,
@@ -103,8 +104,8 @@ impl<'a> Words<'a> {
         }
     }
 
-    /// Takes the next word if it is `load`, `store` or an operation, with which most lines begin, and the line is
-    /// long enough for its numbers. Otherwise takes nothing and returns `None`.
+    /// Takes the next word if it is `load`, `store` or an operation, and the line is long enough for its numbers.
+    /// Most lines begin with these words. Otherwise takes nothing and returns `None`.
     #[inline(always)]
     pub fn common_keyword(&mut self) -> Option<Keyword>
         ensures taken { IfSome result (λ k. self.old ≡ keyword_name k ∷ self.new) }

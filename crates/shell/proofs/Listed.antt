@@ -1,4 +1,4 @@
--- Objects that are listed one after another.
+-- Listing objects, one after another.
 use Rattle.std.proofs.Common.{◌≡◌, ◌+◌, ◌∷◌, ◌++◌, ℕ, suc, Result, List, [], Ok, Err, arith, inr, length, refl, subst, sym}
 use Rattle.capability.specs.Parts.{Parts}
 use Rattle.checkpoint.specs.Store.{View}
@@ -33,7 +33,7 @@ module _ {D S : Type 0} (disk : D → Disk) (view : S → View D) (parts : S →
       let later : m ≡ suc n + length bs = omega (arith, at) in
       (next, first, shown, wrote_first, listed_more (suc n) m bs a next mid new first between output_left later are carries wrote)
 
-  -- the objects before a number were listed
+  -- the first n objects were listed
   abbrev pub ListedTo : ℕ → Power D S → Power D S → Written → Written → Type 0
   ListedTo n old new output output_left = (answers : List Answer) × (length answers ≡ n)
       × AreListed disk view parts 0 answers old new output output_left
@@ -50,7 +50,7 @@ module _ {D S : Type 0} (disk : D → Disk) (view : S → View D) (parts : S →
     listed_more 0 n answers a old mid new output between output_left (omega (arith, count)) are carries wrote,
   )
 
-  -- a list ended where a line couldn't be written whole
+  -- if the line of object n couldn't be written whole, the list ended there
   pub list_cut : (n : ℕ) (a : Answer) (e : RunFault) (old mid new : Power D S) (output between output_left : Written)
       (r : Result (Unit {0}) RunFault) → ListedTo n old mid output between → CarriesOut disk view parts mid (command.Show n) new (Ok a) →
       r ≡ Err e → Writes between output_left r (shown_text a) → Lists disk view parts old new output output_left r
@@ -62,7 +62,7 @@ module _ {D S : Type 0} (disk : D → Disk) (view : S → View D) (parts : S →
     inr (inr (a, e, subst (λ (m : ℕ). CarriesOut disk view parts mid (command.Show m) new (Ok a)) (sym count) carries, failed, wrote)),
   )
 
--- a refusal for another reason than the end of the objects is the last line
+-- if `show` is refused for a reason other than `BadNumber`, the refusal is the last line
 pub end_other : (why : Refusal) → (why ≡ refusal.BadNumber → ⊥) → line_of (refusal_text why) ≡ end_text why
 end_other refusal.BadNumber other = absurd (other refl)
 end_other why other = refl

@@ -26,7 +26,7 @@ use Rattle.shell.specs.declared.request.Request.TheVariants as request
 
 module _ {D S : Type 0} (disk : D → Disk) (view : S → View D) (parts : S → Parts) (inspects : Inspects D) where
   module _ (g : Geometry) where
-    -- a run of some turns leads from one kernel to another
+    -- for each machine that the old kernel stands for, some turns are a run of it that ends at the new kernel
     abbrev Runs : Power D S → Power D S → Type 0
     Runs old new = (m : Machine) → Stands disk view parts g old m → (turns : List Turn) × IsRunOf disk view parts g m old new turns
 

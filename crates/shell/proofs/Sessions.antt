@@ -1,4 +1,4 @@
--- Lines that are served one after another.
+-- Serving lines, one after another.
 use Rattle.std.proofs.Common.{◌≡◌, ◌∷◌, ◌++◌, ◌∙◌, ℕ, Bool, true, List, [], Option, None, Some, Result, Ok, Err, inr, refl, sym, ap, subst, append-nil, append_assoc}
 use Rattle.capability.specs.Parts.{Parts}
 use Rattle.checkpoint.specs.Store.{View}
@@ -17,7 +17,7 @@ use Rattle.shell.specs.Watching.{IsRemark}
 use Rattle.shell.specs.declared.help.Topic.{Topic}
 use Rattle.shell.specs.declared.watch.Remark.TheVariants as remark
 
--- ---- what is said of a turn
+-- ---- remarks about turns
 
 pub bad_said : (g : Geometry) (t : Turn) (why : LineFault) → t.reply ≡ BadLine → IsFaultOf t.line why →
     IsRemark g t t.reply (Some (remark.Fault why))
@@ -28,7 +28,7 @@ none_said g t is = subst (λ (r : Reply). IsRemark g t r None) (sym is) refl
 
 -- ---- what was written
 
--- a text was written, and passing it on succeeded or failed
+-- if a text was written, passing it on writes it, or fails after a beginning of it
 pub passed_on : (a b c : Written) (r : Result (Unit {0}) RunFault) (text : List ℕ) → Wrote a b text → Writes b c r [] → Writes a c r text
 passed_on a b c (Ok u) text wrote kept = wrote_kept a b c text wrote kept
 passed_on a b c (Err e) text wrote failed =
@@ -62,7 +62,7 @@ module _ {D S : Type 0} (disk : D → Disk) (view : S → View D) (parts : S →
       (t, subst (λ (x : Session D S). StepsBy disk view parts inspects topics prompts l x t (Ok true)) same step, refl)
   served_more (k ∷ ks) l s mid t served step = (served.0, served.1, served_more ks l served.0 mid t served.2 step)
 
-  -- a session with one more line
+  -- if the lines so far were served, and then the next one was, all were
   pub more : (their_topics : List Topic) (theirs : Bool) → their_topics ≡ topics → theirs ≡ prompts →
       (ahead now later : Option (List (List ℕ))) (s mid t : Session D S) (l : List ℕ) → SoFar ahead now s mid → Takes now later (l ∷ []) →
       StepsBy disk view parts inspects their_topics theirs l mid t (Ok true) → SoFar ahead later s t
@@ -73,7 +73,7 @@ module _ {D S : Type 0} (disk : D → Disk) (view : S → View D) (parts : S →
         (subst (λ (p : Bool). StepsBy disk view parts inspects their_topics p l mid t (Ok true)) same_prompts step)),
   )
 
-  -- the session ended
+  -- if the last line ended the session, the session served all lines
   pub finished : (their_topics : List Topic) (theirs : Bool) → their_topics ≡ topics → theirs ≡ prompts →
       (ahead now later : Option (List (List ℕ))) (s mid t : Session D S) (last : List (List ℕ)) (r : Result (Unit {0}) RunFault) →
       SoFar ahead now s mid → Takes now later last → Finishes disk view parts inspects their_topics theirs last later mid t r →
@@ -88,7 +88,7 @@ module _ {D S : Type 0} (disk : D → Disk) (view : S → View D) (parts : S →
         (subst (λ (p : Bool). Finishes disk view parts inspects their_topics p last later mid t r) same_prompts ends),
   )
 
-  -- passing on what was written before the session failed
+  -- if the answers before the session couldn't be passed on, no line was served
   pub not_begun : (ahead : Option (List (List ℕ))) (s : Session D S) (last : Written) (e : RunFault) → e ≡ fault.Write →
       WroteFront s.output last [] → ServesFrom disk view parts inspects topics prompts ahead ahead s (record s { output = last }) (Err e)
   not_begun ahead s last e is failed = inr (rw is refl, refl, failed, refl)

@@ -1,4 +1,4 @@
--- The lines that a shell will read, as bytes are read.
+-- How reading bytes changes the lines that a shell has yet to read.
 use Rattle.std.proofs.Common.{◌≡◌, ◌≢◌, ◌⊎◌, ◌≤◌, ◌<◌, ◌+◌, ◌∷◌, ◌++◌, ◌==◌, ◌∙◌, ℕ, Bool, true, false, List, [], Option, None, Some, length, take, drop, map, refl}
 use Rattle.std.proofs.Common.{sym, ap, subst, arith, append-nil, append_assoc, ⊎_elim}
 use Rattle.std.proofs.lemmas.Bool.Decides.{nat_tests}
@@ -21,7 +21,7 @@ use Rattle.shell.specs.Served.{ReadsLine, lines_to}
 use Rattle.shell.specs.declared.typed_lines.LineEnd.{LineEnd}
 use Rattle.shell.specs.declared.typed_lines.LineEnd.TheVariants as end
 
--- one more byte of a line, which isn't its newline
+-- a byte that is no newline continues the line begun
 byte_more : (begun rest : List ℕ) (b : ℕ) → b ≢ 10 → lines_from begun (b ∷ rest) ≡ lines_from (begun ++ b ∷ []) rest
 byte_more [] rest b other = let differs : (b == 10) ≡ false = grind (arith, nat_tests) in rw differs refl
 byte_more (c ∷ begun) rest b other = ap (onto_first c) (byte_more begun rest b other)
@@ -31,7 +31,7 @@ newline : (begun rest : List ℕ) → lines_from begun (10 ∷ rest) ≡ begun �
 newline [] rest = refl
 newline (c ∷ begun) rest = ap (onto_first c) (newline begun rest)
 
--- the bytes of a line before the lines of what follows
+-- the lines of a text, with these bytes before the first
 abbrev joined : List ℕ → List (List ℕ) → List (List ℕ)
 joined begun [] = begun ∷ []
 joined begun (l ∷ ls) = (begun ++ l) ∷ ls
@@ -48,7 +48,7 @@ from_joined c [] rest = onto_first_one (lines_of rest)
     onto_first_one (l ∷ ls) = refl
 from_joined c (d ∷ begun) rest = ap (onto_first c) (from_joined d begun rest) ∙ onto_joined c (d ∷ begun) (lines_of rest)
 
--- of a line of more than 256 bytes the first 257 are kept
+-- only the first 257 bytes of a longer line matter
 read_long : (begun more : List ℕ) → 257 ≤ length begun → read_as (begun ++ more) ≡ take 257 begun
 read_long begun more full =
     let long : nat_lt 256 (length (begun ++ more)) ≡ true = lt-ltb 256 (length (begun ++ more))
@@ -72,7 +72,7 @@ byte_dropped (c ∷ begun) rest b other full =
     ap (map read_as) (from_joined c begun (b ∷ rest)) ∙ rw differs (dropped (c ∷ begun) b (lines_of rest) full)
     ∙ sym (ap (map read_as) (from_joined c begun rest))
 
--- at the end of the input the bytes that were read are the last line
+-- at the end of the input the bytes read are the last line, if there are any
 at_end : (begun : List ℕ) → lines_from begun [] ≡ lines_to end.Input begun
 at_end [] = refl
 at_end (c ∷ begun) = from_joined c begun []
@@ -80,7 +80,7 @@ at_end (c ∷ begun) = from_joined c begun []
 -- ---- one read
 
 module _ (first : Option (List (List ℕ))) (begun : List ℕ) where
-  -- nothing was read
+  -- reading nothing takes no line
   pub none_read : (old new : Option (List ℕ)) → Consumes old new [] → Takes first (lines_ahead begun old) [] →
       Takes first (lines_ahead begun new) []
   none_read old new = nothing first old new
@@ -92,7 +92,7 @@ module _ (first : Option (List (List ℕ))) (begun : List ℕ) where
       nothing (Some ls) (Some xs) None read takes = absurd read
       nothing (Some ls) (Some xs) (Some ys) read takes = takes ∙ ap (λ (t : List ℕ). map read_as (lines_from begun t)) read
 
-  -- a byte of the line was read, and kept if it is one of the first 257
+  -- reading a byte that is no newline keeps it, if it is one of the first 257 of the line
   pub byte_read : (old new : Option (List ℕ)) (b : ℕ) (after : List ℕ) → b ≢ 10 → IsKept begun b after →
       Consumes old new (b ∷ []) → Takes first (lines_ahead begun old) [] → Takes first (lines_ahead after new) []
   byte_read old new b after other is = more first old new
@@ -110,7 +110,7 @@ module _ (first : Option (List (List ℕ))) (begun : List ℕ) where
       more (Some ls) (Some xs) None read takes = absurd read
       more (Some ls) (Some xs) (Some ys) read takes = takes ∙ ap (λ (t : List ℕ). map read_as (lines_from begun t)) read ∙ same ys
 
-  -- the newline of the line was read
+  -- reading a newline takes the line
   pub newline_read : (old new : Option (List ℕ)) → Consumes old new (10 ∷ []) → Takes first (lines_ahead begun old) [] →
       ReadsLine first new begun end.Newline
   newline_read old new read takes = (whole first old new read takes, tt)
@@ -123,7 +123,7 @@ module _ (first : Option (List (List ℕ))) (begun : List ℕ) where
       whole (Some ls) (Some xs) (Some ys) read takes =
           takes ∙ ap (λ (t : List ℕ). map read_as (lines_from begun t)) read ∙ ap (map read_as) (newline begun ys)
 
-  -- the input has ended
+  -- at the end of the input the bytes read are taken as the last line
   pub end_read : (old new : Option (List ℕ)) → Consumes old new [] × IsAtEnd new → Takes first (lines_ahead begun old) [] →
       ReadsLine first new begun end.Input
   end_read old new read takes = (whole first old new read takes, read.1)
@@ -138,9 +138,9 @@ module _ (first : Option (List (List ℕ))) (begun : List ℕ) where
           ∙ sym (append-nil (map read_as (lines_to end.Input begun)))
           ∙ ap (λ (t : List ℕ). map read_as (lines_to end.Input begun) ++ map read_as (lines_of t)) (sym read.1)
 
--- ---- a line that was taken
+-- ---- taking a line
 
--- the line that was read is the next one
+-- if a line was read, the next line ahead was taken
 pub line_taken : (old : Option (List (List ℕ))) (rest : Option (List ℕ)) (line : List ℕ) (e : LineEnd) → ReadsLine old rest line e →
     (e ≡ end.Input → line ≡ [] → ⊥) → Takes old (lines_ahead [] rest) (read_as line ∷ [])
 line_taken old rest line e reads some = taken e line reads.0 some
@@ -151,7 +151,7 @@ line_taken old rest line e reads some = taken e line reads.0 some
     taken end.Input [] takes some = absurd (some refl refl)
     taken end.Input (b ∷ bs) takes some = takes
 
--- how a line is read, by its length
+-- a line of 257 bytes is read as it is
 pub read_whole : (line whole : List ℕ) → 257 ≤ length line → length line ≤ 257 → whole ≡ line → whole ≡ read_as line
 read_whole line whole long short is =
     let tested : nat_lt 256 (length line) ≡ true = lt-ltb 256 (length line) (omega (arith, long)) in
@@ -162,14 +162,14 @@ read_short line words short is =
     let tested : nat_lt 256 (length line) ≡ false = grind (arith, nat_tests) in
     is ∙ sym (rw tested refl)
 
--- the input ended after a line, or there was no line
+-- if the test is false, the input didn't end before a line
 pub not_last : (r : Bool) (A B : Type 0) → IsTrue r ↔ (A × B) → r ≡ false → A → B → ⊥
 not_last r A B is none a b = let holds : IsTrue r = is.1 (a, b) in cc
 
 pub is_read : (r : Bool) (A B : Type 0) → IsTrue r ↔ (A × B) → r ≡ true → A × B
 is_read r A B is holds = is.0 holds
 
--- there was no further line
+-- at the end of the input no line is ahead
 none_ahead : (rest : Option (List ℕ)) → IsAtEnd rest → NoneAhead (lines_ahead [] rest)
 none_ahead None ends = tt
 none_ahead (Some xs) ends = ap (λ (t : List ℕ). map read_as (lines_of t)) ends
@@ -180,7 +180,7 @@ none_taken old rest line e reads ended empty =
     let read = subst (λ (l : List ℕ). ReadsLine old rest l end.Input) empty (subst (ReadsLine old rest line) ended reads) in
     (read.0, none_ahead rest read.1)
 
--- a byte alone
+-- a piece of at least one byte, read into a buffer of one byte, is that byte
 pub one_byte : (old new : Option (List ℕ)) (bytes : List ℕ) (p : Piece) (b d : ℕ) → ReadsPiece old new bytes (Ok p) → p ≡ piece.Bytes 1 →
     length bytes ≡ 1 → slice_index_or bytes 0 d ≡ b → Consumes old new (b ∷ [])
 one_byte old new [] p b d reads is one at = absurd (omega (arith, one))

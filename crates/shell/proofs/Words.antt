@@ -1,4 +1,4 @@
--- The words of a text, byte by byte.
+-- Reading the words of a text, byte by byte.
 use Rattle.std.proofs.Common.{◌≡◌, ◌<◌, ◌≤◌, ◌+◌, ◌&&◌, ◌∷◌, ◌++◌, ◌∙◌, ℕ, Bool, true, false, zero, suc, List, [], cond, length, drop, refl, sym, ap, arith, append_assoc, append-nil}
 use Rattle.std.proofs.lemmas.Bool.{lt-ltb}
 use Rattle.std.proofs.lemmas.List.{drop_all, length-append}
@@ -7,16 +7,16 @@ use Rattle.std.specs.Prelude.{if◌then◌else◌, nat_lt, slice_index_or}
 use Rattle.model.specs.Text.{spaced}
 use Rattle.shell.specs.Lines.{is_blank, words_in}
 
--- the words after one more byte of a word
+-- the words so far with one more byte, after a space if a blank came before it
 abbrev pub added : List ℕ → Bool → ℕ → List ℕ
 added words apart b = (if apart && nat_lt 0 (length words) then words ++ 32 ∷ [] else words) ++ b ∷ []
 
--- the words so far, then those of the rest; a blank may come between
+-- the words so far and those of the remaining bytes; `apart` says whether a blank came last
 abbrev pub going_on : List ℕ → Bool → List ℕ → List ℕ
 going_on words apart [] = words
 going_on words apart (b ∷ bs) = cond (is_blank b) (going_on words true bs) (going_on (added words apart b) false bs)
 
--- parts that have a byte
+-- the parts that aren't empty
 abbrev some_parts : List (List ℕ) → List (List ℕ)
 some_parts parts = filter (λ word. nat_lt 0 (length word)) parts
 
@@ -28,7 +28,7 @@ abbrev other_parts : List (List ℕ) → List (List ℕ)
 other_parts [] = []
 other_parts (p ∷ ps) = ps
 
--- words after others
+-- the text `words` and then these words, with a space between if `words` isn't empty
 abbrev behind : List ℕ → List (List ℕ) → List ℕ
 behind words [] = words
 behind words (p ∷ ps) = cond (nat_lt 0 (length words)) (words ++ 32 ∷ spaced (p ∷ ps)) (spaced (p ∷ ps))
@@ -37,12 +37,12 @@ longer : (words : List ℕ) (b : ℕ) (more : List ℕ) → nat_lt 0 (length ((w
 longer words b more =
     lt-ltb 0 (length ((words ++ b ∷ []) ++ more)) (omega (arith, length-append (words ++ b ∷ []) more, length-append words (b ∷ [])))
 
--- the first part becomes longer by a byte
+-- a byte before the first part comes before the whole line
 spaced_longer : (b : ℕ) (f : List ℕ) (ps : List (List ℕ)) → spaced ((b ∷ f) ∷ ps) ≡ b ∷ spaced (f ∷ ps)
 spaced_longer b f [] = refl
 spaced_longer b f (p ∷ ps) = refl
 
--- the words after a part that continues a word
+-- the words after a part that continues the last word
 spaced_behind : (words : List ℕ) (b : ℕ) (f : List ℕ) (ps : List (List ℕ)) →
     behind ((words ++ b ∷ []) ++ f) ps ≡ words ++ spaced ((b ∷ f) ∷ ps)
 spaced_behind words b f [] = append_assoc words (b ∷ []) f
@@ -65,7 +65,7 @@ some_onto : (b : ℕ) (parts : List (List ℕ)) → some_parts (onto_first b par
 some_onto b [] = refl
 some_onto b (p ∷ ps) = rw (some_byte b p) refl
 
--- a word begins
+-- if a blank came last, the next byte begins a word
 word_begun : (c : ℕ) (xs f words : List ℕ) (ps : List (List ℕ)) →
     ((before : List ℕ) → going_on (before ++ c ∷ []) false xs ≡ behind ((before ++ c ∷ []) ++ f) ps) →
     going_on (added words true c) false xs ≡ behind words ((c ∷ f) ∷ ps)
@@ -108,7 +108,7 @@ behind_none : (ws : List (List ℕ)) → behind [] ws ≡ spaced ws
 behind_none [] = refl
 behind_none (w ∷ ws) = refl
 
--- all bytes, from the first on
+-- reading all bytes gives the words of the text
 pub words_read : (xs : List ℕ) → going_on [] false xs ≡ spaced (words_in xs)
 words_read xs = at_start xs ∙ (both xs).0 [] ∙ behind_none (words_in xs)
 

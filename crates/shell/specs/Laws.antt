@@ -1,4 +1,4 @@
--- What a session is to the machine.
+-- A session is a run of the machine.
 use Rattle.std.specs.Prelude.{ℕ, Bool, List, Option, Result}
 use Rattle.capability.specs.Parts.{Parts}
 use Rattle.checkpoint.specs.Store.{View}

@@ -22,8 +22,8 @@ before_comment line = take (unwrap_or (position (λ b. b == 35) line) (length li
 abbrev pub words_in : List ℕ → List (List ℕ)
 words_in text = filter (λ word. nat_lt 0 (length word)) (slice_split is_blank text)
 
--- A line as a shell reads it: its words before a comment, with one space between each two. A line of more than 256
--- bytes is bad whatever they are, and is read as its first 257 bytes.
+-- A line as a shell reads it: the words before a comment, with one space between. A line of more than 256 bytes is
+-- bad anyway, and is read as its first 257 bytes.
 abbrev pub read_as : List ℕ → List ℕ
 read_as line = if nat_lt 256 (length line) then take 257 line else spaced (words_in (before_comment line))
 
@@ -35,15 +35,15 @@ ends_shell line = bytes_eq line (codes "quit") || bytes_eq line (codes "exit")
 abbrev pub requests_help : List ℕ → Bool
 requests_help line = bytes_eq line (codes "help") || bytes_eq (codes "help ") (take 5 line)
 
--- a byte of a line is kept, unless there are 257 before it
+-- one byte of a line was read: it is kept if fewer than 257 are
 abbrev pub IsKept : List ℕ → ℕ → List ℕ → Type 0
 IsKept old b new = ((length old < 257) × (new ≡ old ++ b ∷ [])) ⊎ ((257 ≤ length old) × (new ≡ old))
 
--- whether a line requests to save all
+-- whether a line asks to save the present state
 abbrev pub requests_save : List ℕ → Bool
 requests_save line = bytes_eq line (codes "save")
 
--- whether a line requests the list of all objects
+-- whether a line asks for the list of all objects
 abbrev pub requests_list : List ℕ → Bool
 requests_list line = bytes_eq line (codes "list")
 
@@ -71,7 +71,7 @@ IsRequest line request.Inspect = is_question line ≡ true
 IsRequest line request.Pass = (ends_shell line ≡ false) × (requests_save line ≡ false) × (requests_list line ≡ false)
     × (requests_help line ≡ false) × (is_question line ≡ false)
 
--- the lines of an input; these bytes of its first line were read before
+-- the lines of an input whose first line began with these bytes
 abbrev pub lines_from : List ℕ → List ℕ → List (List ℕ)
 lines_from [] rest = lines_of rest
 lines_from (b ∷ begun) rest = onto_first b (lines_from begun rest)
@@ -80,17 +80,17 @@ lines_from (b ∷ begun) rest = onto_first b (lines_from begun rest)
 abbrev pub lines_ahead : List ℕ → Option (List ℕ) → Option (List (List ℕ))
 lines_ahead begun rest = option_map (λ text. map read_as (lines_from begun text)) rest
 
--- the known lines began with `taken`, and `new` are the others
+-- if the lines ahead are known: the old ones are `taken`, then the new ones
 abbrev pub Takes : Option (List (List ℕ)) → Option (List (List ℕ)) → List (List ℕ) → Type 0
 Takes None new taken = ⊤
 Takes (Some ls) None taken = ⊥
 Takes (Some ls) (Some others) taken = ls ≡ taken ++ others
 
--- no known line is left
+-- if the lines ahead are known, none is left
 abbrev pub NoneAhead : Option (List (List ℕ)) → Type 0
 NoneAhead None = ⊤
 NoneAhead (Some ls) = ls ≡ []
 
--- the lines that will be read, if the input is known
+-- the lines ahead, if the input is known
 abbrev pub ahead_of : {R : Type 0} → (R → Option (List ℕ)) → TypedLines R → Option (List (List ℕ))
 ahead_of rest typed = lines_ahead typed.line.items (rest (read_from typed.reader))

@@ -1,4 +1,4 @@
--- What a shell does over a kernel, line by line.
+-- Sessions: what a shell does over a kernel, line by line.
 use Rattle.std.specs.Prelude.{◌≡◌, ◌⊎◌, ◌&&◌, ◌||◌, ◌∷◌, ◌++◌, ℕ, Bool, true, false, not, List, [], codes, Option, None, Result, Ok, Err}
 use Rattle.capability.specs.Parts.{Parts}
 use Rattle.checkpoint.specs.Store.{View}
@@ -26,7 +26,8 @@ use Rattle.shell.specs.declared.session.Shell.{Shell}
 use Rattle.shell.specs.declared.watch.Remark.{Remark}
 use Rattle.shell.specs.declared.watch.Watch.{Watch}
 
--- Where a session stands: the kernel, what isn't committed, whether the shell just asked, and what was written.
+-- The state of a session: the kernel, what isn't committed, whether the shell has just asked about unsaved work, and
+-- what was written to the notes and the output.
 pub record Session (D S : Type 0) : Type 0 where
   pub kernel : Power D S
   pub unsaved : Unsaved
@@ -43,28 +44,30 @@ session_at written shell kernel output = record {
   output = output;
 }
 
--- the session with its notes replaced
+-- the session after its notes changed
 abbrev pub noting : {D S : Type 0} → Session D S → Written → Session D S
 noting s notes = record s { notes = notes }
 
+-- an observer that knows what isn't committed, and has made no remark
 abbrev pub watching : Unsaved → Watch
 watching unsaved = record { unsaved = unsaved; remark = None }
 
--- the remark on a line was written to the notes, if the line was answered
+-- if the line was answered, the remark about it was written to the notes
 abbrev pub Remarks : Result Bool RunFault → Option Remark → Written → Written → Type 0
 Remarks (Ok on) remark old new = NotesRemark remark old new
 Remarks (Err e) remark old new = new ≡ old
 
+-- the answer to `save`
 abbrev pub saved_text : Result Answer Refusal → List ℕ
 saved_text (Ok a) = codes "saved"
 saved_text (Err why) = refusal_text why
 
--- what isn't committed after a save: nothing, if it succeeded
+-- what isn't committed after a save: if it succeeded, nothing
 abbrev pub unsaved_if : Result Answer Refusal → Unsaved → Unsaved
 unsaved_if (Ok a) before = nothing_unsaved
 unsaved_if (Err why) before = before
 
--- the shell goes on if the answer was written
+-- if the answer was written, the shell goes on
 abbrev pub goes_on_if : Result (Unit {0}) RunFault → Result Bool RunFault
 goes_on_if (Ok u) = Ok true
 goes_on_if (Err e) = Err e
@@ -83,26 +86,26 @@ IsPassedOn (Err e) between new r = (new ≡ between) × (r ≡ Err e)
 abbrev pub is_to_ask : Bool → Unsaved → Bool → Bool
 is_to_ask prompts unsaved asked = (prompts && not asked) && (unsaved.present || unsaved.frozen)
 
--- the shell asked and goes on; or it ends
+-- `quit` or `exit`: the shell asked and goes on, or it ends
 abbrev pub Quits : Bool → Unsaved → Bool → Bool → Written → Written → Bool → Type 0
 Quits prompts unsaved was_asked is_asked before after on =
     (on ≡ is_to_ask prompts unsaved was_asked) × (is_asked ≡ on) × Notes on question before after
 
--- The parameters are ghost members of a device and of an object store.
+-- The parameters: the ghost members of a device and of an object store.
 module _ {D S : Type 0} (disk : D → Disk) (view : S → View D) (parts : S → Parts) where
-  -- all was saved, by the stages of `eros run --save`; or one was refused, and none was begun after it
+  -- the present state was saved by the stages of `eros run --save`; or a stage was refused, and none came after it
   abbrev pub SavesAll : Power D S → Power D S → Unsaved → Unsaved → Result Answer Refusal → Type 0
   SavesAll old new before after r = (next : Power D S) × (committed : Result Answer Refusal)
       × CarriesOutAll disk view parts old commit_stages next committed × Moves disk view parts committed next new r
       × (after ≡ unsaved_if committed before)
 
-  -- the machine ran the line alone, and the remark on it was written to the notes
+  -- the line was run alone over the kernel, and the remark about it was written
   abbrev pub RunsIn : List ℕ → Session D S → Session D S → Result Bool RunFault → Type 0
   RunsIn line s t r = (seen : Watch)
       × RunsLine disk view parts Watches line s.kernel t.kernel (watching s.unsaved) seen s.output t.output r
       × (t.unsaved ≡ seen.unsaved) × Remarks r seen.remark s.notes t.notes × (t.is_asked ≡ false)
 
-  -- all was saved, or not, and the shell answered which
+  -- the present state was saved or not, and the answer says which
   abbrev pub SavesIn : Session D S → Session D S → Result Bool RunFault → Type 0
   SavesIn s t r = (saved : Result Answer Refusal) × SavesAll s.kernel t.kernel s.unsaved t.unsaved saved
       × (wrote : Result (Unit {0}) RunFault) × Writes s.output t.output wrote (line_of (saved_text saved)) × (r ≡ goes_on_if wrote)

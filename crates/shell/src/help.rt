@@ -5,11 +5,11 @@ ghost use Rattle.shell.specs.Served.{WritesHelp};
 
 use script::Output;
 
-/// A topic of the help: a word, and the text about it.
+/// A topic of the help: a word, and a text about it.
 pub struct Topic {
-    /// The word that follows `help`, or empty for `help` alone.
+    /// The word after `help`; empty for `help` alone.
     pub word: &'static [u8],
-    /// The text, in lines for a person.
+    /// The text: lines for a person.
     pub text: &'static [u8],
 }
 
@@ -192,7 +192,7 @@ Orders of a bank: 1 page, 2 node, 3 process, 4 sub-bank (W1 limit), 5 free (C0),
     },
 ];
 
-// Returns the text of the topic with a word, or `None`.
+// Returns the text of the topic with this word, or `None`.
 fn text_in<'t>(topics: &'t [Topic], word: &[u8]) -> Option<&'t [u8]>
     ensures { MatchOption result (All (λ t. t.word.now ≢ word.now) topics.now)
         (λ text. Any (λ t. (t.word.now ≡ word.now) × (text.now ≡ t.text.now)) topics.now) }
@@ -205,7 +205,7 @@ fn text_in<'t>(topics: &'t [Topic], word: &[u8]) -> Option<&'t [u8]>
     None
 }
 
-/// Writes the text of the topic with a word, or that there is none. A failure to write is ignored.
+/// Writes the text of the topic with this word, or that there is none. Ignores failures to write.
 pub(crate) fn help_on<V: Output>(topics: &[Topic], word: &[u8], notes: &mut V)
     ensures { WritesHelp topics.now word.now (V.written notes.old) (V.written notes.new) }
 {

@@ -1,4 +1,4 @@
-//! The law of sessions: the contract of a function that does nothing.
+//! The law of sessions: the contract of an empty function.
 
 ghost use Rattle.shell.specs.Laws.{SessionsAreRuns};
 

@@ -1,4 +1,4 @@
-//! A shell over a kernel: reading the lines that a person types, and the answers that the shell gives itself.
+//! A shell over a kernel: reading the lines that a person types, and the answers that the shell itself gives.
 #![tactic(auto)]
 
 mod help;

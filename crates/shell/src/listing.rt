@@ -11,7 +11,7 @@ use kernel::Kernel;
 use model::{Answer, Command, Description, Refusal, Role};
 use script::{LineText, Output, RunFault, refusal_line};
 
-// The most objects that an image may have.
+// The greatest number of objects in an image.
 const MOST_OBJECTS: u64 = 8192;
 
 // Returns the word for the kind of object with this role.
@@ -29,7 +29,7 @@ fn role_word(role: Role) -> &'static [u8]
     }
 }
 
-// Writes the line of an object; none for a free number.
+// Writes the line of an object, or nothing for a free number.
 fn print_listed<W: Output>(shown: &Description, writer: &mut W) -> Result<(), RunFault>
     ensures { Writes (W.written writer.old) (W.written writer.new) result (listed_text shown.now) }
 {
@@ -42,7 +42,7 @@ fn print_listed<W: Output>(shown: &Description, writer: &mut W) -> Result<(), Ru
     line.write_to(writer)
 }
 
-// Writes the line of the object that `show` answered.
+// Writes the line of the object in an answer to `show`.
 fn print_shown<W: Output>(answer: &Answer, writer: &mut W) -> Result<(), RunFault>
     ensures { Writes (W.written writer.old) (W.written writer.new) result (shown_text answer.now) }
 {
@@ -52,7 +52,8 @@ fn print_shown<W: Output>(answer: &Answer, writer: &mut W) -> Result<(), RunFaul
     }
 }
 
-// Ends a list because `show` was refused. Beyond the last number it writes nothing; else it writes the refusal.
+// Ends a list whose `show` was refused: writes the refusal, unless it only says that the number is beyond the
+// last.
 fn print_end<W: Output>(refusal: Refusal, writer: &mut W) -> Result<(), RunFault>
     ensures writes { Writes (W.written writer.old) (W.written writer.new) result (end_text refusal) }
     ensures none_waits { OnOk result (W.waiting writer.new ≡ []) }
@@ -63,7 +64,7 @@ fn print_end<W: Output>(refusal: Refusal, writer: &mut W) -> Result<(), RunFault
     }
 }
 
-// Carries out `show`. Returns its answer, or an error if this is a refusal.
+// Carries out `show`. Returns its answer; a refusal is an error.
 fn shown<D: Device, S: ObjectStore<D>>(
     kernel: &mut Kernel<D, S>,
     number: u64,
@@ -77,8 +78,8 @@ fn shown<D: Device, S: ObjectStore<D>>(
     Ok(answer)
 }
 
-/// Shows each number from 0 on, and writes a line for each object: its kind, its number and its owner. Ends when
-/// `show` is refused; if the number isn't beyond the last one, it writes the refusal as the last line.
+/// Writes a line for each object, from number 0 on: its kind, number and owner. Ends when `show` is refused. If
+/// that is before the last number, the last line is the refusal.
 pub(crate) fn list<D: Device, S: ObjectStore<D>, W: Output>(
     kernel: &mut Kernel<D, S>,
     writer: &mut W,

@@ -1,4 +1,4 @@
-// The form in which a shell reads a line.
+// How a shell reads a line.
 ghost use Rattle.std.specs.Prelude.{◌≡◌, ◌&&◌, ◌+◌, ◌≤◌, ◌∷◌, [], ◌++◌, ◌==◌, ◌<◌, IfSome, if◌then◌else◌, length, nat_lt, true};
 ghost use Rattle.std.specs.List.{position};
 ghost use Rattle.shell.specs.Lines.{before_comment, read_as, words_in};
@@ -7,7 +7,7 @@ ghost use Rattle.model.specs.Text.{spaced};
 
 use arrayvec::ArrayVec;
 
-/// How many bytes of a line are kept. A line with more than 256 is bad, so one more is enough.
+/// How many bytes of a line are kept. A line of more than 256 is bad, so 257 are enough.
 pub(crate) const MOST: usize = 257;
 
 fn is_blank(byte: u8) -> bool
@@ -16,7 +16,7 @@ fn is_blank(byte: u8) -> bool
     byte == b' ' || byte == b'\t'
 }
 
-// Where the first `#` is.
+// Returns the index of the first `#`, or `None`.
 fn first_hash(bytes: &[u8]) -> Option<usize>
     ensures found { result ≡ position (λ b. b == 35) bytes.now }
     ensures within { IfSome result (λ place. place < length bytes.now) }
@@ -33,7 +33,7 @@ fn without_comment(line: &[u8]) -> &[u8]
     &line[..end]
 }
 
-// Appends a byte of a word. If `is_apart` and there are bytes before, appends a space first.
+// Appends a byte of a word. If `is_apart` and there are words, appends a space first.
 fn add(words: &mut ArrayVec<u8, MOST>, is_apart: bool, byte: u8)
     requires room { length words.old.items + 1 ≤ 257 }
     requires apart { is_apart ≡ true → length words.old.items + 2 ≤ 257 }
@@ -66,8 +66,8 @@ fn spaced_words(text: &[u8]) -> ArrayVec<u8, MOST>
     words
 }
 
-/// Returns a line of at most 257 bytes without its comment, and with one space between words. A line of 257 bytes
-/// isn't changed: it is too long, so it is a bad line anyway.
+/// Returns a line without its comment, and with one space between words. The line has at most 257 bytes. One of
+/// 257 bytes is returned unchanged: it is too long, so it is bad anyway.
 #[tactic(auto, using(crate::proofs::ShellLines::read_short, crate::proofs::ShellLines::read_whole))]
 pub(crate) fn reading_of(line: &[u8]) -> ArrayVec<u8, MOST>
     requires { length line.now ≤ 257 }

@@ -5,17 +5,17 @@ ghost use Rattle.shell.specs.Lines as lines;
 
 /// What a line asks the shell to do.
 pub(crate) enum Request<'a> {
-    /// To pass the line to the machine.
+    /// Pass the line to the machine.
     Pass,
-    /// To write the help about a word, or about all commands if the word is empty.
+    /// Write the help about a word; if the word is empty, about all commands.
     Help(&'a [u8]),
-    /// To list all objects.
+    /// List all objects.
     List,
     /// A question about what is saved.
     Inspect,
     /// To save the present state.
     Save,
-    /// To end.
+    /// End the shell.
     Quit,
 }
 

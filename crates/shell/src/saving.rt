@@ -11,8 +11,8 @@ use model::{Answer, Refusal};
 use runs::{Unsaved, commit_all, migrate_all};
 use script::{LineText, Output, RunFault, refusal_line};
 
-/// Saves the present state, as `eros run --save` does. Once it is committed, `unsaved` records that nothing is
-/// unsaved.
+/// Saves the present state, as `eros run --save` does. Once the state is committed, `unsaved` records that
+/// nothing is uncommitted.
 pub(crate) fn save_all<D: Device, S: ObjectStore<D>>(
     kernel: &mut Kernel<D, S>,
     unsaved: &mut Unsaved,

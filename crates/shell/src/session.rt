@@ -1,4 +1,4 @@
-// A session: what a shell does with each line.
+// Sessions: what a shell does with each line.
 ghost use Rattle.std.specs.Prelude.{◌≡◌, ◌≢◌, ◌&&◌, ◌||◌, [], IfErr, IsErrOf, OnOk, codes, false, not};
 ghost use Rattle.script.specs.Writing.{Writes};
 ghost use Rattle.runs.specs.KernelRuns.{IsCounted};
@@ -30,11 +30,11 @@ pub struct Shell<V> {
     is_prompting: bool,
     // Records whether the lines so far did something that isn't committed.
     unsaved: Unsaved,
-    // Whether the last line was to end the shell, and the shell asked about unsaved work.
+    // Whether the last line was `quit` or `exit`, and the shell asked about unsaved work.
     is_asked: bool,
 }
 
-// Writes a text for a person if `is_there`. A failure to write is ignored.
+// Writes a text to the notes if `is_there`. Ignores failures to write.
 fn note<V: Output>(is_there: bool, text: &[u8], notes: &mut V)
     ensures { Notes is_there text.now (V.written notes.old) (V.written notes.new) }
 {
@@ -44,7 +44,7 @@ fn note<V: Output>(is_there: bool, text: &[u8], notes: &mut V)
 }
 
 impl<V: Output> Shell<V> {
-    /// Returns a shell that carried out no line, with these help topics. If `is_prompting`, it greets, prompts, and
+    /// Returns a shell that has served no line, with these help topics. If `is_prompting`, it greets, prompts, and
     /// asks about unsaved work.
     pub fn new(mut notes: V, topics: &'static [Topic], is_prompting: bool) -> Shell<V>
         ensures topics { result.topics.now ≡ topics.now }
@@ -67,7 +67,7 @@ impl<V: Output> Shell<V> {
         }
     }
 
-    /// Returns the record of whether the lines so far did something that isn't committed.
+    /// Returns what the lines so far did that isn't committed.
     pub fn unsaved(&self) -> Unsaved
         ensures { result ≡ self.now.unsaved }
     {
@@ -244,9 +244,9 @@ impl<V: Output> Shell<V> {
         }
     }
 
-    /// Carries out lines over a kernel, each before it reads the next, up to `quit`, `exit` or the end of the input.
-    /// The answers go to `writer`. Each is passed on before the next line is read, and before the remark about its
-    /// line is written.
+    /// Serves lines over a kernel, each before it reads the next, up to `quit`, `exit` or the end of the input.
+    /// Answers go to `writer`. Each is passed on before the next line is read, and before the remark about its line
+    /// is written.
     ///
     /// If the shell prompts and there is unsaved work, `quit` asks once about it.
     ///

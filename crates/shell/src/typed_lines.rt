@@ -11,12 +11,12 @@ use arrayvec::ArrayVec;
 use runs::{Piece, RawReader, Script, ScriptReader};
 use script::{Output, RunFault};
 
-// Where the reading of a line ended.
+// What ended a line.
 #[derive(Clone, Copy)]
 enum LineEnd {
-    /// At its newline.
+    /// Its newline.
     Newline,
-    /// At the end of the input.
+    /// The end of the input.
     Input,
 }
 
@@ -24,7 +24,7 @@ enum LineEnd {
 #[derive(Drop)]
 pub struct TypedLines<R> {
     reader: ScriptReader<R>,
-    // The part of a line that was read before its end.
+    // The part of the next line that was read already.
     line: ArrayVec<u8, MOST>,
 }
 
@@ -38,7 +38,7 @@ fn is_last(end: LineEnd, line: &[u8]) -> bool
     }
 }
 
-// Keeps a byte of a line if it is one of the first 257, and drops it otherwise.
+// Keeps a byte of a line if it is one of the first 257, else drops it.
 fn keep(line: &mut ArrayVec<u8, MOST>, byte: u8)
     ensures { IsKept line.old.items byte line.new.items }
 {
@@ -47,8 +47,8 @@ fn keep(line: &mut ArrayVec<u8, MOST>, byte: u8)
     }
 }
 
-// Reads the rest of a line; `line` has the part that was read before. Returns `RunFault::Read` if a read fails: then
-// no line is returned.
+// Reads the rest of a line; `line` has the part that was read already. Returns `RunFault::Read` if a read fails:
+// then the line isn't finished.
 #[tactic(auto, using(crate::proofs::ShellLines::none_read))]
 fn read_line<R: RawReader, W: Output>(
     reader: &mut ScriptReader<R>,
@@ -93,8 +93,8 @@ impl<R: RawReader> TypedLines<R> {
         }
     }
 
-    /// Returns the next line, in the form in which a shell reads it, or `None` at the end of the input. Returns
-    /// `RunFault::Read` if a read fails: then no line is returned.
+    /// Returns the next line, as a shell reads it, or `None` at the end of the input. Returns `RunFault::Read`
+    /// if a read fails: then no line is taken.
     pub(crate) fn next<W: Output>(
         &mut self,
         output: &W,

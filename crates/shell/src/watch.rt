@@ -1,4 +1,4 @@
-// An observer of each line of a shell.
+// The observer of a shell's lines.
 ghost use Rattle.std.specs.Prelude.{◌≡◌, ◌≤◌, None, false, length};
 ghost use Rattle.shell.specs.Watching.{NotesRemark, Watches, remark_text};
 
@@ -6,19 +6,19 @@ use model::{Answer, Command, ResultCode};
 use runs::{Observer, Unsaved, add_code, fault_of};
 use script::{LineFault, LineText, Output};
 
-/// What a shell writes about a line besides its answer.
+/// A shell's remark about a line, besides the answer.
 #[derive(Clone, Copy)]
 pub(crate) enum Remark {
-    /// Why the line is bad.
+    /// The line is bad, for this reason.
     Fault(LineFault),
-    /// The result code of the line's order.
+    /// The order had this result code.
     Code(ResultCode),
 }
 
 /// Observes the lines of a shell. It never ends a run.
 #[derive(Clone, Copy)]
 pub(crate) struct Watch {
-    /// Records whether something isn't committed.
+    /// What isn't committed.
     pub(crate) unsaved: Unsaved,
     /// The remark about the last line, if there is one.
     pub(crate) remark: Option<Remark>,
@@ -44,7 +44,7 @@ impl Remark {
     }
 }
 
-/// Writes the remark about a line, if there is one. A failure to write is ignored.
+/// Writes the remark about a line, if there is one. Ignores failures to write.
 pub(crate) fn note_remark<V: Output>(remark: Option<Remark>, notes: &mut V)
     ensures { NotesRemark remark (V.written notes.old) (V.written notes.new) }
 {
@@ -54,7 +54,8 @@ pub(crate) fn note_remark<V: Output>(remark: Option<Remark>, notes: &mut V)
 }
 
 impl Watch {
-    /// Returns an observer for the next line. `unsaved` is the record of the lines before it.
+    /// Returns an observer for the next line. `unsaved` is what the lines before it did that isn't
+    /// committed.
     pub(crate) fn new(unsaved: Unsaved) -> Watch
         ensures unsaved { result.unsaved ≡ unsaved }
         ensures remark { result.remark ≡ None }

@@ -1,4 +1,4 @@
-// Repeating a deed over devices that stop after more and more calls.
+// Doing a deed again and again, with a device that stops one call later each time.
 use crate::task::{Deed, Task, outcome_of};
 use device::Device;
 use devices::Outcome;
@@ -28,8 +28,8 @@ impl Task<'_> {
         )?)
     }
 
-    // Does a deed once, over a device with the image, and returns whether a device stopped. If the deed is about a
-    // new device that stops, that one stops after `calls` calls.
+    // Does a deed once, over a device with the image, and returns whether a device stopped. If the deed stops its
+    // new device, that one stops after `calls` calls.
     fn do_over<D: Device>(
         &self,
         deed: &Deed,
@@ -91,7 +91,8 @@ impl Task<'_> {
         Ok(is_stopped)
     }
 
-    /// Does a deed with a stop at each call of a device in turn, until it ends without a stop.
+    /// Does a deed again and again, with a stop at each call of a device in turn, until it ends
+    /// without a stop.
     pub(crate) fn stop_at_each<W: Write>(
         &self,
         deed: &Deed,
@@ -106,7 +107,7 @@ impl Task<'_> {
         Ok(())
     }
 
-    /// Does a deed with a stop at each call, for each of these outcomes of a power cut.
+    /// Does a deed again and again in this way, for each of these outcomes of a power cut.
     pub(crate) fn try_outcomes<W: Write>(
         &self,
         deed: &Deed,

@@ -6,8 +6,8 @@ use devices::{Fuse, Memory, Outcome};
 // How many sector writes and syncs a device in memory can record, including those of the image.
 const ROOM: usize = 10_000;
 
-// Writes these sectors to a device, durably. Returns whether that succeeded; the device must have exactly as many
-// sectors.
+// Writes these sectors to a device, and syncs. Returns whether that succeeded. The device must have exactly as
+// many sectors.
 fn is_filled<D: Device>(device: &mut D, image: &[u8]) -> bool {
     if image.len() % SECTOR_SIZE != 0 || (image.len() / SECTOR_SIZE) as u64 != device.sectors() {
         return false;
@@ -25,7 +25,7 @@ fn fused<D: Device>(device: D, image: &[u8], calls: u64) -> anyhow::Result<Fuse<
 }
 
 impl Task<'_> {
-    /// Returns a device in memory with these sectors that stops after `calls` calls.
+    /// Returns a device in memory that holds these sectors, and stops after `calls` calls.
     pub(crate) fn device_with(
         &self,
         image: &[u8],

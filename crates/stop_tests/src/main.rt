@@ -1,6 +1,6 @@
 //! Runs a script over an image in memory: once, or again and again with a device that stops at each of its calls in
-//! turn. Prints the answers, and what a power cut then leaves. Upgrades or copies an image in the same way. It checks
-//! nothing itself: `checks/stops` and `checks/upgrades` do.
+//! turn. Prints the answers, and what the device holds after a power cut. Upgrades or copies an image in the same
+//! way. It checks nothing itself: `checks/stops` and `checks/upgrades` do.
 #![tactic(auto)]
 
 mod deeds;
@@ -93,7 +93,7 @@ fn run_upgrades<W: Write>(
     task.try_outcomes(&Deed::StopNew(layout), outcomes, writer)
 }
 
-// Does what the words ask for. `files` are the first four words.
+// Does what the words ask for. `files` are the first four words after the program's name.
 fn work(rt: &HostRuntime, files: &[String], settings: &[String]) -> anyhow::Result<()> {
     let mut writer = rt.stdout();
     let Some((first, others)) = files.split_first() else {

@@ -9,7 +9,7 @@ use std::io::Write;
 
 const FAULT: &[u8] = b"fault\n";
 
-// Writes the saved state at which a kernel stands, or that it is down.
+// Writes the generation, age and entries of a kernel's saved state, or that the kernel is down.
 fn tell_saved(saved: Option<Checkpoint>, reported: &mut Vec<u8>) -> Result<(), RunFault> {
     let Some(saved) = saved else {
         return writeln!(reported, "= down").or(Err(RunFault::Write));
@@ -18,7 +18,7 @@ fn tell_saved(saved: Option<Checkpoint>, reported: &mut Vec<u8>) -> Result<(), R
     writeln!(reported, "= left {generation} {age} {entries}").or(Err(RunFault::Write))
 }
 
-// Writes at which line of a script a fault was answered, if at any.
+// Writes the line of a script that was answered `fault`, or that none was.
 fn tell_stop(stop: Option<usize>, reported: &mut Vec<u8>) -> Result<(), RunFault> {
     let Some(line) = stop else {
         return writeln!(reported, "= whole").or(Err(RunFault::Write));
@@ -26,7 +26,7 @@ fn tell_stop(stop: Option<usize>, reported: &mut Vec<u8>) -> Result<(), RunFault
     writeln!(reported, "= stopped {line}").or(Err(RunFault::Write))
 }
 
-// Writes the answers to some lines, and returns whether they are a single `fault`.
+// Runs some lines and writes the answers. Returns whether these are a single `fault`.
 fn tell_run<D: Device, S: ObjectStore<D>>(
     kernel: &mut Kernel<D, S>,
     lines: &[u8],
@@ -39,7 +39,7 @@ fn tell_run<D: Device, S: ObjectStore<D>>(
     Ok(reported.get(before..) == Some(FAULT))
 }
 
-// Writes the saved state at which a kernel stands, and its answers to some lines.
+// Writes a kernel's saved state, and its answers to some lines.
 fn tell_standing<D: Device, S: ObjectStore<D>>(
     kernel: &mut Kernel<D, S>,
     lines: &[u8],
@@ -51,7 +51,8 @@ fn tell_standing<D: Device, S: ObjectStore<D>>(
 }
 
 impl Task<'_> {
-    // Writes the answers to the script up to the first fault, and returns the number of the faulty line.
+    // Runs the script up to the first line that is answered `fault`, and writes the answers. Returns the
+    // number of that line, or `None`.
     fn tell_to_fault<D: Device, S: ObjectStore<D>>(
         &self,
         kernel: &mut Kernel<D, S>,
@@ -69,8 +70,8 @@ impl Task<'_> {
         Ok(None)
     }
 
-    // Writes whether a kernel opens a device, the saved state at which it then stands, and its answers to the last
-    // lines.
+    // Opens a device with a kernel. Writes whether that succeeded, the saved state, and the kernel's answers to
+    // the last lines.
     fn tell_opened<D: Device, S: ObjectStore<D>>(
         &self,
         device: D,
@@ -89,7 +90,7 @@ impl Task<'_> {
         }
     }
 
-    /// Writes what a power cut leaves of a device: what a kernel that opens it answers.
+    /// Cuts the power of a device, opens it with a kernel, and writes what that answers.
     pub(crate) fn tell_left<D: Device, P: ObjectStore<D>>(
         &self,
         device: D,
@@ -101,8 +102,8 @@ impl Task<'_> {
         self.tell_opened::<D, P>(device, setting, reported)
     }
 
-    // Runs the script over a kernel; writes the answers, and what its device then holds. Returns whether the device
-    // stopped.
+    // Runs the script over a kernel. Writes the answers, and what its device holds after a power cut. Returns
+    // whether the device stopped.
     fn tell_all<D: Device, S: ObjectStore<D>, P: ObjectStore<D>>(
         &self,
         kernel: Kernel<D, S>,
@@ -117,8 +118,8 @@ impl Task<'_> {
         Ok(stop.is_some())
     }
 
-    /// Runs the script over a device that stops after `calls` calls, and returns whether it stopped. If it stopped
-    /// while it was being opened, nothing is written. The last kernel has a store of type `P`.
+    /// Runs the script over a device that stops after some calls, and returns whether it stopped. If it stopped
+    /// while it was being opened, writes nothing. The last kernel has a store of type `P`.
     pub(crate) fn run_script<D: Device, S: ObjectStore<D>, P: ObjectStore<D>>(
         &self,
         device: D,

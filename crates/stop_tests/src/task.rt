@@ -7,11 +7,11 @@ use std::alloc::Global;
 /// What is done over a device that stops after some calls.
 #[derive(Clone, Copy)]
 pub(crate) enum Deed {
-    /// The script is run, with all objects in memory or with a cache.
+    /// Run the script, with all objects in memory or with a cache of this capacity.
     Run(Option<Capacity>),
-    /// The image is written to a new device, and the old one stops.
+    /// Write the image to a new device; the old one stops.
     StopOld(NewLayout),
-    /// The image is written to a new device, and this new device stops.
+    /// Write the image to a new device, which stops.
     StopNew(NewLayout),
 }
 
@@ -19,13 +19,13 @@ pub(crate) enum Deed {
 #[derive(Clone, Copy)]
 pub(crate) struct Task<'a> {
     pub(crate) alloc: Global,
-    /// The sectors of the device at first.
+    /// The device's sectors at the start.
     pub(crate) image: &'a [u8],
     /// The script during which the device stops; for an upgrade or a copy, the first sectors of the new device.
     pub(crate) script: &'a [u8],
     /// The lines for the same kernel after the stop.
     pub(crate) tail: &'a [u8],
-    /// The lines for a last kernel, which opens the device as the others left it, with all objects in memory.
+    /// The lines for a last kernel. It opens the device as the others left it, with all objects in memory.
     pub(crate) last: &'a [u8],
 }
 

@@ -16,8 +16,8 @@ fn tell_outcome(outcome: Result<(), UpgradeFault>, reported: &mut Vec<u8>) -> Re
 }
 
 impl Task<'_> {
-    /// Upgrades or copies the image of one device to another one. Writes how that ended and what a power cut leaves
-    /// of the new device, and returns whether a device stopped.
+    /// Upgrades or copies the image of one device to another. Writes how that ended, and what the new device holds
+    /// after a power cut. Returns whether a device stopped.
     pub(crate) fn run_upgrade<D: Device, E: Device, S: WholeStore<D>, P: ObjectStore<E>>(
         &self,
         old: D,

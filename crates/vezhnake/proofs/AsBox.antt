@@ -1,4 +1,4 @@
--- The pointer and its parts own what a box of the same types owns.
+-- The parts of a session's pointer own what a box of the same types owns.
 use mir.Syntax.{impl, tnil, dnil}
 use mathlib.Core.List.{[]}
 use denote.Signature.{Slot, plain}

@@ -1,4 +1,4 @@
--- The names that the proofs here cite: of other crates, and of the definitions of this one.
+-- The names that the proofs here import: from other crates, and from the definitions of this one.
 pub use Rattle.capability.specs.Parts.{Parts}
 pub use Rattle.checkpoint.specs.Store.{View}
 pub use Rattle.core.proofs.alloc.Calls.{Goes-blank, handle_tells, token, α}

@@ -8,7 +8,7 @@ use Rattle.model.specs.declared.answer.MemoryFault.TheVariants as fault
 use Rattle.model.specs.declared.answer.Refusal.TheVariants as refusal
 use Rattle.model.specs.declared.order.ResultCode.TheVariants as code
 
--- the answer that these numbers encode
+-- the memory fault with this number
 fault_in : ℕ → MemoryFault
 fault_in n = if n == 1 then fault.NoSpace else if n == 2 then fault.Beyond else if n == 3 then fault.Hole else if n ==
     4 then fault.Malformed else fault.ReadOnly

@@ -1,4 +1,4 @@
--- What a call does to a session, by what its kernel did, and by what was collected of its device's calls.
+-- What a call does to a session, from what its kernel did and which device calls were collected.
 use Rattle.vezhnake.proofs.Names.{ℕ, List, Option, Ok, Err, Result, Vec, Global, arith, drop, false, inl, inr, length, map, subst, sym, take, true, ⊎_elim}
 use Rattle.vezhnake.proofs.Names.{nat_tests, length-map, nat_lt, Served, Command, RunFault, CallsFault, HostKernel, RawCommand, RawObject, RawReply, Session}
 use Rattle.vezhnake.proofs.Names.{Status, command_of, save_stages, shown_object, shown_words, EndsAt, numbers_of, kept_status, status_for, [], RunsKernel}
@@ -10,9 +10,9 @@ use Rattle.script.specs.declared.fault.RunFault.TheVariants as run
 use Rattle.vezhnake.specs.declared.session.CallsFault.TheVariants as lost
 use Rattle.vezhnake.specs.declared.status.Status.TheVariants as status
 
--- The kernel and the answers are as they were before the device's calls were collected.
+-- The parameters: a session before and after a call, and its kernel after the call.
 module _ (old new : Session) (kernel : HostKernel) (same : new.kernel ≡ kernel) where
-  -- ---- a text
+  -- ---- running a text
 
   module _ (answer : Vec ℕ Global) (answers : new.answer ≡ answer) (text : List ℕ) where
     ran_over : (ran : Result (Unit {0}) RunFault) → RunsKernel old.kernel kernel text [] answer.items ran →
@@ -44,7 +44,7 @@ module _ (old new : Session) (kernel : HostKernel) (same : new.kernel ≡ kernel
       step_kept ran runs lost.CallsLost collects as_before result is = subst (StepsSession old new text buffer copied size) (sym is)
           ((ran, ran_over ran runs (Err lost.CallsLost) collects), as_before)
 
-  -- ---- commands
+  -- ---- serving commands
 
   module _ (before after : List RawReply) (n : ℕ) (rest : drop n after ≡ drop n before) (answers : new.answer ≡ old.answer) where
     front : (commands : List (Option Command)) → ServesEachOver old.kernel kernel (take n commands) (take n after) →
@@ -93,7 +93,7 @@ module _ (old new : Session) (kernel : HostKernel) (same : new.kernel ≡ kernel
       batch_kept lost.CallsLost collects result is =
           subst (ServesBatch old new raws before after n) (sym is) (front (map command_of raws) serves (Err lost.CallsLost) collects, ends)
 
-  -- ---- shows
+  -- ---- showing an object
 
   module _ (number : ℕ) (reply : RawReply) (served : Served) (serves : ServesLineOver old.kernel kernel (command.Show number) served)
       (numbers : reply ≡ numbers_of served) (answers : new.answer ≡ old.answer) (kept : Result (Unit {0}) CallsFault)

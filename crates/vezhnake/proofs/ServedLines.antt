@@ -1,4 +1,4 @@
--- Commands that are served one after another.
+-- Serving commands, one after another.
 use Rattle.vezhnake.proofs.Names.{ℕ, List, [], Some, None, Option, take, drop, length, refl, sym, ap, subst, inl, inr, ⊎_elim, arith, nat_tests, Bool, true}
 use Rattle.vezhnake.proofs.Names.{false, zero, suc, below_more, drop-drop, drop-set-lt, get_or-set_other, get_or-set_same, take_more, take_more_set, slice_set}
 use Rattle.vezhnake.proofs.Names.{Contains, leaves_weaker, Disk, Image, Parts, View, Power, HasCode, IsCaused, Serves, disk_of, Served, Machine, Saved}
@@ -12,7 +12,7 @@ use Rattle.model.specs.declared.answer.Refusal.TheVariants as refusal
 use Rattle.model.specs.declared.line.Line.TheVariants as line
 use Rattle.vezhnake.proofs.Surviving.{runs_survive}
 
--- ---- what a crash leaves in the turn of a command
+-- ---- what a crash leaves during one command
 
 split_one : (g : Geometry) (size : ℕ) (c : Image) (ss ts : List Saved) → DenotesOne g size (ss ++ ts) c →
     DenotesOne g size ss c ⊎ DenotesOne g size ts c
@@ -60,13 +60,13 @@ numbered_on g [] us (c ∷ cs) ds rs qs first next = absurd first
 numbered_on g (t ∷ ts) us [] ds rs qs first next = absurd first
 numbered_on g (t ∷ ts) us (c ∷ cs) ds [] qs first next = absurd first
 
--- the rows after the replies that were written
+-- writing reply i leaves the replies after it unchanged
 pub behind_next : (rs before : List RawReply) (i : ℕ) (r : RawReply) → drop i rs ≡ drop i before →
     drop (i + 1) (slice_set rs i r) ≡ drop (i + 1) before
 behind_next rs before i r same =
     drop-set-lt (i + 1) rs i r (omega arith) ∙ sym (drop-drop 1 i rs) ∙ ap (λ (xs : List RawReply). drop 1 xs) same ∙ drop-drop 1 i before
 
--- if refusals end a batch, a reply that doesn't end it is no refusal
+-- if refusals end the batch and this reply doesn't end it, no reply so far is a refusal
 pub still_accepted : (stops ends : Bool) (rs : List RawReply) (i : ℕ) (r : RawReply) → i < length rs → ends ≡ (stops && is_refused r) →
     ends ≡ false → (stops ≡ true → (k : ℕ) → k < i → refuses_at rs k ≡ false) → stops ≡ true → (k : ℕ) → k < i + 1 →
     refuses_at (slice_set rs i r) k ≡ false
@@ -110,7 +110,7 @@ module _ {S : Type 0} (view : S → View HostDevice) (parts : S → Parts) where
     survives = runs_survive view parts all p q;
   }
 
-  -- the numbers of a line that was served
+  -- a command that was served, with its numbers, is a batch of one
   pub numbered : (p q : Power HostDevice S) (c : Command) (s : Served) (r : RawReply) → ServesLine view parts p q c s → r ≡ numbers_of s
       → ServesEach view parts p q (Some c ∷ []) (r ∷ [])
   numbered p q c s r serves is = record {
@@ -118,14 +118,14 @@ module _ {S : Type 0} (view : S → View HostDevice) (parts : S → Parts) where
     survives = serves.survives;
   }
 
-  -- before the first command
+  -- doing nothing serves an empty list of commands
   pub none_served : CrashesInRunsAreSurvived host_disk view parts → (p : Power HostDevice S) → ServesEach view parts p p [] []
   none_served all p = record {
     turns = λ g m stands. ([], record { after = m; run = refl; stands = stands; each = refl }, tt);
     survives = runs_survive view parts all p p;
   }
 
-  -- carrying out more commands
+  -- serving some commands and then others serves all
   pub more_served : CrashesInRunsAreSurvived host_disk view parts → (a b c : Power HostDevice S) (cs ds : List (Option Command))
       (rs qs : List RawReply) → ServesEach view parts a b cs rs → ServesEach view parts b c ds qs →
       ServesEach view parts a c (cs ++ ds) (rs ++ qs)
@@ -143,7 +143,7 @@ module _ {S : Type 0} (view : S → View HostDevice) (parts : S → Parts) where
     survives = runs_survive view parts all a c;
   }
 
-  -- carrying out one more command of a list, whose reply is written after the others
+  -- serving the next command of a list, and writing its reply, extends the batch by one
   pub served_next : CrashesInRunsAreSurvived host_disk view parts → (start now next : Power HostDevice S) (cs : List (Option Command))
       (rs : List RawReply) (i : ℕ) (c : Command) (r : RawReply) → i < length cs → i < length rs → slice_index_or cs i None ≡ Some c →
       ServesEach view parts start now (take i cs) (take i rs) → ServesEach view parts now next (Some c ∷ []) (r ∷ [])

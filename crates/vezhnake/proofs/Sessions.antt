@@ -1,8 +1,8 @@
--- The device calls that wait for the host.
+-- The device calls that the host hasn't taken yet.
 use Rattle.vezhnake.proofs.Names.{ℕ, List, Ok, ap, append-nil, arith, drop_all, length, sym, HostCall, Session, encoded, CollectsCalls, calls_in}
 use Rattle.std.proofs.Common.{◌≡◌, ◌++◌, ◌∙◌}
 
--- if all of the device's calls were collected, none is added to those that wait
+-- if all device calls are collected already, collecting adds none
 pub none_new : (s : Session) (count : ℕ) → count ≡ length (calls_in s.kernel) → count ≡ s.collected → CollectsCalls s s (Ok tt)
 none_new s count counted all =
     let none = drop_all s.collected (calls_in s.kernel) (omega (arith, counted, all)) in

@@ -1,4 +1,4 @@
--- What a crash leaves of storage that carried out some of the calls of a run.
+-- What a crash leaves of the host's storage after it carried out some calls of a run.
 use Rattle.vezhnake.proofs.Names.{ℕ, List, length, take, drop, sym, ap, subst, append_assoc, arith, length-append, take-append_seam, take-append-drop}
 use Rattle.vezhnake.proofs.Names.{flat_map-append, Image, image_of, Event, MayLeave, at_first, replay, Parts, View, Power, IsDeviceOf, Stands, disk_of}
 use Rattle.vezhnake.proofs.Names.{Geometry, Machine, Turn, IsConfined, IsRunOf, RunsOver, CrashesInRunsAreSurvived, RunFault, HostCall, StorageLeaves}
@@ -9,7 +9,7 @@ use Rattle.std.proofs.Common.{◌≡◌, ◌≤◌, ◌++◌, ◌∙◌}
 use Rattle.script.specs.declared.fault.RunFault.TheVariants as fault
 use Rattle.kernel.specs.Power as power
 
--- the events of the first k calls are the first events
+-- the events of the first k calls come first
 front_of : (k : ℕ) (calls : List HostCall) (lost : List Event) → events_of calls ++ lost
     ≡ events_of (take k calls) ++ (events_of (drop k calls) ++ lost)
 front_of k calls lost =
@@ -23,7 +23,7 @@ first_events k calls lost =
     ap (take (length (events_of (take k calls)))) (front_of k calls lost) ∙ take-append_seam (events_of (take k calls))
     (events_of (drop k calls) ++ lost)
 
--- what the storage may leave after the first k calls, a crash of the device since an earlier moment could have left
+-- if storage may hold an image after the first k calls and a crash, a crash of the device at event t or later may leave it
 at_calls : (d : HostDevice) (t k : ℕ) (c : Image) → t ≤ length (events_of (take k d.file.history.calls))
     → StorageLeaves d.sectors d.file.history.first (take k d.file.history.calls) c → (host_disk d).left_since t c
 at_calls d t k c later leaves =
@@ -83,7 +83,7 @@ start_is view parts (power.Up l) d is = ap (λ (e : HostDevice). e.file.pending.
 start_is view parts (power.Down e) d is = ap (λ (f : HostDevice). f.file.pending.start) is
 start_is view parts power.Between d is = absurd is
 
--- a run in which no read fails, and which its observer doesn't end, can only fail to write
+-- if no read fails and the observer doesn't end the run, only a write can fail
 pub only_to_write : (r : Result (Unit {0}) RunFault) (n : ℕ) → IfErr r (λ e. e ≢ fault.Stopped) → IsCounted (IsErrOf r fault.Read) n n
     → IfErr r (λ e. e ≡ fault.Write)
 only_to_write (Ok a) n goes_on counted = tt

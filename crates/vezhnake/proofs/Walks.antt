@@ -1,4 +1,4 @@
--- A step that the walks of `src/made.rt` share: a struct without fields is made.
+-- A step that the proofs of `src/made.rt` share: making a struct without fields.
 use Rattle.std.proofs.Common.{List, [], ◌∷◌, refl}
 use seplogic.Ra.Ura.{Ura}
 use mir.Val.{Val, vstruct, vnil}

@@ -1,9 +1,9 @@
--- How the logic stores a call of the host.
+-- How the logic stores a call of the host as data.
 use Rattle.std.specs.Prelude.{◌≡◌, ℕ, zero, suc, List, [], refl}
 use Rattle.std.specs.Coded.{Coded, code_by, coded×, coded_ℕ, coded_list}
 use Rattle.vezhnake.specs.HostCalls.{HostCall, write, sync, power_cut}
 
--- a call as plain data: its kind, its number and its bytes
+-- a call as data: its kind, its number and its bytes
 abbrev Parts : Type 0
 Parts = ℕ × (ℕ × List ℕ)
 

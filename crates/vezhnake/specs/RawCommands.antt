@@ -1,27 +1,27 @@
--- The command that numbers stand for.
+-- The command that these numbers encode.
 use Rattle.vezhnake.specs.Names.{ℕ, Bool, true, Option, None, Some, List, [], nat_lt, slice_index, replicate, Command}
 use Rattle.vezhnake.specs.Names.{Operation, Call, Return, Send}
 use Rattle.std.specs.Prelude.{◌∷◌, ◌-◌, ◌^◌, ◌==◌, ◌&&◌, if◌then◌else◌}
 use Rattle.model.specs.declared.command.Command.TheVariants as command
 use Rattle.vezhnake.specs.declared.raw_command.RawCommand.{RawCommand}
 
--- whether each is the number of a register
+-- whether each number is a register's
 abbrev pub are_registers : List ℕ → Bool
 are_registers [] = true
 are_registers (r ∷ rs) = nat_lt r 32 && are_registers rs
 
--- the registers with these numbers
+-- the registers with these numbers, if each is one
 abbrev pub registers_of : List ℕ → Option (List ℕ)
 registers_of rs = if are_registers rs then Some rs else None
 
--- an invocation, if all its registers exist
+-- the invocation in these numbers, if its registers exist
 abbrev pub invocation_of : Operation → RawCommand → Option Command
 invocation_of op r = if are_registers (r.register ∷ r.sent) then
     Some (command.Invoke (record
     { operation = op; process = r.number; register = r.register; words = r.words; sent = r.sent }))
     else None
 
--- the command of these numbers, by its kind
+-- the command in these numbers, by its kind
 abbrev pub command_of : RawCommand → Option Command
 command_of r =
     if r.kind == 0 then invocation_of Call r else
@@ -38,12 +38,12 @@ command_of r =
     if r.kind == 11 then Some command.Restart else
     if r.kind == 12 then Some command.Cut else None
 
--- the numbers of a command of this kind, without registers, for all objects
+-- a command of this kind in numbers, without registers and for all objects
 abbrev pub stage_of : ℕ → RawCommand
 stage_of kind =
     record { kind = kind; register = 0; sent = replicate 4 0; number = 2 ^ 64 - 1; words = replicate 4 0 }
 
--- the stages of a save: what an earlier save left goes home first
+-- the stages of a save; the first one brings home what an earlier save left in the log
 abbrev pub save_stages : List (Option Command)
 save_stages = Some (command.Migrate (2 ^ 64 - 1)) ∷ Some command.Checkpoint ∷ Some (command.Stabilize (2 ^ 64 - 1))
     ∷ Some command.Commit ∷ Some (command.Migrate (2 ^ 64 - 1)) ∷ []

@@ -1,4 +1,4 @@
--- The numbers of an object.
+-- An object as numbers.
 use Rattle.vezhnake.specs.Names.{ℕ, List, [], map, replicate, Option, None, Some, access_bits, tag_of, height_of}
 use Rattle.vezhnake.specs.Names.{key_of, number_of, state_number, Answer, Description, Capability, Void}
 use Rattle.std.specs.Prelude.{◌∷◌}
@@ -7,7 +7,7 @@ use Rattle.model.specs.declared.object.Content.TheVariants as content
 use Rattle.vezhnake.specs.declared.raw_object.RawCapability.{RawCapability}
 use Rattle.vezhnake.specs.declared.raw_object.RawObject.{RawObject}
 
--- the numbers of a capability
+-- a capability as numbers
 abbrev pub raw_capability : Capability → RawCapability
 raw_capability c = record { kind = tag_of c; access = access_bits c; height = height_of c; key = key_of c; object = number_of c }
 
@@ -15,12 +15,12 @@ raw_capability c = record { kind = tag_of c; access = access_bits c; height = he
 abbrev pub void_slots : List RawCapability
 void_slots = replicate 32 (raw_capability Void)
 
--- the registers of a process, if they are known
+-- the registers of a process as numbers; void if they are unknown
 abbrev pub raw_registers : Option (List Capability) → List RawCapability
 raw_registers None = void_slots
 raw_registers (Some registers) = map raw_capability registers
 
--- the numbers of an object of this kind with an owner and nothing else
+-- an object as numbers, if it has only a kind and an owner
 abbrev pub plain_object : ℕ → ℕ → RawObject
 plain_object kind owner = record {
   kind = kind;
@@ -35,7 +35,7 @@ plain_object kind owner = record {
   slots = void_slots;
 }
 
--- the numbers of an object
+-- an object as numbers
 abbrev pub object_of : Description → RawObject
 object_of d = elim d.object.content [
   | content.Free ↦ plain_object 0 d.object.owner
@@ -53,12 +53,12 @@ object_of d = elim d.object.content [
   | content.Bank limit ↦ record (plain_object 5 d.object.owner) { limit = limit; used = d.used }
 ]
 
--- the words of the page that is shown, if one is; else the words `before`
+-- if the answer shows a page, its words; else the old words
 abbrev pub shown_words : Answer → List ℕ → List ℕ
 shown_words (answer.Shown d) before = elim d.object.content [ content.Page words ↦ words | _ ↦ before ]
 shown_words _ before = before
 
--- the numbers of the object that is shown, if one is; else the numbers `before`
+-- if the answer shows an object, its numbers; else the old ones
 abbrev pub shown_object : Answer → RawObject → RawObject
 shown_object (answer.Shown d) before = object_of d
 shown_object _ before = before

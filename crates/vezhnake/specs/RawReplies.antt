@@ -1,4 +1,4 @@
--- The numbers of an answer.
+-- An answer as numbers.
 use Rattle.vezhnake.specs.Names.{ℕ, Bool, not, nat_lt, Option, None, Some, role_number, role_of, code_number}
 use Rattle.vezhnake.specs.Names.{fault_number, unjournaled_number, Answer, Refusal, ResultCode}
 use Rattle.std.specs.Prelude.{◌-◌, ◌^◌, ◌≡◌}
@@ -6,7 +6,7 @@ use Rattle.model.specs.declared.answer.Answer.TheVariants as answer
 use Rattle.model.specs.declared.answer.Refusal.TheVariants as refusal
 use Rattle.vezhnake.specs.declared.raw_reply.RawReply.{RawReply}
 
--- the number of a refusal, and the number that it has, or 0
+-- a refusal as numbers: its kind, and the number in it or 0
 abbrev pub refusal_numbers : Refusal → ℕ × ℕ
 refusal_numbers refusal.Down = (32, 0)
 refusal_numbers refusal.NoProcess = (33, 0)
@@ -23,7 +23,8 @@ refusal_numbers refusal.Fault = (43, 0)
 refusal_numbers refusal.BadNumber = (44, 0)
 refusal_numbers (refusal.NotJournaled why) = (45, unjournaled_number why)
 
--- the number of an answer, and the numbers that it has, or 0; of a shown object these are its number and its role
+-- an answer as numbers: its kind, and the numbers in it or 0; an answer that shows an object has the object's number
+-- and role
 abbrev pub answer_numbers : Answer → ℕ × ℕ × ℕ
 answer_numbers answer.Done = (0, 0, 0)
 answer_numbers (answer.Value v) = (1, v, 0)
@@ -36,17 +37,17 @@ answer_numbers (answer.At g age) = (7, g, age)
 answer_numbers (answer.Shown d) = (8, d.number, role_number (role_of d.object.content))
 answer_numbers (answer.Refused why) = ((refusal_numbers why).0, (refusal_numbers why).1, 0)
 
--- the number of a result code, or 2^32 - 1 for none
+-- a result code as a number; 2^32 - 1 if there is none
 abbrev pub code_in : Option ResultCode → ℕ
 code_in None = 2 ^ 32 - 1
 code_in (Some code) = code_number code
 
--- an answer and the result code beside it
+-- an answer and its result code as numbers
 abbrev pub reply_of : Answer → Option ResultCode → RawReply
 reply_of a code = record
     { kind = (answer_numbers a).0; code = code_in code; first = (answer_numbers a).1; second = (answer_numbers a).2 }
 
--- the machine refused the command
+-- whether the reply is a refusal
 abbrev pub is_refused : RawReply → Bool
 is_refused r = not (nat_lt r.kind 32)
 
@@ -55,7 +56,7 @@ abbrev pub ShowsNone : Answer → Type 0
 ShowsNone (answer.Shown d) = ⊥
 ShowsNone _ = Unit {0}
 
--- replies with equal numbers have the same answer and result code
+-- if two replies are equal, so are their answers and result codes, unless an answer shows an object
 abbrev pub RepliesTellAnswers : Type 0
 RepliesTellAnswers = (a b : Answer) (m n : Option ResultCode) → ShowsNone a → ShowsNone b →
     reply_of a m ≡ reply_of b n → (a ≡ b) × (m ≡ n)

@@ -1,4 +1,4 @@
--- The numbers that C gets.
+-- The statuses, and the numbers that C gets for them.
 use Rattle.vezhnake.specs.Names.{ℕ, Result, Ok, Err, reason_number, OpenFault}
 use Rattle.layout.specs.declared.open_fault.OpenFault.TheVariants as fault
 use Rattle.vezhnake.specs.declared.session.CallsFault.{CallsFault}
@@ -6,18 +6,18 @@ use Rattle.vezhnake.specs.declared.session.CallsFault.TheVariants as lost
 use Rattle.vezhnake.specs.declared.status.Status.{Status}
 use Rattle.vezhnake.specs.declared.status.Status.TheVariants as status
 
--- the status for the reason that no kernel was opened
+-- the status if no kernel was opened
 abbrev pub status_by : OpenFault → Status
 status_by fault.Failed = status.Failed
 status_by fault.NoMemory = status.NoMemory
 status_by (fault.Bad reason) = status.Bad reason
 
--- the status for the reason that device calls don't wait for the host
+-- the status if device calls can't wait for the host
 abbrev pub status_for : CallsFault → Status
 status_for lost.NoMemory = status.NoMemory
 status_for lost.CallsLost = status.CallsLost
 
--- the status of a call that did its work, if its device calls wait for the host
+-- the status of a call that did its work: `Done`, unless its device calls can't wait for the host
 abbrev pub kept_status : Result (Unit {0}) CallsFault → Status
 kept_status (Ok done) = status.Done
 kept_status (Err why) = status_for why

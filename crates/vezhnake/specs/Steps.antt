@@ -1,4 +1,4 @@
--- What a step adds to the history of the host's storage.
+-- How the history of the host's storage grows.
 use Rattle.std.specs.Prelude.{ℕ, ◌+◌, List, [], ◌∷◌, ◌++◌}
 use Rattle.devices.specs.Past.{Event}
 use Rattle.vezhnake.specs.HostCalls.{HostCall, write, sync, power_cut, events_by}
@@ -15,7 +15,7 @@ recorded (LostWrite at bytes) = []
 recorded LostSync = []
 recorded LostCut = []
 
--- the events that a step doesn't record; a sync that fails has none
+-- the events of a step that failed and so wasn't recorded; a failed sync has none
 abbrev pub unrecorded : Step → List Event
 unrecorded (Write at bytes) = []
 unrecorded Sync = []
@@ -24,7 +24,7 @@ unrecorded (LostWrite at bytes) = events_by (write at bytes.now)
 unrecorded LostSync = []
 unrecorded LostCut = events_by power_cut
 
--- how many calls fail in a step
+-- how many calls failed in a step
 abbrev pub failures_of : Step → ℕ
 failures_of (Write at bytes) = 0
 failures_of Sync = 0
@@ -33,7 +33,7 @@ failures_of (LostWrite at bytes) = 1
 failures_of LostSync = 1
 failures_of LostCut = 0
 
--- the history of storage that holds these bytes, and to which nothing has happened
+-- the history of storage that holds these bytes, before any event
 abbrev pub fresh : List ℕ → History
 fresh bytes = record { first = bytes; calls = []; lost = []; failures = 0 }
 

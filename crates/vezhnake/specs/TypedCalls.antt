@@ -1,4 +1,4 @@
--- What typed calls do to a session.
+-- What the calls with numbers (commands, saves, shows) do to a session.
 use Rattle.vezhnake.specs.Names.{ℕ, true, false, List, map, take, drop, length, Option, None, slice_index_or, Result}
 use Rattle.vezhnake.specs.Names.{Ok, Err, Served, Command}
 use Rattle.std.specs.Prelude.{◌≡◌, ◌<◌}
@@ -21,7 +21,7 @@ use Rattle.vezhnake.specs.Serving.{EndsAt, ServesEach, ServesLine, numbers_of}
 use Rattle.vezhnake.specs.Sessions.{CollectsCalls}
 use Rattle.vezhnake.specs.Statuses.{kept_status}
 
--- commands were served, over the same kind of kernel
+-- commands were served, and the kernel has the same type of store
 abbrev pub ServesEachOver : HostKernel → HostKernel → List (Option Command) → List RawReply → Type 0
 ServesEachOver (store.Plain old) (store.Plain new) = ServesEach (objects.view_of host_disk)
     (objects.parts_of host_disk) old new
@@ -30,7 +30,7 @@ ServesEachOver (store.Bounded old) (store.Bounded new) =
 ServesEachOver (store.Plain old) (store.Bounded new) = λ commands replies. ⊥
 ServesEachOver (store.Bounded old) (store.Plain new) = λ commands replies. ⊥
 
--- one command was served, over the same kind of kernel
+-- one command was served, and the kernel has the same type of store
 abbrev pub ServesLineOver : HostKernel → HostKernel → Command → Served → Type 0
 ServesLineOver (store.Plain old) (store.Plain new) = ServesLine (objects.view_of host_disk)
     (objects.parts_of host_disk) old new
@@ -39,8 +39,8 @@ ServesLineOver (store.Bounded old) (store.Bounded new) =
 ServesLineOver (store.Plain old) (store.Bounded new) = λ command served. ⊥
 ServesLineOver (store.Bounded old) (store.Plain new) = λ command served. ⊥
 
--- The first n of these commands were served, and the numbers of their answers are the first of the replies. Their device
--- calls wait for the host, or why not.
+-- The first n commands were served, and their answers are the first n replies. Their device calls wait for the host,
+-- or `kept` says why not.
 pub record ServesFront (old new : Session) (commands : List (Option Command)) (before after : List RawReply) (n : ℕ)
     (kept : Result (Unit {0}) CallsFault) : Type 0 where
   pub kernel : ServesEachOver old.kernel new.kernel (take n commands) (take n after)
@@ -48,7 +48,8 @@ pub record ServesFront (old new : Session) (commands : List (Option Command)) (b
   pub answer : new.answer ≡ old.answer
   pub calls : CollectsCalls old new kept
 
--- all commands of a batch were served, or those before the first that is invalid; or there are too few replies
+-- all commands of a batch were served, or only those before the first invalid one; or there are fewer replies than
+-- commands, and none was
 abbrev pub ServesBatch : Session → Session → List RawCommand → List RawReply → List RawReply → ℕ → Status → Type 0
 ServesBatch old new raws before after served status.Done =
     ServesFront old new (map command_of raws) before after served (Ok tt) × (served ≡ length raws)
@@ -65,7 +66,7 @@ ServesBatch old new raws before after served status.SmallBuffer =
     (new ≡ old) × (after ≡ before) × (served ≡ 0) × (length before < length raws)
 ServesBatch old new raws before after served _ = ⊥
 
--- the stages of a save were served, up to the first that was refused; or there are too few replies
+-- the stages of a save were served, up to the first that was refused; or there are too few replies, and none was
 abbrev pub SavesSession : Session → Session → List RawReply → List RawReply → ℕ → Status → Type 0
 SavesSession old new before after served status.Done =
     ServesFront old new save_stages before after served (Ok tt) × EndsAt true save_stages after served
@@ -77,7 +78,8 @@ SavesSession old new before after served status.SmallBuffer =
     (new ≡ old) × (after ≡ before) × (served ≡ 0) × (length before < 5)
 SavesSession old new before after served _ = ⊥
 
--- an object was shown: the numbers of the answer; its device calls wait for the host, or the status says why not
+-- an object was shown, and the reply has the answer's numbers. The device calls wait for the host, or the status says
+-- why not
 pub record ShowsSession (old new : Session) (number : ℕ) (served : Served) (reply : RawReply) (result : Status) :
     Type 0 where
   pub kernel : ServesLineOver old.kernel new.kernel (command.Show number) served
@@ -87,11 +89,12 @@ pub record ShowsSession (old new : Session) (number : ℕ) (served : Served) (re
   pub calls : CollectsCalls old new kept
   pub is : result ≡ kept_status kept
 
--- an object was shown, and `after` has the words of a page; or the numbers of the object
+-- an object was shown; if it is a page, `after` has its words
 abbrev pub ShowsPage : Session → Session → ℕ → List ℕ → List ℕ → RawReply → Status → Type 0
 ShowsPage old new number before after reply result =
     (served : Served) × ShowsSession old new number served reply result × (after ≡ shown_words served.answer before)
 
+-- an object was shown, and `after` has its numbers
 abbrev pub ShowsObject : Session → Session → ℕ → RawObject → RawObject → RawReply → Status → Type 0
 ShowsObject old new number before after reply result =
     (served : Served) × ShowsSession old new number served reply result × (after ≡ shown_object served.answer before)

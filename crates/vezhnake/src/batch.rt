@@ -5,7 +5,7 @@ use crate::session::Session;
 use crate::status::Status;
 use std::alloc::Global;
 
-/// The sizes of the answers and of the calls of a batch, in bytes.
+/// The lengths of a batch's answers and of its device calls, in bytes.
 #[repr(C)]
 #[derive(Drop)]
 pub struct Batch {
@@ -13,7 +13,7 @@ pub struct Batch {
     pub calls: usize,
 }
 
-// The first of two statuses that isn't `Done`, or `Done`.
+// Returns the first status that isn't `Done`; if there is none, `Done`.
 fn first_fault(first: Status, second: Status) -> Status
     ensures { IsFirstFault first second result }
 {
@@ -32,7 +32,7 @@ fn first_fault(first: Status, second: Status) -> Status
     }
 }
 
-// Runs a script in a session, and copies the answers and the calls.
+// Runs a script in a session, and copies the answers and the device calls.
 fn run_script(
     session: &mut Session,
     script: &[u8],
@@ -48,8 +48,8 @@ fn run_script(
     first_fault(answered, taken)
 }
 
-/// Opens a session on storage that holds these bytes, as `HostKernel::open` does, runs a script in it, and copies the
-/// answers and the calls.
+/// Opens a session over storage that holds these bytes, as `HostKernel::open` does, runs a script in it, and copies
+/// the answers and the device calls.
 ///
 /// Returns the error of opening, or the first error of `Session::step` and `Session::take_calls`.
 pub fn run_batch(

@@ -12,7 +12,8 @@ use crate::status::Status;
 use std::alloc::Global;
 use std::mem;
 
-/// A handle that a C program holds, with a session or without. At first all its bytes are 0, and it has none.
+/// A handle that a C program holds. It has a session if it is open. Before it is first opened all its bytes
+/// are 0.
 #[repr(C)]
 pub struct Handle {
     pointer: SessionPointer,
@@ -28,7 +29,7 @@ impl Drop for Handle {
 }
 
 impl Handle {
-    // Drops the session of the handle, if there is one, and puts another into it.
+    // Drops the session of the handle, if there is one, and puts this one into the handle.
     fn put(&mut self, session: Box<Session>)
         ensures { self.new.pointer.session ≡ Some session.value }
     {
@@ -89,8 +90,8 @@ impl Handle {
         }
     }
 
-    /// Opens a session on storage that holds these bytes, as `HostKernel::open` does. Returns `AlreadyOpen` if the
-    /// handle is open. An error changes nothing.
+    /// Opens a session over storage that holds these bytes, as `HostKernel::open` does. Returns `AlreadyOpen` if
+    /// the handle is open. An error changes nothing.
     #[tactic(auto, using(crate::proofs::Handles::without, crate::proofs::Handles::opens_again))]
     pub fn open(&mut self, image: &[u8], cache: u64) -> Status
         ensures { OpensHandle self.old.pointer.session self.new.pointer.session image.now cache result }
@@ -101,7 +102,7 @@ impl Handle {
         self.open_closed(image, cache)
     }
 
-    /// Runs a text as a script, as `Session::step` does. Returns `NotOpen` if the handle is not open.
+    /// Runs a text as a script, as `Session::step` does. Returns `NotOpen` if the handle isn't open.
     #[tactic(auto, using(crate::proofs::Handles::on_none, crate::proofs::Handles::on_some))]
     pub fn step(&mut self, text: &[u8], buffer: &mut [u8], size: &mut usize) -> Status
         ensures { OnSession self.old.pointer.session self.new.pointer.session result
@@ -116,7 +117,7 @@ impl Handle {
         status
     }
 
-    /// Copies the last answers, as `Session::copy_answer` does. Returns `NotOpen` if the handle is not open.
+    /// Copies the last answers, as `Session::copy_answer` does. Returns `NotOpen` if the handle isn't open.
     #[tactic(auto, using(crate::proofs::Handles::on_none, crate::proofs::Handles::on_some))]
     pub fn copy_answer(&mut self, buffer: &mut [u8], size: &mut usize) -> Status
         ensures { OnSession self.old.pointer.session self.new.pointer.session result
@@ -131,7 +132,8 @@ impl Handle {
         status
     }
 
-    /// Copies the next calls, as `Session::take_calls` does. Returns `NotOpen` if the handle is not open.
+    /// Copies the waiting device calls, as `Session::take_calls` does. Returns `NotOpen` if the handle
+    /// isn't open.
     #[tactic(auto, using(crate::proofs::Handles::on_none, crate::proofs::Handles::on_some))]
     pub fn take_calls(&mut self, buffer: &mut [u8], size: &mut usize) -> Status
         ensures { OnSession self.old.pointer.session self.new.pointer.session result
@@ -146,7 +148,7 @@ impl Handle {
         status
     }
 
-    /// Carries out commands, as `Session::serve` does. Returns `NotOpen` if the handle is not open.
+    /// Carries out commands, as `Session::serve` does. Returns `NotOpen` if the handle isn't open.
     #[tactic(auto, using(crate::proofs::Handles::on_none, crate::proofs::Handles::on_some))]
     pub fn serve(
         &mut self,
@@ -166,7 +168,7 @@ impl Handle {
         status
     }
 
-    /// Saves the present state, as `Session::save` does. Returns `NotOpen` if the handle is not open.
+    /// Saves the present state, as `Session::save` does. Returns `NotOpen` if the handle isn't open.
     #[tactic(auto, using(crate::proofs::Handles::on_none, crate::proofs::Handles::on_some))]
     pub fn save(&mut self, replies: &mut [RawReply], served: &mut usize) -> Status
         ensures { OnSession self.old.pointer.session self.new.pointer.session result
@@ -181,7 +183,7 @@ impl Handle {
         status
     }
 
-    /// Shows a page, as `Session::page` does. Returns `NotOpen` if the handle is not open.
+    /// Shows a page, as `Session::page` does. Returns `NotOpen` if the handle isn't open.
     #[tactic(auto, using(crate::proofs::Handles::on_none, crate::proofs::Handles::on_some))]
     pub fn page(&mut self, number: u64, page: &mut RawPage, reply: &mut RawReply) -> Status
         ensures { OnSession self.old.pointer.session self.new.pointer.session result
@@ -196,7 +198,7 @@ impl Handle {
         status
     }
 
-    /// Shows an object, as `Session::show` does. Returns `NotOpen` if the handle is not open.
+    /// Shows an object, as `Session::show` does. Returns `NotOpen` if the handle isn't open.
     #[tactic(auto, using(crate::proofs::Handles::on_none, crate::proofs::Handles::on_some))]
     pub fn show(&mut self, number: u64, object: &mut RawObject, reply: &mut RawReply) -> Status
         ensures { OnSession self.old.pointer.session self.new.pointer.session result
@@ -211,7 +213,7 @@ impl Handle {
         status
     }
 
-    /// Drops the session. `NotOpen` if the handle is not open.
+    /// Drops the session. Returns `NotOpen` if the handle isn't open.
     #[tactic(auto, using(crate::proofs::Handles::closes_none, crate::proofs::Handles::closes_some))]
     pub fn close(&mut self) -> Status
         ensures { ClosesHandle self.old.pointer.session self.new.pointer.session result }

@@ -10,7 +10,7 @@ ghost use Rattle.vezhnake.specs.Codes.{coded_call};
 use std::marker::Model;
 
 /// The history of the host's storage: its bytes when the image was opened, the calls recorded since, the events that
-/// were not recorded because a call failed, and how many calls have failed. It takes no memory at run time.
+/// weren't recorded because a call failed, and how many calls failed. It takes no memory at run time.
 #[derive(Drop)]
 pub struct History {
     pub ghost first: { List ℕ },
@@ -43,7 +43,7 @@ pub enum Step<'a> {
 impl History {
     ghost use Rattle.vezhnake.specs.Steps.{fresh, stepped};
 
-    /// Returns the history of storage that holds these bytes and had no event.
+    /// Returns the history of storage that holds these bytes, before any event.
     pub fn new(_bytes: &[u8]) -> History
         ensures { result ≡ fresh _bytes.now }
     {

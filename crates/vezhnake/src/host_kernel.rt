@@ -30,12 +30,12 @@ use std::mem::replace;
 /// The host's storage, as a device.
 pub type HostDevice = CopiedFile<Recorder>;
 
-/// A kernel over the host's storage, with one of the two object stores.
+/// A kernel over the host's storage, with one of the two stores.
 #[derive(Drop)]
 pub enum HostKernel {
     /// With all objects in memory.
     Plain(Kernel<HostDevice, PlainStore<HostDevice>>),
-    /// With a cache for some of the objects.
+    /// With a cache of some objects.
     Bounded(Kernel<HostDevice, BoundedCache<HostDevice>>),
 }
 
@@ -68,7 +68,7 @@ fn open_kernel<S: ObjectStore<HostDevice>>(
     }
 }
 
-// Returns the capacity of a cache, or `None` if `cache` is 0. Returns `BadCache` if a cache can't have this capacity.
+// Returns the capacity that `cache` stands for: `None` if it is 0. Returns `BadCache` if no cache has this capacity.
 fn capacity_of(cache: u64) -> Result<Option<Capacity>, Status>
     ensures ok { IfOk result (λ capacity. IsCapacity cache capacity) }
     ensures err { IsErr result → (result ≡ Err Status.BadCache) × (cache ≢ 0) × ((cache < 8) ⊎ (8192 < cache)) }
@@ -101,12 +101,14 @@ fn run_lines<S: ObjectStore<HostDevice>>(
 }
 
 impl HostKernel {
-    /// Opens a kernel on storage that holds these bytes. If `cache` is 0, all objects are kept in memory. Otherwise
-    /// it is the capacity of a cache.
+    /// Opens a kernel over storage that holds these bytes. If `cache` is 0, all objects are kept in memory;
+    /// otherwise it is the capacity of a cache.
     ///
-    /// Returns `BadSize` or `BadCache` if an argument is out of range; `Bad` with the least reason to refuse the
-    /// image; `NoMemory` if memory runs out; `Failed` if memory runs out for recording the sync with which opening
-    /// begins.
+    /// Returns:
+    /// - `BadSize` or `BadCache`: an argument is out of range;
+    /// - `Bad`: with the least reason to refuse the image;
+    /// - `NoMemory`: memory ran out;
+    /// - `Failed`: memory ran out for recording the sync that opening begins with.
     #[tactic(auto, using(crate::proofs::Opening::refused_by))]
     pub fn open(alloc: Global, image: &[u8], cache: u64) -> Result<HostKernel, Status>
         ensures { OpensKernel image.now cache result }
@@ -182,7 +184,7 @@ impl HostKernel {
         }
     }
 
-    // Returns the recorder beneath.
+    // Returns the recorder beneath the kernel.
     #[tactic(auto, using(crate::proofs::Surviving::calls_are, crate::proofs::Surviving::start_is))]
     fn recorder(&self) -> &Recorder
         ensures calls { result.now.history.calls ≡ calls_in self.now }
@@ -194,8 +196,8 @@ impl HostKernel {
         }
     }
 
-    /// Returns the encoded calls after the first `taken`. Returns `None` if these are no longer kept. Then `taken` is
-    /// neither where the kept bytes begin nor the number of all calls.
+    /// Returns the encoded calls after the first `taken`, or `None` if they aren't kept any more. They are kept if
+    /// `taken` is the number of calls before the kept ones, or of all calls.
     pub fn since(&self, taken: u64) -> Option<&[u8]>
         ensures some { IfSome result (λ bytes. bytes.now ≡ encoded (drop taken (calls_in self.now))) }
         ensures none { IfNone result ((taken ≢ kept_from self.now) × (taken ≢ length (calls_in self.now))) }
@@ -203,15 +205,14 @@ impl HostKernel {
         self.recorder().since(taken)
     }
 
-    /// Returns how many calls of the device were recorded in all.
+    /// Returns how many device calls were recorded in all.
     pub fn count(&self) -> u64
         ensures { result ≡ length (calls_in self.now) }
     {
         self.recorder().count()
     }
 
-    /// Records that all calls of the device so far were taken, as `Recorder::note_taken` does, and returns their
-    /// count.
+    /// Records that all device calls so far were taken, as `Recorder::note_taken` does, and returns their count.
     pub fn note_taken(&self) -> u64
         ensures { result ≡ length (calls_in self.now) }
     {

@@ -1,5 +1,5 @@
-//! Sessions of the kernel over storage of a host: the host passes an image as bytes, runs script lines or commands in
-//! the form of numbers, and carries out the device calls. `vezhnake_c` offers this to C.
+//! Sessions of the kernel over a host's storage. The host passes an image as bytes, runs script lines, or commands
+//! given as numbers, and carries out the device calls. `vezhnake_c` offers this to C.
 #![tactic(auto)]
 
 mod batch;

@@ -6,7 +6,7 @@ ghost use Rattle.vezhnake.specs.Pending.{DropsTaken, Keeps};
 use device::Failed;
 use std::alloc::{AllocError, Global};
 
-/// The encoded calls that may not have been taken yet.
+/// Encoded calls that may not have been taken yet.
 #[derive(Drop)]
 pub struct Pending {
     pub bytes: Vec<u8>,
@@ -25,7 +25,7 @@ fn append_number(bytes: &mut Vec<u8>, number: u64) -> Result<(), AllocError>
     bytes.extend_from_slice(&number.to_le_bytes())
 }
 
-// Appends a header and these bytes. If it fails, a part of them may have been appended.
+// Appends a header and these bytes. If it fails, some of them may have been appended.
 fn append_parts(bytes: &mut Vec<u8>, byte: u64, from: &[u8]) -> Result<(), AllocError>
     ensures ok { OnOk result (bytes.new.items ≡ bytes.old.items ++ (header_of byte (length from.now) ++ from.now)) }
     ensures kept { take (length bytes.old.items) bytes.new.items ≡ bytes.old.items }
@@ -62,7 +62,7 @@ impl Pending {
         }
     }
 
-    // Drops the bytes if all calls were taken. `taken` is how many calls were taken.
+    // Drops the kept bytes if all calls were taken. `taken` is the number of calls taken.
     fn drop_taken(&mut self, taken: u64)
         ensures kept { (calls : List HostCall) → Keeps self.old calls → Keeps self.new calls }
         ensures dropped { DropsTaken self.old self.new taken }
@@ -73,8 +73,8 @@ impl Pending {
         }
     }
 
-    /// Appends a call: a header with the number `byte`, and `from`. `taken` is how many calls were taken; if these
-    /// are all, their bytes are dropped first.
+    /// Appends a call: a header with the number `byte`, and the bytes `from`. If all earlier calls were taken
+    /// (`taken` counts those that were), drops their bytes first.
     ///
     /// Returns `Failed` if memory runs out: then no call is added.
     pub fn add(&mut self, taken: u64, byte: u64, from: &[u8]) -> Result<(), Failed>
@@ -97,8 +97,8 @@ impl Pending {
         }
     }
 
-    /// Returns the encoded calls after the first `taken`. Returns `None` if these are no longer kept. Then `taken` is
-    /// neither where the bytes begin nor the number of all calls.
+    /// Returns the encoded calls after the first `taken`, or `None` if they aren't kept any more. They are kept if
+    /// `taken` is the number of calls before the kept ones, or of all calls.
     pub fn since(&self, taken: u64) -> Option<&[u8]>
         ensures some { IfSome result (λ bytes. (calls : List HostCall) → Keeps self.now calls
             → bytes.now ≡ encoded (drop taken calls)) }

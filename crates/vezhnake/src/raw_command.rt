@@ -1,11 +1,11 @@
-// A command in the form of numbers.
+// Commands given as numbers.
 ghost use Rattle.std.specs.Prelude.{◌≡◌, map};
 ghost use Rattle.vezhnake.specs.RawCommands.{save_stages};
 ghost use Rattle.vezhnake.specs.RawCommands.{command_of, invocation_of, registers_of, stage_of};
 
 use model::{Command, Invocation, Operation, Register};
 
-/// A command in the form of numbers. Fields that a kind doesn't use are ignored.
+/// A command given as numbers. Fields that its kind doesn't use are ignored.
 #[repr(C)]
 #[derive(Clone, Copy)]
 pub struct RawCommand {
@@ -16,7 +16,7 @@ pub struct RawCommand {
     pub register: u8,
     /// The registers whose capabilities an invocation sends, each below 32.
     pub sent: [u8; 4],
-    /// The number of the process or the object; for a stage of saving, how many objects.
+    /// The number of the process or object; for a stage of a save, how many objects.
     pub number: u64,
     /// The words that an invocation sends. For a load and a store, the address first, then the value to store.
     pub words: [u64; 4],
@@ -82,7 +82,7 @@ impl RawCommand {
     }
 }
 
-// Returns the command for a stage of saving, for all objects.
+// Returns the command of a stage of a save, for all objects.
 fn stage(kind: u32) -> RawCommand
     ensures { result ≡ stage_of kind }
 {

@@ -1,4 +1,4 @@
-// An object in the form of numbers.
+// Objects given as numbers.
 ghost use Rattle.std.specs.Prelude.{◌≡◌, length, map, option_map, Some};
 ghost use Rattle.vezhnake.specs.RawObjects.{object_of, plain_object, raw_capability, raw_registers, shown_object};
 ghost use Rattle.vezhnake.specs.RawObjects.{shown_words};
@@ -6,7 +6,7 @@ ghost use Rattle.vezhnake.specs.RawObjects.{shown_words};
 use bitflags::Flags;
 use model::{Answer, Capability, Content, Description, SLOTS, Slots, WORDS};
 
-/// A capability in the form of numbers. Fields that a kind doesn't have are 0.
+/// A capability given as numbers. Fields that its kind doesn't have are 0.
 #[repr(C)]
 #[derive(Clone, Copy)]
 pub struct RawCapability {
@@ -16,9 +16,9 @@ pub struct RawCapability {
     pub access: u8,
     /// How many levels of nodes an address space has.
     pub height: u8,
-    /// The key that a process gets when it is started by this capability.
+    /// The key that a process receives when this capability starts it.
     pub key: u16,
-    /// The number of the object that it names, or the data of a number capability.
+    /// The number of the object that the capability names, or the data of a number capability.
     pub object: u64,
 }
 
@@ -28,7 +28,7 @@ pub struct RawPage {
     pub words: [u64; WORDS],
 }
 
-/// An object in the form of numbers. Numbers that a kind doesn't have are 0, and capabilities void.
+/// An object given as numbers. Numbers that its kind doesn't have are 0, and capabilities void.
 #[repr(C)]
 #[derive(Clone, Copy)]
 pub struct RawObject {
@@ -36,13 +36,13 @@ pub struct RawObject {
     pub kind: u32,
     /// The state of a process: 0 available, 1 running, 2 waiting.
     pub state: u16,
-    /// The key of the message that the process was sent last.
+    /// The key of the last message that the process was sent.
     pub key: u16,
     /// The number of the bank that owns the object.
     pub owner: u64,
     /// The number of a process's annex.
     pub annex: u64,
-    /// The words of the message that the process was sent last.
+    /// The words of the last message that the process was sent.
     pub words: [u64; 4],
     /// The limit of a bank.
     pub limit: u64,
@@ -68,7 +68,7 @@ impl RawCapability {
         }
     }
 
-    /// Returns a capability in the form of numbers.
+    /// Returns a capability as numbers.
     pub fn of(capability: Capability) -> RawCapability
         ensures { result ≡ raw_capability capability }
     {
@@ -104,7 +104,7 @@ impl RawCapability {
     }
 }
 
-// Returns 32 capabilities in the form of numbers.
+// Returns 32 capabilities as numbers.
 fn raw_slots(slots: &[Capability]) -> [RawCapability; SLOTS]
     requires { length slots.now ≡ 32 }
     ensures { result ≡ map raw_capability slots.now }
@@ -116,7 +116,7 @@ fn raw_slots(slots: &[Capability]) -> [RawCapability; SLOTS]
     raw
 }
 
-// Returns the registers of a process in the form of numbers; void ones if they aren't known.
+// Returns the registers of a process as numbers; void if they are unknown.
 fn raw_registers(registers: &Option<Slots<Capability>>) -> [RawCapability; SLOTS]
     ensures { result ≡ raw_registers registers.now }
 {
@@ -126,7 +126,7 @@ fn raw_registers(registers: &Option<Slots<Capability>>) -> [RawCapability; SLOTS
     }
 }
 
-// Returns an object of a kind that has only an owner.
+// Returns the numbers of an object that has only a kind and an owner.
 fn plain_object(kind: u32, owner: u64) -> RawObject
     ensures { result ≡ plain_object kind owner }
 {
@@ -145,7 +145,7 @@ fn plain_object(kind: u32, owner: u64) -> RawObject
 }
 
 impl RawObject {
-    /// Returns an object in the form of numbers.
+    /// Returns an object as numbers.
     pub fn of(shown: &Description) -> RawObject
         ensures { result ≡ object_of shown.now }
     {
@@ -187,7 +187,7 @@ impl RawObject {
     }
 }
 
-/// Copies the words of the page in an answer to `show`. For any other answer it changes nothing.
+/// Copies the words of the page in an answer to `show`. Any other answer changes nothing.
 pub fn copy_words(answer: &Answer, page: &mut RawPage)
     ensures { page.new.words ≡ shown_words answer.now page.old.words }
 {
@@ -199,7 +199,7 @@ pub fn copy_words(answer: &Answer, page: &mut RawPage)
     }
 }
 
-/// Copies the object in an answer to `show`, in the form of numbers. For any other answer it changes nothing.
+/// Copies the object in an answer to `show`, as numbers. Any other answer changes nothing.
 pub fn copy_object(answer: &Answer, object: &mut RawObject)
     ensures { object.new ≡ shown_object answer.now object.old }
 {

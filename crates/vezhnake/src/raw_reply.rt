@@ -1,4 +1,4 @@
-// An answer in the form of numbers.
+// Answers given as numbers.
 ghost use Rattle.std.specs.Prelude.{◌≡◌, ◌<◌, ◌≤◌, Some, IsTrue, ◌↔◌, Option};
 ghost use Rattle.model.specs.declared.answer.Answer.{Answer};
 ghost use Rattle.model.specs.declared.order.ResultCode.{ResultCode};
@@ -7,7 +7,7 @@ ghost use Rattle.vezhnake.specs.RawReplies.{is_refused};
 
 use model::{Answer, Refusal, ResultCode};
 
-/// The answer to a command in the form of numbers.
+/// The answer to a command, given as numbers.
 #[repr(C)]
 #[derive(Clone, Copy)]
 pub struct RawReply {
@@ -78,7 +78,7 @@ fn answer_numbers(answer: &Answer) -> (u32, u64, u64)
 }
 
 impl RawReply {
-    /// Returns an answer and the result code beside it in the form of numbers.
+    /// Returns an answer and its result code as numbers.
     pub fn of(answer: &Answer, code: Option<ResultCode>) -> RawReply
         ensures { result ≡ reply_of answer.now code }
     {
@@ -99,8 +99,8 @@ impl RawReply {
     }
 }
 
-/// The numbers of an answer determine it, except the content of an object that is shown. The function does nothing;
-/// its contract is this fact.
+/// If two replies are equal, so are their answers, unless an answer shows an object. The contract of this empty
+/// function says so.
 #[tactic(auto, using(crate::proofs::RawReplies::replies_tell))]
 pub fn replies_tell_answers()
     ensures { RepliesTellAnswers }

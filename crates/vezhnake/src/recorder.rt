@@ -12,13 +12,13 @@ use std::alloc::Global;
 use std::cell::Cell;
 
 /// The host's storage, as a file of sectors. It records each call, and the host carries the calls
-/// out in their order.
+/// out in order.
 ///
-/// A call fails if there is no memory to record it. Each later write and sync then fails too.
+/// A call fails if there is no memory to record it. Then every later write and sync fails too.
 #[derive(Drop)]
 pub struct Recorder {
     pending: Pending,
-    // How many calls were taken from here. Contracts can't read the content of a cell.
+    // How many of the recorded calls were taken. Contracts can't read the content of a cell.
     taken: Cell<u64>,
     // Whether a call could not be recorded.
     is_broken: bool,
@@ -29,7 +29,7 @@ pub struct Recorder {
 }
 
 impl Recorder {
-    /// Returns storage that holds these bytes and had no event.
+    /// Returns storage that holds these bytes, before any event.
     pub fn new(alloc: Global, bytes: &[u8]) -> Recorder
         ensures { result.history ≡ fresh bytes.now }
     {
@@ -41,8 +41,8 @@ impl Recorder {
         }
     }
 
-    /// Returns the encoded calls after the first `taken`. Returns `None` if these are no longer kept. Then `taken` is
-    /// neither where the kept bytes begin nor the number of all calls.
+    /// Returns the encoded calls after the first `taken`, or `None` if they aren't kept any more. They are kept if
+    /// `taken` is the number of calls before the kept ones, or of all calls.
     pub fn since(&self, taken: u64) -> Option<&[u8]>
         ensures some { IfSome result (λ bytes. bytes.now ≡ encoded (drop taken self.now.history.calls)) }
         ensures none { IfNone result ((taken ≢ self.now.pending.start) × (taken ≢ length self.now.history.calls)) }
@@ -57,7 +57,7 @@ impl Recorder {
         self.pending.count
     }
 
-    /// Records that all calls so far were taken, and returns their count. The next call recorded may overwrite them.
+    /// Records that all calls so far were taken, and returns their count. The next recorded call may overwrite them.
     pub fn note_taken(&self) -> u64
         ensures { result ≡ length self.now.history.calls }
     {
@@ -107,7 +107,8 @@ impl SectorFile for Recorder {
         Err(Failed)
     }
 
-    /// A power cut is recorded for the host as a sync, which makes every byte durable.
+    /// Records a sync, which makes every byte of the host's storage durable: a power cut here loses
+    /// nothing.
     fn power_cut(&mut self) {
         let taken = self.taken.get();
         let recorded = self.history.then(&Step::Cut);

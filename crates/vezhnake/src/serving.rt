@@ -25,7 +25,7 @@ pub fn serve<S: ObjectStore<HostDevice>>(
     kernel.step_with_code(command)
 }
 
-// Carries out a command, and returns its answer in the form of numbers.
+// Carries out a command, and returns its answer as numbers.
 fn reply_to<S: ObjectStore<HostDevice>>(
     kernel: &mut Kernel<HostDevice, S>,
     command: &Command,
@@ -44,15 +44,15 @@ fn command_at(commands: &[RawCommand], index: usize) -> Option<Command>
     commands[index].command()
 }
 
-// Whether a reply ends a batch that stops at the first refusal.
+// Whether this reply ends the batch: `stops` is set, and the reply is a refusal.
 fn is_last(stops: bool, reply: &RawReply) -> bool
     ensures { result ≡ (stops && is_refused reply.now) }
 {
     stops && reply.is_refused()
 }
 
-/// Carries out commands one after another, up to the first whose numbers encode no command, and writes their answers
-/// as numbers. If `stops`, it also ends after the first refusal. Returns how many commands it carried out.
+/// Carries out commands one after another, up to the first that is invalid, and writes their answers as numbers. If
+/// `stops`, also ends after the first refusal. Returns how many commands it carried out.
 pub fn serve_each<S: ObjectStore<HostDevice>>(
     kernel: &mut Kernel<HostDevice, S>,
     commands: &[RawCommand],

@@ -1,4 +1,4 @@
-// A session, which an open handle owns.
+// Sessions: an open handle owns one.
 ghost use Rattle.std.specs.Prelude.{◌≡◌, IfOk, IfErr, IfSome, Err};
 ghost use Rattle.vezhnake.specs.TypedCalls.{SavesSession, ServesBatch, ShowsObject, ShowsPage};
 ghost use Rattle.vezhnake.specs.Sessions.{CollectsCalls, CopiesAnswer, CopiesOut, OpensKernel, OpensSession};
@@ -21,9 +21,9 @@ pub struct Session {
     kernel: HostKernel,
     // The answers to the last text that was run.
     answer: Vec<u8>,
-    // The encoded calls that the host has not taken yet.
+    // The encoded device calls that the host hasn't taken yet.
     waiting: Vec<u8>,
-    // How many calls of the device were collected so far: the host has taken them, or they wait here.
+    // How many device calls were collected so far. The host has taken them, or they wait here.
     collected: u64,
 }
 
@@ -36,7 +36,8 @@ pub enum CallsFault {
     CallsLost,
 }
 
-// Returns the status of a call that succeeded, if its device calls could be collected for the host.
+// Returns the status of a call that did its work: `Done`, unless its device calls couldn't be
+// collected.
 fn status_of(kept: Result<(), CallsFault>) -> Status
     ensures { result ≡ kept_status kept }
 {
@@ -46,8 +47,8 @@ fn status_of(kept: Result<(), CallsFault>) -> Status
     }
 }
 
-/// Copies the bytes to the front of the buffer if they fit, and returns whether they do. In any case sets `size` to
-/// how many bytes there are.
+/// Copies the bytes to the front of the buffer if they fit, and returns whether they do. Sets `size` to their
+/// number in any case.
 pub fn copy_out(bytes: &[u8], buffer: &mut [u8], size: &mut usize) -> bool
     ensures { CopiesOut bytes.now buffer.old buffer.new size.new result }
 {
@@ -59,8 +60,8 @@ pub fn copy_out(bytes: &[u8], buffer: &mut [u8], size: &mut usize) -> bool
     true
 }
 
-// Moves a value to the heap, or drops it if memory runs out. It is generic because its proof is then short: for a
-// session the proof would go through all that a session drops.
+// Moves a value to the heap, or drops it if memory runs out. It is generic to keep its proof short: for a session
+// the proof would go through all that a session drops.
 fn boxed<T: Drop>(alloc: Global, value: T) -> Option<Box<T>>
     ensures { IfSome result (λ boxed. boxed.value ≡ value) }
 {
@@ -95,7 +96,7 @@ impl Session {
         boxed(self.alloc, self)
     }
 
-    // Collects the device calls that were made since the last time, after those that wait for the host.
+    // Collects the device calls since the last time, after those that wait for the host.
     //
     // Returns `NoMemory` if memory for them runs out, and `CallsLost` if the device no longer keeps them. The earlier
     // calls still wait.
@@ -123,9 +124,11 @@ impl Session {
     /// Runs a text as a script, keeps the answers, and copies them to the buffer. Collects the device calls for the
     /// host.
     ///
-    /// Returns `SmallBuffer` if the answers don't fit. Returns `NoMemory` if memory runs out: for the answers, and
-    /// then the lines up to that point were carried out; or for the calls. Returns `CallsLost` if the device no
-    /// longer keeps the calls.
+    /// Returns:
+    /// - `SmallBuffer`: the answers don't fit;
+    /// - `NoMemory`: memory ran out for the answers (then the lines up to that point were carried out), or for the
+    ///   calls;
+    /// - `CallsLost`: the device no longer keeps the calls.
     #[tactic(auto, using(crate::proofs::Saving::step_done, crate::proofs::Saving::step_small, crate::proofs::Saving::step_short, crate::proofs::Saving::step_kept))]
     pub fn step(&mut self, text: &[u8], buffer: &mut [u8], size: &mut usize) -> Status
         ensures { StepsSession self.old self.new text.now buffer.old buffer.new size.new result }
@@ -164,9 +167,9 @@ impl Session {
     /// Carries out commands one after another, each as the script line with the same meaning, and writes their
     /// answers as numbers. Sets `served` to how many it carried out.
     ///
-    /// Returns `BadCommand` if the numbers of the next one encode no command: those before it were carried out.
-    /// Returns `SmallBuffer` if there are fewer replies than commands: none was carried out. Returns `NoMemory` and
-    /// `CallsLost` as `collect` does.
+    /// Returns `BadCommand` if the next command is invalid: those before it were carried out. Returns `SmallBuffer`
+    /// if there are fewer replies than commands: none was carried out. Returns `NoMemory` and `CallsLost` as
+    /// `collect` does.
     #[tactic(auto, using(crate::proofs::Saving::batch_done, crate::proofs::Saving::batch_bad, crate::proofs::Saving::batch_kept))]
     pub fn serve(
         &mut self,
@@ -191,8 +194,8 @@ impl Session {
         }
     }
 
-    /// Saves the present state: migrates what an earlier save left, then freezes, stabilizes, commits and migrates,
-    /// each as its script line. If one of these five stages is refused, it is the last one.
+    /// Saves the present state: migrates what an earlier save left in the log, then freezes, stabilizes, commits
+    /// and migrates, each as its script line. If one of these five stages is refused, none comes after it.
     ///
     /// Returns `SmallBuffer` if there are fewer than five replies: no stage was carried out. Returns `NoMemory` and
     /// `CallsLost` as `collect` does.
@@ -222,8 +225,8 @@ impl Session {
         status_of(self.collect())
     }
 
-    /// Shows an object, as the line `show` does, and copies it in the form of numbers. Returns `NoMemory` and
-    /// `CallsLost` as `collect` does.
+    /// Shows an object, as the line `show` does, and copies it as numbers. Returns `NoMemory` and `CallsLost`
+    /// as `collect` does.
     #[tactic(auto, using(crate::proofs::Saving::object_shown))]
     pub fn show(&mut self, number: u64, object: &mut RawObject, reply: &mut RawReply) -> Status
         ensures { ShowsObject self.old self.new number object.old object.new reply.new result }
@@ -235,8 +238,8 @@ impl Session {
         status_of(self.collect())
     }
 
-    /// Copies the encoded calls that wait for the host. The host has then taken them. Returns `SmallBuffer` if they
-    /// don't fit; then it has taken none.
+    /// Copies the encoded device calls that wait for the host, which has then taken them. Returns `SmallBuffer` if
+    /// they don't fit; then the host has taken none.
     pub fn take_calls(&mut self, buffer: &mut [u8], size: &mut usize) -> Status
         ensures { TakesCalls self.old self.new buffer.old buffer.new size.new result }
     {

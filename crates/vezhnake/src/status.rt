@@ -26,9 +26,9 @@ pub enum Status {
     SmallBuffer,
     /// The device no longer keeps the calls that it made.
     CallsLost,
-    /// Memory ran out for recording the sync with which opening begins.
+    /// Memory ran out for recording the sync that opening begins with.
     Failed,
-    /// The numbers encode no command: the kind or a register is out of range.
+    /// The numbers are no valid command: the kind or a register is out of range.
     BadCommand,
 }
 

@@ -1,5 +1,5 @@
 //! The C interface of `vezhnake`. include/vezhnake.h declares these functions, and docs/LIBRARY.md has an example.
-//! Nothing checks that the arguments of a C caller are as their Rust types demand.
+//! Nothing checks that a C caller's arguments are valid values of the Rust types.
 #![tactic(auto)]
 
 ghost use Rattle.std.specs.Prelude.{◌≡◌};
@@ -20,7 +20,7 @@ use vezhnake_images::{
     RawInfo, build_bytes, check_bytes, describe_bytes, explain_bytes, explain_text,
 };
 
-/// Opens the image in these bytes. If `cache` is 0, all objects are kept in memory. Otherwise it is the capacity of a
+/// Opens the image in these bytes. If `cache` is 0, all objects are kept in memory; otherwise it is the capacity of a
 /// cache.
 #[unsafe(no_mangle)]
 pub extern "C" fn vezhnake_open(image: &[u8], cache: u64, handle: &mut Handle) -> u32
@@ -57,8 +57,8 @@ pub extern "C" fn vezhnake_answer(handle: &mut Handle, answer: &mut [u8], size: 
     handle.copy_answer(answer, size).number()
 }
 
-/// Copies the device calls that were recorded since the last call of this function. The host must carry them out in
-/// order before it trusts the answers.
+/// Copies the device calls since the last call of this function. The host must carry them out in order before it
+/// trusts the answers.
 #[unsafe(no_mangle)]
 pub extern "C" fn vezhnake_calls(handle: &mut Handle, calls: &mut [u8], size: &mut usize) -> u32
     ensures { (status : Status) × (result ≡ number_of status)
@@ -86,7 +86,8 @@ pub extern "C" fn vezhnake_serve(
     handle.serve(commands, replies, served).number()
 }
 
-/// Saves the present state: migrates what an earlier save left, then freezes, stabilizes, commits and migrates.
+/// Saves the present state: migrates what an earlier save left in the log, then freezes, stabilizes, commits
+/// and migrates.
 #[unsafe(no_mangle)]
 pub extern "C" fn vezhnake_save(
     handle: &mut Handle,
@@ -142,7 +143,7 @@ pub extern "C" fn vezhnake_close(handle: &mut Handle) -> u32
     handle.close().number()
 }
 
-/// Opens the image in these bytes, runs a script, and copies the answers and the calls of the device.
+/// Opens the image in these bytes, runs a script, and copies the answers and the device calls.
 #[unsafe(no_mangle)]
 pub extern "C" fn vezhnake_run(
     alloc: Global,

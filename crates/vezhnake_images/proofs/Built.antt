@@ -1,4 +1,4 @@
--- Why no image is built, and what is built.
+-- Why no image is built, and what a built one holds.
 use Rattle.vezhnake_images.proofs.Names.{ℕ, List, Some, true, refl, subst, sym, ap, arith, drop, length, take, drop-append_seam, take-append_seam, AreSectors}
 use Rattle.vezhnake_images.proofs.Names.{description_once, IsSame, IsDescription, Refuses, TellsNoSize, plan_for, Description}
 use Rattle.vezhnake_images.proofs.Names.{BuildFault, limits_broken, Members, parse_document, IsBuiltOn, IsImageOf, IsRead, PutsImage}
@@ -6,7 +6,7 @@ use Rattle.vezhnake_images.proofs.Names.{RefusesTable, RefusesText, ImageDevice,
 use Rattle.std.proofs.Common.{◌≡◌, ◌≤◌, ◌<◌, ◌*◌, ◌++◌}
 use Rattle.description.specs.declared.fault.BuildFault.TheVariants as build
 
--- the status for a table that can't be read as a description
+-- if a table can't be read, or is outside the limits, its status says so
 sizeless : (table : Members) (fault : BuildFault) → TellsNoSize table fault → RefusesTable table (built_by fault)
 sizeless table build.Shape told = (omega arith, 0, told)
 sizeless table build.Limits told = (omega arith, 0, (told.0, told.1, limits_broken told.0 0 told.2))
@@ -18,13 +18,13 @@ sizeless table build.Owner told = absurd told
 sizeless table build.Small told = absurd told
 sizeless table build.Failed told = absurd told
 
--- descriptions of the same table have the same plan
+-- all descriptions of a table have the same plan
 same_plan : (table : Members) (d e : Description) → IsDescription table d → IsDescription table e → plan_for d ≡ plan_for e
 same_plan table d e first second =
     let same : IsSame d e = description_once table d e first second in
     rw (same.layout, same.geometry, same.ranges) refl
 
--- why an image isn't built on a device of the right size that doesn't fail
+-- if a device of the right size didn't fail, the status says why its image was refused
 pub unbuilt : (table : Members) (b : Description) (old new : ImageDevice) (fault : BuildFault) → IsDescription table b
     → (image_disk old).sectors ≡ (plan_for b).total → Refuses table (image_disk old).sectors fault
     → (fault ≡ build.Failed → (image_disk old).failures < (image_disk new).failures) → RefusesTable table (built_by fault)
@@ -44,7 +44,7 @@ unbuilt table b old new build.Failed is size refuses works =
     absurd (omega (arith, rises, none))
 unbuilt table b old new build.NoMemory is size refuses works = tt
 
--- a text whose table can't be read as a description
+-- if the table of a text can't be read as a description, the text's status says so
 pub unread : (text : List ℕ) (table : Members) (fault : BuildFault) → parse_document text ≡ Some table → TellsNoSize table fault
     → RefusesText text (built_by fault)
 unread text table build.Shape is told = (table, is, sizeless table build.Shape told)
@@ -60,7 +60,7 @@ unread text table build.Failed is told = absurd told
 pub in_bytes : (sectors total : ℕ) → sectors ≡ total → sectors * 512 ≡ 512 * total
 in_bytes sectors total same = omega (arith, same)
 
--- the image of a description is in front of the buffer
+-- if the sectors of a built image were copied to the front of the buffer, the buffer has the image
 pub image_put : (text old part : List ℕ) (d : Description) (device : ImageDevice) → (read : IsRead text d)
     → ((table : Members) → IsDescription table d → IsBuiltOn table (plan_for d).total device) → length part ≡ 512 * (plan_for d).total
     → AreSectors (image_disk device).seen 0 part → length part ≤ length old →

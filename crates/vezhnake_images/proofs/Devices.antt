@@ -1,4 +1,4 @@
--- Devices in memory: what one holds, and that it doesn't fail.
+-- Devices in memory: what they hold, and that they don't fail.
 use Rattle.vezhnake_images.proofs.Names.{ℕ, List, length, sym, subst, arith, Agrees, image_of, sectors_of, OpenFault, RefusesToOpen, ImageDevice, IsOver}
 use Rattle.vezhnake_images.proofs.Names.{RefusesBytes, image_disk, status_by, ImageStatus}
 use Rattle.std.proofs.Common.{◌≡◌, ◌<◌, ◌*◌, ◌/◌, ◌%◌}
@@ -18,7 +18,7 @@ pub blank : (bytes : List ℕ) (sectors : ℕ) (d : ImageDevice) → length byte
     (image_disk d).sectors ≡ sectors
 blank bytes sectors d size over = let is = over.size in omega arith
 
--- the reason why a device over bytes wasn't opened holds of the bytes
+-- if a device over these bytes couldn't be opened, the bytes are refused with this status
 reason_of : (bytes : List ℕ) (d back : ImageDevice) (why : OpenFault) → IsOver bytes d → RefusesToOpen image_disk d back why
     → RefusesBytes bytes (status_by why)
 reason_of bytes d back fault.Failed over refuses =

@@ -1,4 +1,4 @@
--- The sizes and counts of an image, by its store and by its device.
+-- The sizes and counts of an image are those of its store.
 use Rattle.vezhnake_images.proofs.Names.{[], ℕ, List, ap, sym, arith, map, take, drop, length, replicate, slice_index_or, drop-drop, drop-replicate}
 use Rattle.vezhnake_images.proofs.Names.{drop-set-lt, length-set, map-append, take-append-drop, take_all, take_more, take_more_set, slice_set, HaveTheirRoles}
 use Rattle.vezhnake_images.proofs.Names.{kept_of, Checkpoint, SavedState, Plan, headers, world_at, ObjectHeader, Role, role_counted, headers_with, objects_with}
@@ -14,7 +14,7 @@ info_saved p reported s hs plan generation age entries are roles =
     λ (r : Role). ap (λ (ks : List ObjectHeader). headers_with r ks) are ∙ role_counted s.frames s.header.age r roles in
     rw (plan, generation, age, entries, same role.Free, same role.Page, same role.Node, same role.Root, same role.Bank) refl
 
--- the first ranges are put, and the others are zeros
+-- the first i ranges are in place, and the other rows are 0
 pub record ArePut (i : ℕ) (ranges : List HomeRange) (raw : List RawRange) : Type 0 where
   pub put : take i raw ≡ map raw_range (take i ranges)
   pub rest : drop i raw ≡ drop i (replicate 8 no_range)

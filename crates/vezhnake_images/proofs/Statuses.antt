@@ -6,7 +6,7 @@ use Rattle.std.proofs.Common.{◌≡◌}
 unfoldable use Rattle.toml.specs.Parse.{parse_document}
 use Rattle.vezhnake_images.specs.declared.image_status.ImageStatus.TheVariants as status
 
--- a status that is neither success nor a buffer that is too small
+-- a status with a reason to refuse is neither `Done` nor `SmallBuffer`
 refused : (Fits : Bool → Type 0) (Refuses : ImageStatus → Type 0) → (Refuses status.Done → ⊥) → (Refuses status.SmallBuffer → ⊥) →
     (s : ImageStatus) → Refuses s → Answered Fits Refuses s
 refused Fits Refuses done small status.Done is = absurd (done is)
@@ -31,7 +31,7 @@ pub unbuilt_text : (text old : List ℕ) (size : ℕ) (s : ImageStatus) → Refu
 unbuilt_text text old size s is = refused (PutsImage text old old size) (λ r. RefusesText text r × (old ≡ old) × (size ≡ size))
     (λ both. both.0.2) (λ both. both.0.2) s (is, refl, refl)
 
--- a text is refused for the reason for which its table is
+-- if a text's table is refused, the text is refused with the same status
 pub refused_table : (text : List ℕ) (table : Members) (s : ImageStatus) → parse_document text ≡ Some table → RefusesTable table s →
     RefusesText text s
 refused_table text table status.Done read is = absurd is
@@ -43,7 +43,7 @@ refused_table text table status.Failed read is = absurd is
 refused_table text table status.NotToml read is = absurd is
 refused_table text table (status.BadDescription why) read is = (table, read, is)
 
--- the line about what is found is copied out
+-- if the line about what was found is copied out, the image is explained
 pub explained_by : (bytes line old new : List ℕ) (size_old size : ℕ) (found : Option ImageFault) (s : ImageStatus) → IsFound bytes found
     → line ≡ explanation_text found → Answered (λ fits. CopiesOut line old new size fits) (λ r. ⊥) s →
     ExplainsBytes bytes old new size_old size s

@@ -1,4 +1,4 @@
--- The text about the bytes of an image, and what is found about them.
+-- The texts about the bytes of an image.
 use Rattle.vezhnake_images.proofs.Names.{ℕ, List, Some, Option, Ok, IsDescription, Description, described_has_text, CanBeSpelled, Explains, ImageFault}
 use Rattle.vezhnake_images.proofs.Names.{IsDescriptionOf, IsReadFrom, Members, ImageDevice, IsOver, image_disk, IsFound, IsTextFor}
 use Rattle.std.proofs.Common.{◌≡◌}

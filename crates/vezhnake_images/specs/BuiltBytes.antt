@@ -1,4 +1,4 @@
--- The bytes of an image that is built from a description's text, and why none is.
+-- The image that is built from a description's text, as bytes, and why none is built.
 use Rattle.std.specs.Prelude.{◌≡◌, ◌⊎◌, ◌≤◌, ◌<◌, ◌*◌, ℕ, Bool, true, false, List, None, Some, drop, length, take}
 use Rattle.std.specs.Prelude.{IsUtf8}
 use Rattle.description.specs.Faults.{fault_number}
@@ -14,29 +14,29 @@ use Rattle.vezhnake_images.specs.ImageStatuses.{Answered}
 use Rattle.vezhnake_images.specs.declared.image_status.ImageStatus.{ImageStatus}
 use Rattle.vezhnake_images.specs.declared.image_status.ImageStatus.TheVariants as status
 
--- the text is that of this description
+-- the text is read as this description
 abbrev pub IsRead : List ℕ → Description → Type 0
 IsRead text d = (table : Members) × (parse_document text ≡ Some table) × IsDescription table d
 
--- why there is no image of a table on a device that is large enough
+-- why no image of a table is built on a device that is large enough
 abbrev pub RefusesTable : Members → ImageStatus → Type 0
 RefusesTable table (status.BadDescription fault) = (fault_number fault ≤ 6) × (sectors : ℕ) × Refuses table sectors fault
 RefusesTable table status.NoMemory = Unit {0}
 RefusesTable table _ = ⊥
 
--- why there is no image of a text
+-- why no image of a text is built
 abbrev pub RefusesText : List ℕ → ImageStatus → Type 0
 RefusesText text status.NotToml = (IsUtf8 text → ⊥) ⊎ (parse_document text ≡ None)
 RefusesText text status.NoMemory = Unit {0}
 RefusesText text refused = (table : Members) × (parse_document text ≡ Some table) × RefusesTable table refused
 
--- the image of a table was built on a device of this size
+-- the image of a table was built on a device of this size, which is now d
 pub record IsBuiltOn (table : Members) (sectors : ℕ) (d : ImageDevice) : Type 0 where
   pub before : ImageDevice
   pub built : BuildsFrom table (image_disk before) (image_disk d)
   pub size : (image_disk d).sectors ≡ sectors
 
--- bytes are the image of a text's description, and no more
+-- the bytes are exactly the image of the text's description
 pub record IsImageOf (text bytes : List ℕ) : Type 0 where
   pub description : Description
   pub table : Members
@@ -47,14 +47,14 @@ pub record IsImageOf (text bytes : List ℕ) : Type 0 where
   pub size : length bytes ≡ 512 * (plan_for description).total
   pub bytes_are : AreSectors (image_disk device).seen 0 bytes
 
--- the buffer begins with the image of a text's description; or the image is longer, and its length was written
+-- if the image of the text's description fits, the buffer begins with it; else its length was written
 abbrev pub PutsImage : List ℕ → List ℕ → List ℕ → ℕ → Bool → Type 0
 PutsImage text old new size true = IsImageOf text (take size new) × (size ≤ length old) × (drop size new ≡ drop size old)
 PutsImage text old new size false =
     ((d : Description) × IsRead text d × IsWithinLimits d × (size ≡ 512 * (plan_for d).total))
     × (length old < size) × (new ≡ old)
 
--- the image is put into the buffer; or is longer than it; or the status says why there is none
+-- the image was put into the buffer; or it is longer than the buffer; or the status says why there is none
 abbrev pub BuildsBytes : List ℕ → List ℕ → List ℕ → ℕ → ℕ → ImageStatus → Type 0
 BuildsBytes text old new size_old size =
     Answered (PutsImage text old new size) (λ refused. RefusesText text refused × (new ≡ old) × (size ≡ size_old))

@@ -1,4 +1,4 @@
--- What the bytes of an image hold, and why they are refused.
+-- What the bytes of an image hold, and why bytes are refused.
 use Rattle.std.specs.Prelude.{◌≡◌, ◌≢◌, ◌⊎◌, ◌<◌, ℕ, ◌*◌, ◌%◌, List, length}
 use Rattle.device.specs.Calls.{Agrees, image_of}
 use Rattle.device.specs.Disk.{Disk}
@@ -12,10 +12,11 @@ use Rattle.vezhnake_images.specs.declared.image_status.ImageStatus.{ImageStatus}
 use Rattle.vezhnake_images.specs.declared.image_status.ImageStatus.TheVariants as status
 use Rattle.vezhnake_images.specs.declared.no_file.NoFile.{NoFile}
 
--- a device in memory; the same as a disk
+-- a device in memory
 abbrev pub ImageDevice : Type 0
 ImageDevice = CopiedFile NoFile ghosts
 
+-- a device in memory, as a disk
 abbrev pub image_disk : ImageDevice → Disk
 image_disk d = file_disk d
 
@@ -24,11 +25,11 @@ pub record IsOver (bytes : List ℕ) (d : ImageDevice) : Type 0 where
   pub size : 512 * (image_disk d).sectors ≡ length bytes
   pub seen : Agrees (image_disk d).seen (image_of bytes)
 
--- the bytes save this state
+-- the image in these bytes saves this state
 abbrev pub SavesState : List ℕ → SavedState → Type 0
 SavesState bytes s = (d : ImageDevice) × (back : ImageDevice) × IsOver bytes d × ReadsSaved image_disk d back s
 
--- why bytes are no image that a run opens
+-- why a run doesn't open the image in these bytes
 abbrev pub RefusesBytes : List ℕ → ImageStatus → Type 0
 RefusesBytes bytes (status.Bad reason) =
     (d : ImageDevice) × IsOver bytes d × IsBad (image_disk d).sectors (image_disk d).seen reason

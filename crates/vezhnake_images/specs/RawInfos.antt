@@ -1,4 +1,4 @@
--- What an image has, as numbers.
+-- The sizes and counts of an image, as numbers.
 use Rattle.std.specs.Prelude.{ℕ, ◌-◌, ◌++◌, List, length, map, replicate}
 use Rattle.checkpoint.specs.declared.committed.Checkpoint.{Checkpoint}
 use Rattle.layout.specs.Superblock.{Plan, version_number}
@@ -10,18 +10,19 @@ use Rattle.queries.specs.Info.{objects_with}
 use Rattle.vezhnake_images.specs.declared.raw_info.RawInfo.{RawInfo}
 use Rattle.vezhnake_images.specs.declared.raw_info.RawRange.{RawRange}
 
--- the numbers of a home range
+-- a home range as numbers
 abbrev pub raw_range : HomeRange → RawRange
 raw_range r = record { first = r.first; count = r.count }
 
+-- an unused row
 abbrev pub no_range : RawRange
 no_range = record { first = 0; count = 0 }
 
--- the numbers of home ranges, and zeros after them
+-- the home ranges as numbers, then unused rows
 abbrev pub raw_ranges : List HomeRange → List RawRange
 raw_ranges ranges = map raw_range ranges ++ replicate (8 - length ranges) no_range
 
--- what the image of a plan has with a checkpoint; `count` says how many objects of each role it has
+-- the numbers of an image with this plan and checkpoint; `count` gives the number of objects of each role
 abbrev pub info_with : Plan → Checkpoint → (Role → ℕ) → RawInfo
 info_with p saved count = record {
   layout = version_number p.version;
@@ -41,7 +42,7 @@ info_with p saved count = record {
   ranges = raw_ranges p.ranges;
 }
 
--- what the image of a plan has if it saves this; a process is counted by its root
+-- the numbers of an image with this plan and saved state; a process counts once, by its root
 abbrev pub info_of : Plan → Saved → RawInfo
 info_of p saved = info_with p
     (record { generation = saved.generation; age = saved.world.age; entries = saved.entries })

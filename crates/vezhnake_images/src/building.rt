@@ -72,7 +72,7 @@ fn blueprint_of(alloc: Global, text: &[u8]) -> Result<Blueprint, ImageStatus>
     }
 }
 
-// Returns a device with exactly the image of a description.
+// Returns a device that holds exactly the image of a description.
 #[tactic(auto, using(crate::proofs::Built::unbuilt))]
 fn build_device(alloc: Global, blueprint: &Blueprint) -> Result<ImageDevice, ImageStatus>
     ensures ok { (table : Members) → IsDescription table blueprint.now
@@ -102,8 +102,13 @@ fn read_all(device: &mut ImageDevice, bytes: &mut [u8])
 
 /// Builds the image of the description in a text, and copies it to the buffer. Sets `size` to its length.
 ///
-/// Returns `NotToml`, or `BadDescription` with the least rule that the description breaks. Returns `SmallBuffer` if
-/// the image doesn't fit. After an error the buffer is unchanged.
+/// Returns:
+/// - `NotToml`: the text isn't UTF-8, or isn't TOML;
+/// - `BadDescription`: with the first rule that the description breaks;
+/// - `NoMemory`: memory ran out;
+/// - `SmallBuffer`: the image doesn't fit.
+///
+/// After an error the buffer is unchanged.
 #[tactic(auto, using(crate::proofs::Statuses::unbuilt_text))]
 pub fn build_bytes(alloc: Global, text: &[u8], image: &mut [u8], size: &mut usize) -> ImageStatus
     ensures { BuildsBytes text.now image.old image.new size.old size.new result }

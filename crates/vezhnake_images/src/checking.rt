@@ -26,7 +26,7 @@ fn info_in(alloc: Global, image: &[u8]) -> Result<RawInfo, ImageStatus>
     }
 }
 
-/// Opens the image in these bytes as a run does, and puts its sizes and counts into `info`.
+/// Opens the image in these bytes as a run does, and writes its sizes and counts to `info`.
 ///
 /// Returns `BadSize`, or `Bad` with the least of the ten reasons to refuse an image. After an error `info` is
 /// unchanged.

@@ -44,8 +44,8 @@ fn copy_line(line: &[u8], buffer: &mut [u8], size: &mut usize) -> ImageStatus
 }
 
 /// Copies the line that `eros explain` prints about an image to the buffer, without its newline, and sets `size` to
-/// its length. The line is `ok`, or has the place that breaks a rule, what is wrong there, and the reason of
-/// `check_bytes`.
+/// its length. The line is `ok`, or names the place that breaks a rule, what is wrong there, and the reason that
+/// `check_bytes` returns.
 ///
 /// Returns `SmallBuffer` if the line doesn't fit; `BadSize` as `check_bytes` does. After an error the buffer is
 /// unchanged.
@@ -65,8 +65,8 @@ pub fn explain_bytes(
 }
 
 /// Copies the line that `eros explain` prints about a description to the buffer, without its newline, and sets `size`
-/// to its length. The line is `ok`, or has the place of the first mistake, what is wrong there, and the fault of
-/// `build_bytes`.
+/// to its length. The line is `ok`, or names the place of the first mistake, what is wrong there, and the fault that
+/// `build_bytes` returns.
 ///
 /// Returns `NotToml` if the text isn't UTF-8; `SmallBuffer` if the line doesn't fit. After an error the buffer is
 /// unchanged.

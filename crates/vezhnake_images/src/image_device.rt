@@ -8,7 +8,7 @@ use device::{MAX_SECTORS, SECTOR_SIZE};
 use devices::{CopiedFile, SectorCopy};
 use std::alloc::{AllocError, Global};
 
-/// A device in memory. No call of it fails.
+/// A device in memory. None of its calls fails.
 pub type ImageDevice = CopiedFile<NoFile>;
 
 // Returns a device with a copy of these bytes. Fails only if memory runs out.
@@ -38,7 +38,7 @@ pub(crate) fn device_over(alloc: Global, image: &[u8]) -> Result<ImageDevice, Im
     }
 }
 
-/// Returns a device of zeros. Fails only if memory runs out.
+/// Returns a device whose sectors are zeros. Fails only if memory runs out.
 #[tactic(auto, using(crate::proofs::Devices::blank))]
 pub(crate) fn blank_device(alloc: Global, sectors: u64) -> Result<ImageDevice, AllocError>
     requires { sectors ≤ 131072 }

@@ -1,4 +1,4 @@
-// The file beneath a device that is in memory only.
+// The file beneath a device in memory.
 ghost use Rattle.std.specs.Prelude.{◌≡◌};
 ghost use Rattle.vezhnake.specs.Steps.{fresh};
 
@@ -6,7 +6,7 @@ use device::Failed;
 use devices::SectorFile;
 use vezhnake::{History, Step};
 
-/// The file beneath a device that is in memory only. It stores nothing, and no call of it fails.
+/// The file beneath a device in memory. It stores nothing, and none of its calls fails.
 #[derive(Drop)]
 pub struct NoFile {
     history: History,
@@ -14,7 +14,7 @@ pub struct NoFile {
 }
 
 impl NoFile {
-    /// Returns the file of a device that holds these bytes, on which no call was made yet.
+    /// Returns the file beneath a device that holds these bytes, before any call.
     pub fn new(bytes: &[u8]) -> NoFile
         ensures { result.history ≡ fresh bytes.now }
     {

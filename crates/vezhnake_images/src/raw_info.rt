@@ -25,7 +25,7 @@ pub struct RawRange {
 pub struct RawInfo {
     /// The version of the layout.
     pub layout: u64,
-    /// The number of nodes, of pages, and of slots in a half of the log; the sectors of the image.
+    /// The numbers of nodes, of pages and of slots in a half of the log; the sectors of the image.
     pub nodes: u64,
     pub pages: u64,
     pub log: u64,

@@ -8,7 +8,7 @@ use crate::sectors::reading::number_at;
 use layout::{ENTRY_BYTES, Entry};
 use model::Geometry;
 
-/// Reads the entries of a directory, and doesn't check them.
+/// Reads the entries of a directory, without checking them.
 pub(crate) fn read_entries(bytes: &[u8], into: &mut [Entry])
     requires { length bytes.now ≡ 16 * length into.old }
     ensures bytes { bytes.now ≡ directory_bytes into.new }
@@ -24,7 +24,7 @@ pub(crate) fn read_entries(bytes: &[u8], into: &mut [Entry])
     }
 }
 
-// Returns the first entry before `index` with this slot, or `None`.
+// Returns the first entry before `index` that has this slot, or `None`.
 fn slot_before(entries: &[Entry], index: usize, slot: u64) -> Option<usize>
     requires { index ≤ length entries.now }
     ensures some { IfSome result (λ j. (j < index) × ((entry_at entries.now j).slot ≡ slot)) }
@@ -38,7 +38,7 @@ fn slot_before(entries: &[Entry], index: usize, slot: u64) -> Option<usize>
     None
 }
 
-// Returns what is wrong with an entry, in itself or compared with those before it; or `None`.
+// Returns what is wrong with an entry, by itself or together with those before it, or `None`.
 fn entry_part(geometry: Geometry, entries: &[Entry], index: usize) -> Option<DirectoryPart>
     requires index { index < length entries.now }
     requires fits { AllFitting entries.now }

@@ -1,6 +1,7 @@
-// The faults in the sectors of an image, and their places.
+// The faults of an image's sectors, with their places.
 
-/// What is wrong in the sectors of an image: the least of the reasons 1 to 7 that holds, and the place.
+/// What is wrong with the sectors of an image: the least of the reasons 1 to 7 that applies, and the
+/// place.
 #[derive(Clone, Copy)]
 pub enum SectorFault {
     /// There are fewer sectors than the image needs.
@@ -12,14 +13,14 @@ pub enum SectorFault {
     Superblock(SuperblockPart),
     /// A field of the superblock is outside its limits.
     Geometry(GeometryPart),
-    /// No header counts. For each of the two slots, why its header doesn't.
+    /// No header counts. The fields say why the header in each slot doesn't.
     NoHeader(NotCounted, NotCounted),
-    /// The committed header is malformed; it lies in this sector.
+    /// The committed header, in this sector, is malformed.
     Header {
         sector: u64,
         part: HeaderPart,
     },
-    /// The directory of the committed header is malformed; it begins in this sector.
+    /// The directory of the committed header, which begins in this sector, is malformed.
     Directory {
         sector: u64,
         part: DirectoryPart,
@@ -48,7 +49,7 @@ pub enum GeometryPart {
     Pages(u64),
     Log(u64),
     Total(u64),
-    /// The home ranges or the halves of the log. All numbers above are within their limits.
+    /// The places of the home ranges or of the log. All numbers above are within their limits.
     Places,
 }
 
@@ -57,7 +58,7 @@ pub enum GeometryPart {
 pub enum NotCounted {
     /// Its gate is closed.
     Closed,
-    /// Its sequence number belongs in the other slot.
+    /// It lies in the wrong slot for its sequence number.
     Misplaced(u64),
 }
 
@@ -78,17 +79,17 @@ pub enum HeaderPart {
 /// What is wrong with a directory. Entries are numbered from 0.
 #[derive(Clone, Copy)]
 pub enum DirectoryPart {
-    /// There is no object with the number of this entry.
+    /// No object has the number of this entry.
     Object {
         entry: u64,
         object: u64,
     },
-    /// The log has no slot with the number of this entry.
+    /// The log has no slot with this entry's slot number.
     Slot {
         entry: u64,
         slot: u64,
     },
-    /// The object of this entry isn't greater than the object of the entry before it.
+    /// The object number of this entry isn't above that of the entry before it.
     Order {
         entry: u64,
         object: u64,
@@ -111,8 +112,8 @@ pub enum FramePart {
     Calls { count: u64, age: u64 },
     /// The count of the capability in a slot is greater than the age.
     Count { slot: u64, count: u64, age: u64 },
-    /// The bytes of a slot don't encode a capability that an image may hold.
+    /// The bytes of this slot don't encode a capability that an image may hold.
     Slot(u64),
-    /// The role, the owner and the body don't fit together, or a byte that must be 0 isn't.
+    /// The role, owner and body don't fit together, or a byte that must be 0 isn't.
     Body,
 }

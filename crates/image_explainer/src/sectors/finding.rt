@@ -71,8 +71,8 @@ fn find_header(
     )
 }
 
-// Reads the directory of the committed header into `entries`, which must have as many as the header says. Breaks with
-// what is wrong with the directory.
+// Reads the directory of the committed header into `entries`, which must be as long as the directory. Breaks with
+// what is wrong with the directory, if anything is.
 fn find_directory(
     bytes: &[u8],
     size: u64,
@@ -103,7 +103,7 @@ fn find_directory(
     }
 }
 
-// Returns which part of the frame of an object is malformed, or `None`. `sector` is where the frame's block begins.
+// Returns the malformed part of an object's frame, or `None`. The frame's block begins at `sector`.
 fn find_at(
     bytes: &[u8],
     sector: u64,
@@ -129,7 +129,7 @@ fn find_at(
     }
 }
 
-// If the saved frame of an object is malformed, breaks with what is wrong with it. This is the image's fault if all
+// Breaks with what is wrong with the saved frame of an object, if anything is. This is the image's fault if all
 // frames before it are valid.
 fn find_frame(
     bytes: &[u8],
@@ -190,8 +190,8 @@ fn find_frames(
     ControlFlow::Continue(())
 }
 
-/// Breaks with what is wrong with the sectors of an image, by the least of the reasons 1 to 7 that holds. `bytes` is
-/// a copy of all sectors; `entries` must have space for the largest directory.
+/// Breaks with what is wrong with the sectors of an image, if anything is: the least of the reasons 1 to 7 that
+/// applies. `bytes` is a copy of all sectors; `entries` has space for the largest directory.
 pub fn find_in_sectors(
     bytes: &[u8],
     size: u64,

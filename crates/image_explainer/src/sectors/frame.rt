@@ -13,10 +13,11 @@ use crate::sectors::reading::number_at;
 use layout::{CAPABILITY_BYTES, Scratch, decode_capability, decode_frame};
 use model::Geometry;
 
-// Where the first slot of a node's frame begins.
+// The byte of a node's frame at which the first slot begins.
 const SLOTS_AT: usize = 32;
 
-// Returns the first slot of a node's frame that doesn't encode a capability which an image may hold, or `None`.
+// Returns the first slot of a node's frame whose bytes aren't those of a capability that an image may hold, or
+// `None`.
 fn find_slot(bytes: &[u8], geometry: Geometry, age: u64) -> Option<u64>
     requires { length bytes.now ≡ 1024 }
     ensures some { IfSome result (IsBadSlot geometry age bytes.now) }
@@ -32,7 +33,8 @@ fn find_slot(bytes: &[u8], geometry: Geometry, age: u64) -> Option<u64>
     None
 }
 
-// Returns the malformed part of a node's frame after its header: the first bad slot, else the body.
+// Returns the malformed part of a node's frame after its header: the first bad slot, or else the
+// body.
 fn slots_part(bytes: &[u8], geometry: Geometry, age: u64) -> FramePart
     requires { length bytes.now ≡ 1024 }
     ensures { BreaksSlots geometry age bytes.now result }
@@ -48,7 +50,8 @@ fn slots_part(bytes: &[u8], geometry: Geometry, age: u64) -> FramePart
     }
 }
 
-// Returns the malformed part of a frame that an image may not hold: first its counts, then its slots.
+// Returns the malformed part of a frame that an image may not hold. Its counts come first, then its
+// slots.
 fn frame_part(bytes: &[u8], geometry: Geometry, number: u64, age: u64) -> FramePart
     requires { length bytes.now ≡ 512 * frame_length geometry number }
     ensures { BreaksFrame geometry age number bytes.now result }

@@ -31,7 +31,7 @@ fn why_not(header: &[u8], gate: &[u8], slot: u64) -> Option<NotCounted>
     None
 }
 
-// Returns which part of a header is outside its limits, if a half of the log has `log` slots.
+// Returns the first part of a header that is outside its limits. A half of the log has `log` slots.
 fn header_part(bytes: &[u8], log: u64) -> HeaderPart
     requires size { length bytes.now ≡ 512 }
     requires refused { (h : CheckpointHeader) → IsHeader log h → bytes.now ≡ header_bytes h → ⊥ }
@@ -75,8 +75,8 @@ fn header_at(sector: u64, bytes: &[u8], log: u64) -> ControlFlow<SectorFault, Ch
     }
 }
 
-/// Continues with the committed one of two headers, each with its gate, or breaks with the reason why there is none.
-/// A half of the log has `log` slots.
+/// Continues with the committed one of two headers, which have these gates, or breaks with why there is none. A half
+/// of the log has `log` slots.
 pub(crate) fn choose(
     first: &[u8],
     first_gate: &[u8],

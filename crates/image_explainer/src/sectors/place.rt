@@ -11,7 +11,7 @@ use ckpt_log::Log;
 use home_ranges::Home;
 use layout::{CheckpointHeader, Entry, Superblock};
 
-// Returns the slot that a directory gives to an object, or `None`.
+// Returns the slot in an object's directory entry, or `None` if it has none.
 fn slot_in(entries: &[Entry], number: u64) -> Option<u64>
     ensures value { result ≡ slot_in entries.now number }
     ensures held { IfSome result (IsSlotOf entries.now) }
@@ -24,7 +24,7 @@ fn slot_in(entries: &[Entry], number: u64) -> Option<u64>
     None
 }
 
-// Returns the slot of the first entry that shares the home of an object, or `None`.
+// Returns the slot of the first entry whose object shares this object's home, or `None`.
 fn slot_beside(plan: &Superblock, entries: &[Entry], number: u64) -> Option<u64>
     requires entries { All (IsEntry plan.now.geometry) entries.now }
     requires object { IsObject plan.now.geometry number }
@@ -41,7 +41,7 @@ fn slot_beside(plan: &Superblock, entries: &[Entry], number: u64) -> Option<u64>
     None
 }
 
-// Returns the slot that holds the frame of an object, or `None` if the frame is at home.
+// Returns the log slot that holds an object's frame, or `None` if the frame is at home.
 fn frame_slot_in(plan: &Superblock, entries: &[Entry], number: u64) -> Option<u64>
     requires entries { All (IsEntry plan.now.geometry) entries.now }
     requires object { IsObject plan.now.geometry number }
@@ -54,8 +54,8 @@ fn frame_slot_in(plan: &Superblock, entries: &[Entry], number: u64) -> Option<u6
     }
 }
 
-/// Returns the first sector of the saved frame of an object: in the slot of its entry, else in that of the first
-/// entry that shares its home, else at home.
+/// Returns the first sector of an object's saved frame. It is in the slot of the object's entry; else in the
+/// slot of the first entry that shares its home; else at home.
 pub(crate) fn frame_sector(
     plan: &Superblock,
     header: CheckpointHeader,

@@ -61,7 +61,7 @@ fn geometry_part(bytes: &[u8]) -> GeometryPart
     }
 }
 
-/// Continues with the superblock in a sector, or breaks with the reason why there is none.
+/// Continues with the superblock in a sector, or breaks with why there is none.
 pub(crate) fn superblock_in(bytes: &[u8]) -> ControlFlow<SectorFault, Superblock>
     requires { length bytes.now ≡ 512 }
     ensures { MatchControlFlow result (λ s. IsPlan s × (bytes.now ≡ superblock_bytes s))

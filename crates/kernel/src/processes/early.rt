@@ -8,8 +8,8 @@ use capability::{Frames, roots};
 use device::Failed;
 use model::Refusal;
 
-/// Why a process can't act: `NoProcess` or `NotRunning`, or `None` if it runs. `NoProcess` leaves the
-/// store untouched. Fails exactly if the device fails.
+/// Returns why a process can't act: `NoProcess` or `NotRunning`, or `None` if it runs. `NoProcess`
+/// leaves the store untouched. Fails exactly if the device fails.
 #[tactic(auto, using(gate::proofs::Standing::keepable_most))]
 pub fn early<F: Frames>(store: &mut F, process: u64) -> Result<Option<Refusal>, Failed>
     requires usable { F.IsUsable store.old }

@@ -14,7 +14,8 @@ use device::Failed;
 use model::{Invocation, Refusal, ResultCode};
 use space_bank::Banks;
 
-// Refuses an invocation at the greatest age: by `Worn`, if the process runs.
+// Returns the refusal of an invocation at the greatest age: `Worn` if the process runs, else why it
+// can't act.
 #[inline(never)]
 fn refuse_worn<F: Frames>(store: &mut F, invocation: &Invocation) -> Refusal
     requires usable { F.IsUsable store.old }
@@ -34,14 +35,13 @@ fn refuse_worn<F: Frames>(store: &mut F, invocation: &Invocation) -> Refusal
     }
 }
 
-/// Carries out an invocation by a process. If it is done, `age` rises by one, and the result is the
-/// result code of the order, or none through a gate.
+/// Carries out an invocation by a process, and raises `age` by one. Returns the result code of the order, or
+/// `None` if the capability was a start or resume capability. `banks` keeps the usage of each bank.
 ///
-/// A refusal but `Fault` changes nothing: the first that applies of `NoProcess`, `NotRunning`, `Worn` at the
-/// greatest age, `Stalled` and `LogFull`. `NoProcess` leaves the store untouched. `banks` keeps the
-/// usages of the banks as they are afterwards.
+/// A refusal changes nothing. It is the first that applies: `NoProcess` (the store is untouched),
+/// `NotRunning`, `Worn` at the greatest age, `Stalled`, `LogFull`.
 ///
-/// `Fault`: the device failed, and nothing is said of the objects.
+/// `Fault` if the device failed: then nothing is said of the objects.
 pub fn invoke<F: PresentFrames>(
     store: &mut F,
     banks: &mut Banks,

@@ -12,9 +12,9 @@ use model::{Answer, Refusal};
 
 /// Reads the word at an address in the address space of a process. The age stays.
 ///
-/// The answer is `Value`, or `MemoryFault` where the walk stops. It is refused by the first that
-/// applies of `NoProcess` and `NotRunning`, and nothing is changed; at `NoProcess` the store isn't
-/// touched. `Fault` exactly if the device failed; nothing is said of the objects then.
+/// Returns `Value`, or `MemoryFault` if the walk can't reach a page. A refusal changes nothing:
+/// `NoProcess` (the store is untouched), else `NotRunning`. `Fault` exactly if the device failed:
+/// then nothing is said of the objects.
 pub fn load<F: Frames>(store: &mut F, process: u64, address: u64) -> Result<Answer, Refusal>
     requires usable { F.IsUsable store.old }
     requires sound { (age : ℕ) × IsSoundFrames (F.parts store.old).geometry age (frames_of (F.parts store.old)) }
@@ -35,10 +35,10 @@ pub fn load<F: Frames>(store: &mut F, process: u64, address: u64) -> Result<Answ
 
 /// Writes a word at an address in the address space of a process. The age stays.
 ///
-/// The answer is `Done`, or `MemoryFault` if the walk stops or the page is read-only; a memory fault
-/// precedes `LogFull`. A refusal changes nothing: the first that applies of `NoProcess` (the store is
-/// untouched), `NotRunning` and `LogFull`. The counts of `Banks` stay right. `Fault` exactly if the
-/// device failed; nothing is said of the objects then.
+/// Returns `Done`, or `MemoryFault` if the walk can't reach a page or the page is read-only. A
+/// refusal changes nothing: the first that applies of `NoProcess` (the store is untouched),
+/// `NotRunning` and `LogFull`. A memory fault precedes `LogFull`. The counts of `Banks` stay right.
+/// `Fault` exactly if the device failed: then nothing is said of the objects.
 pub fn store<F: PresentFrames>(
     store: &mut F,
     process: u64,

@@ -1,4 +1,4 @@
-// An answer with the result code of its order.
+// An answer, with the result code of the order that was carried out.
 use model::{Answer, ResultCode};
 
 /// The answer to a command, and the result code of the order that it carried out.

@@ -14,7 +14,7 @@ use model::{Answer, Capability, Content, Description, Refusal, Shown, Slots};
 use space_bank::Banks;
 use std::alloc::Global;
 
-// The usage of a bank, and 0 for any other object.
+// Returns the usage of a bank, or 0 for any other object.
 fn used_by(banks: &Banks, content: &Content<Capability>, number: u64) -> u64
     ensures { result ≡ (if is_bank content.now then slice_index banks.now.usages number else 0) }
 {
@@ -24,7 +24,7 @@ fn used_by(banks: &Banks, content: &Content<Capability>, number: u64) -> u64
     }
 }
 
-// The registers of a process, by its annex.
+// Returns the registers of a process, read from its annex.
 fn registers_of<F: Frames>(
     alloc: Global,
     store: &mut F,
@@ -41,8 +41,8 @@ fn registers_of<F: Frames>(
     Ok(view::registers(alloc, store, annex)?)
 }
 
-// An object with what is shown beside it: the registers of a process, the usage of a bank. Stale
-// capabilities are void.
+// Returns an object as `show` answers it: with the registers of a process, the usage of a bank, and
+// void in place of stale capabilities.
 fn shown<F: Frames>(
     alloc: Global,
     store: &mut F,
@@ -73,10 +73,10 @@ fn shown<F: Frames>(
     Ok(Answer::Shown(Shown::new(alloc, description)?))
 }
 
-/// Shows the object with a number.
+/// Returns the answer to `show` of an object.
 ///
-/// It is refused by `BadNumber` if no object has the number, and the store isn't touched then; and by
-/// `NoMemory` if memory ran out. `Fault` exactly if the device failed.
+/// Refused with `BadNumber` if no object has the number (the store is untouched), and with `NoMemory`
+/// if memory ran out. `Fault` exactly if the device failed.
 pub fn show<F: Frames>(
     alloc: Global,
     store: &mut F,

@@ -2,7 +2,7 @@ use Rattle.description.proofs.Names.{map, members_view, first_unknown}
 use Rattle.std.proofs.Common.{◌≡◌}
 use Rattle.description.proofs.member.unknown_key.Given as goal
 
--- if there is an unknown key, the first one is among the keys left
+-- the first unknown key, if there is one, is among the keys left
 abbrev pub invariant-keys : goal.invariant-keys
 invariant-keys l =
     (goal.iterator-keys).can_next l.key-iterator

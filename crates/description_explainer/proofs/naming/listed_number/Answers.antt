@@ -2,7 +2,7 @@ use Rattle.description_explainer.proofs.Names.{arith, common_steps, List, option
 use Rattle.std.proofs.Common.{◌≡◌}
 use Rattle.description_explainer.proofs.naming.listed_number.Goals as goal
 
--- the number of an entry that is looked up, or 0
+-- the number of the item at index k, or 0 if there is none
 listed : {A : Type 0} (f : A → ℕ) (xs ys : List A) (k : ℕ) (r : Option (Bor A)) → IsItemAt ys k r → ys ≡ xs →
     unwrap_or (option_map (λ (x : Bor A). f x.now) r) 0 ≡ unwrap_or (option_map f (slice_get xs k)) 0
 listed f xs ys k r got is = grind (arith, common_steps, gets)

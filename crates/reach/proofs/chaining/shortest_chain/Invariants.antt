@@ -2,7 +2,7 @@ use Rattle.reach.proofs.Names.{ℕ, Option, Some, None, Found, found_at, is_memb
 use Rattle.reach.proofs.Chains.{IsBack}
 use Rattle.reach.proofs.chaining.shortest_chain.Given as goal
 
--- the level of what was found
+-- the level at which a number was found, or 0
 abbrev pub level_of : Option Found → ℕ
 level_of None = 0
 level_of (Some f) = f.level

@@ -1,4 +1,4 @@
--- `new` makes the empty struct, with the bytes that its clauses name.
+-- `new` makes the empty struct, whose ghost fields are those that its clauses name.
 use Rattle.vezhnake.proofs.Names.{[], length, refl, fresh}
 use Rattle.std.proofs.Common.{◌∷◌, ◌<◌, ◌^◌}
 use seplogic.Ra.Ura.{Ura}

@@ -1,4 +1,4 @@
--- `then` makes the empty struct, with the data that its clauses name.
+-- `then` makes the empty struct, whose ghost fields are those that its clauses name.
 use Rattle.vezhnake.proofs.Names.{List, [], refl, stepped}
 use Rattle.std.proofs.Common.{◌∷◌, ◌++◌}
 use seplogic.Ra.Ura.{Ura}

@@ -1,4 +1,4 @@
--- `from_parts` moves two fields and casts one, and what they own goes with them.
+-- `from_parts` moves two fields and casts one. The result owns what they owned.
 use mathlib.Core.Path.{refl, sym, subst}
 use Rattle.vezhnake.proofs.Names.{D, B, word, box_typed, box_out, box_in}
 use Rattle.std.specs.Prelude.{Some}

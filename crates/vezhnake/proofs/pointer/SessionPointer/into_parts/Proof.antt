@@ -1,4 +1,4 @@
--- `into_parts` moves two fields and casts one, and what they own goes with them.
+-- `into_parts` moves two fields and casts one. The parts own what the pointer owned.
 use mathlib.Core.Path.{refl, sym, subst}
 use Rattle.vezhnake.proofs.Names.{IsSome, D, B, word, box_typed, box_out, box_in}
 use Rattle.std.specs.Prelude.{Option, None, ◌≡◌, true, false, Some}
@@ -44,7 +44,7 @@ module _ {M : Type 1} {𝓤 : Ura M} (𝓛 : Logic 𝓤) (at_mem : Memory → SP
   abbrev Ghost : Type 0
   Ghost = (walk_of 𝓛 F.ended stayed (F.clauses 𝓛 at_mem run)).Ghost
 
-  -- the same with another session
+  -- what the pointer owns, with another session in its place
   abbrev with_session : Ghost → Option (Session.the_row).Denot → Ghost
   with_session z session = ((z.0.0, z.0.1, z.0.2, (record { ptr = z.0.3.0.ptr; alloc = z.0.3.0.alloc; session = session }, tt), z.0.4), z.1)
 
