@@ -2,7 +2,7 @@
 use Rattle.image_explainer.proofs.Names.{nat_tests, ℕ, List, ControlFlow, length, take, arith, MatchControlFlow, Image, Entry, CheckpointHeader, AllFitting}
 use Rattle.image_explainer.proofs.Names.{directory_bytes, HasHeader, HasPlan, directory_in, directory_sector, sectors_from, slot_sector, IsPlan, Plan}
 use Rattle.image_explainer.proofs.Names.{half_lies, fewer_entries, DirectoryPart, BreaksDirectory, IsFault, IsFirstEntry, directory_length}
-use Rattle.std.proofs.Common.{◌≡◌, ◌+◌, ◌-◌, ◌*◌, ◌/◌, ◌≤◌, ◌∙◌}
+use Rattle.std.proofs.Common.{◌≡◌, ◌+◌, ◌-◌, ◌*◌, ◌≤◌, ◌∙◌}
 use Rattle.image_explainer.specs.declared.sectors.fault.SectorFault.TheVariants as fault
 use Rattle.image_explainer.proofs.Directories.{no_spelling}
 
