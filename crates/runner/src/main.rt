@@ -195,7 +195,7 @@ fn shell_by<D: Device, S: ObjectStore<D>, R: Read + Drop, W: Output, V: Output +
     End::of_done(done)
 }
 
-// Does what a mode says with the image on a device, with a store of type `S`, and returns the end of the command.
+// Carries out a mode over the image on a device, with a store of type `S`. Returns the end of the command.
 fn run_in_mode<D: Device, S: ObjectStore<D>, R: Read + Drop, W: Output, V: Output + Drop>(
     rt: &HostRuntime,
     device: D,
@@ -241,8 +241,8 @@ fn run_in_mode<D: Device, S: ObjectStore<D>, R: Read + Drop, W: Output, V: Outpu
     }
 }
 
-// Does what `run_in_mode` does, with the store of a policy. Only this function names that store, because each place
-// that does compiles slowly.
+// Carries out a mode, as `run_in_mode` does, with the store of a policy. Only this function names that store, because
+// each function that names one compiles slowly.
 fn run_by_policy<D: Device, P: Policy, R: Read + Drop, W: Output, V: Output + Drop>(
     rt: &HostRuntime,
     device: D,
@@ -255,8 +255,8 @@ fn run_by_policy<D: Device, P: Policy, R: Read + Drop, W: Output, V: Output + Dr
     run_in_mode::<_, Store<_, P>, _, _, _>(rt, device, setting, script, mode, notes, streams)
 }
 
-// Does what `run_in_mode` does: with a bounded cache if there is a capacity, else with all objects
-// in memory.
+// Carries out a mode, as `run_in_mode` does: with a bounded cache if there is a capacity, else with
+// all objects in memory.
 fn run_with_cache<D: Device, R: Read + Drop, W: Output, V: Output + Drop>(
     rt: &HostRuntime,
     device: D,
@@ -332,7 +332,7 @@ fn check(rt: &HostRuntime, image: &str, format: Format, stdio: &mut Stdio) -> Re
 }
 
 /// Answers a query about the image on a device, and returns the end of the command. Only this function names a store
-/// type for `WholeStore`.
+/// type for `WholeStore`, because each function that names one compiles slowly.
 pub(crate) fn answer<D: Device, W: Output, V: Output>(
     rt: &HostRuntime,
     device: D,

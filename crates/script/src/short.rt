@@ -61,8 +61,8 @@ fn digit_at(text: &[u8], at: usize) -> Option<u64>
     Some(byte - FIRST_DIGIT)
 }
 
-// Returns an index up to which the digits from `at` on may reach: at most 19 of them, whose number
-// is below 2^64.
+// Returns where the search for digits from `at` on ends: 19 bytes later, or at the end of the text.
+// A number of 19 digits is below 2^64.
 #[inline(always)]
 fn digits_end(text: &[u8], at: usize) -> usize
     requires { at < length text.now }
