@@ -126,7 +126,7 @@ def described_document(document):
 # ---- scripts
 
 def acts(world, count):
-    """`count` commands, none of a checkpoint: most are invocations by the processes."""
+    """`count` commands other than those of checkpoints. Most are invocations by the processes."""
     chance, total = world.chance, world.size["nodes"] + world.size["pages"]
     held = {row["root"]: [place for place, _ in row.get("registers", [])] for row in world.document["process"]}
     roots = [root for root, state in world.states.items() if state == "running"] or [*held]

@@ -15,7 +15,7 @@ OUTCOMES, OPENING = ("keep", "drop", "0", "1", "255"), ("keep", "1")
 CAPABILITIES = "void number page node space process start resume bank discrim".split()
 ACCESSES = {0: "", 1: " ro", 3: " weak"}
 
-# The words behind a command's name: n is a number, r a register.
+# The words after a command's name: n is a number, r a register.
 INVOCATION = "nrnnnnrrrr"
 FORMS = {
     b"call": INVOCATION, b"return": INVOCATION, b"send": INVOCATION, b"load": "nn", b"store": "nnn", b"show": "n", b"evict": "n",

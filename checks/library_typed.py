@@ -106,7 +106,7 @@ def by_rust(folder, archive):
 
 
 def try_saves(image):
-    """A save stops at the first stage that is refused, and names it. A command that is none changes nothing."""
+    """A save stops at the first stage that is refused, and names it. An invalid command changes nothing."""
     with vezhnake.Machine(vezhnake.MemoryStorage(image)) as machine:
         first = machine.page(40)
         machine.checkpoint()

@@ -33,7 +33,7 @@ def rows_of(file):
 
 
 def names_places(lines):
-    """Whether lines name bytes of an image, which lie elsewhere by another version of the layout."""
+    """Whether lines name bytes of an image. Their places differ between the versions of the layout."""
     return any(it.startswith((*PLACED, LAYOUT)) for it in lines)
 
 

@@ -95,8 +95,8 @@ def looked_at(lines, count):
 
 
 def machine_of(lines, first, printed):
-    """The machine after a script, and the answers to its lines. The script began at `first`; `printed` are the answers to it with what
-    `looked_at` adds."""
+    """The machine after a script, and the answers to its lines. The script began at `first`. `printed` are the answers to it and to the
+    lines that `looked_at` adds."""
     machine, answers, given = Machine(first, first.age, first.entries), Answers(printed), []
     for line in lines:
         said = answers.take(line)

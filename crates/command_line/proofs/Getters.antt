@@ -34,7 +34,7 @@ pub missing_all : (f : Found) (id : Text) (o : Option (Bor (List (Bor Text)))) �
     → o ≡ None → all_of id (rows_of f) ≡ None
 missing_all f id o got is = sym (raw_values-rows f id) ∙ (sym got ∙ ap (option_map (λ s. map (λ v. v.now) s.now)) is)
 
--- if P holds of whatever an option holds, it holds of the value in it
+-- if P holds of an option's value, and the option is `Some x`, P holds of x
 pub held : {X : Type 0} (P : X → Type 0) (o : Option X) (x : X) → IfSome o P → o ≡ Some x → P x
 held P None x holds is = let bad : None ≡ Some x = is in cc
 held P (Some y) x holds is = let same : y ≡ x = ap (λ (o : Option _). unwrap_or o y) is in subst P same holds

@@ -56,7 +56,7 @@ all_own (a ∷ c) simple =
     let rest = both (not (list_any (λ b. bytes_eq b.id a.id) c)) _ parts.1 in
     grind (arith, nat_tests, all_own c rest.1, bytes_eq-Decides, own_below)
 
--- the argument, if there is one, is the only one of its name
+-- no other argument has the name of this argument, if it exists
 abbrev IsOwnIfAny : List Rule → Option Rule → Type 0
 IsOwnIfAny c None = ⊤
 IsOwnIfAny c (Some a) = IsOwn c a

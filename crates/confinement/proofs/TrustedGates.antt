@@ -127,7 +127,7 @@ replied_stays z i o h is given =
     deliver_stays z o.objects i.process (reply_of o) h (inl is)
     (and_parts (is_process o.objects i.process) (is_running (state_at o.objects i.process)) runs).0 (λ j. reply_stays z o j given))
 
--- a capability that a process may hold before the invoker's state changes may be held afterwards
+-- if a process may hold a capability before the invoker's state changes, it may hold the capability afterwards
 held_ready : (g : Geometry) (z : Zone) (os us : List Object) (c : Capability) → IsReady g z os us → IsHeld os (Waits os) c →
     IsHeld us (Waits us) c
 held_ready g z os us c ready held = held_on os us (Waits os) (Waits us) c ready.after.frame ready.after.waits held

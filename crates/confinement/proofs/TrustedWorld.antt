@@ -5,7 +5,7 @@ use Rattle.confinement.proofs.Names.{slot_at, StaysBut, client, store, d0, rows,
 use Rattle.confinement.proofs.Names.{IsRight, machine, rows_hold}
 use Rattle.std.proofs.Common.{◌≡◌}
 
--- what holds of 1, 2 and 7 holds of each member
+-- if P holds of 1, 2 and 7, it holds of each member
 members : (P : ℕ → Type 0) → P 1 → P 2 → P 7 → (n : ℕ) → IsTrue (client n) → P n
 members P root annex node zero inside = cc
 members P root annex node (suc zero) inside = root

@@ -49,7 +49,7 @@ pub twice_at : (ns : List ℕ) (i j n : ℕ) → j < length ns → n ≡ slice_i
 twice_at ns i j n within is at =
     (at.0, n, slice_get-get_or ns i 0 (omega (arith, at.0, within)) ∙ ap Some at.1, slice_get-get_or ns j 0 within ∙ ap Some (sym is))
 
--- if P holds of all items of a mapped list, it holds of the image of each item
+-- if P holds of all of `map f xs`, it holds of f x for each item x
 pub all_unmapped : {A B : Type 0} (P : B → Type 0) (f : A → B) (xs : List A) → All P (map f xs) → All (λ x. P (f x)) xs
 all_unmapped P f [] all = λ k d lt. absurd (omega arith)
 all_unmapped P f (x ∷ xs) all = All-cons (λ y. P (f y)) x xs (All-head P (f x) (map f xs) all)

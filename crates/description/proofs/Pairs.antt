@@ -32,7 +32,7 @@ module _ {A : Type 0} (R : A → A → Type 0) where
   zip_whole (suc i) (x ∷ xs) (y ∷ ys) within below = (below.0, zip_whole i xs ys (omega (arith, within)) below.1)
   zip_whole i xs ys within below = absurd (grind (arith, nat_tests))
 
-  -- if P x gives Q y for related items, P of all items of one list gives Q of all of the other
+  -- if P x gives Q y for related items x and y, and P holds of all items of one list, Q holds of all of the other
   pub zip_all : (P Q : A → Type 0) → ((x y : A) → R x y → P x → Q y) → (xs ys : List A) → AllZip R xs ys → All P xs → All Q ys
   zip_all P Q on xs ys zip all = λ k d inside.
       let first : k < length xs = omega (arith, inside, length_all_zip R xs ys zip) in

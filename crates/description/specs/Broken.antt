@@ -172,8 +172,8 @@ FirstLacks P d (held.Slot k i) = All (AllOfProcess P) d.processes.items
 abbrev pub NamesItsObject : Description → Capability → Type 0
 NamesItsObject d c = (frames : List Frame) → IsDescribed d frames → NamesItsRole frames c
 
--- the first capability whose number isn't one of its kind; if there is none, the first that names no object of its
--- kind
+-- the first capability whose number is out of range for its kind; if there is none, the first that names no object of
+-- its kind
 abbrev pub IsFirstTarget : Description → Held → Type 0
 IsFirstTarget d at = FirstLacks (IsTarget d.geometry) d at
     ⊎ (AllHave (IsTarget d.geometry) d × FirstLacks (NamesItsObject d) d at)

@@ -1,5 +1,5 @@
--- What the definitions of this crate determine: a number has one form, a text names at most one capability, and a
--- table is read as at most one description, which has at most one first broken rule.
+-- What the definitions of this crate determine. A number has one form. A text names at most one capability. A
+-- table is read as at most one description, and a description has at most one first broken rule.
 use Rattle.description.specs.Names.{ℕ, List, [], IfSome, IsWellFormed, named, capability_text, Capability, Data}
 use Rattle.description.specs.Names.{Members}
 use Rattle.std.specs.Prelude.{◌≡◌, ◌^◌, ◌<◌, ◌∷◌}

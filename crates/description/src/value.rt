@@ -23,7 +23,7 @@ fn large_number(capability: Option<Capability>) -> Option<u64>
     }
 }
 
-// Returns the number of 2^63 or above that a value is the text of, or `None`.
+// Returns the number if a value is the text of a number of 2^63 or above, else `None`.
 #[tactic(auto, using(crate::proofs::Types::text_said))]
 fn number_in_text(value: &Value) -> Option<u64>
     requires { as_integer (view value.now) ≡ None }

@@ -93,7 +93,8 @@ node_text d k = codes "node " ++ decimal (listed_number d (named.Node k))
 abbrev pub page_text : Description → ℕ → List ℕ
 page_text d k = codes "page " ++ decimal (listed_number d (named.Page k))
 
--- the text of the object with number n: the process at index k, if one has this number; else a node or a page
+-- the text of the object with number n: of the process at index k, if there is an index; else of the node or page
+-- with number n
 abbrev pub part_text : Description → ℕ → Option ℕ → List ℕ
 part_text d n (Some k) = process_text d k
 part_text d n None =

@@ -79,7 +79,8 @@ fn explain_frames(
     }
 }
 
-// Returns the rule that a description without a world breaks. Fails if memory ran out instead.
+// Returns the broken rule for a reason why a description has no world. Fails if the reason is lack
+// of memory.
 fn rule_of(why: WorldFault) -> Result<Option<Rule>, AllocError>
     ensures { (d : Description) → IsWithinLimits d → BreaksWorld d why
         → IfOk result (λ found. ExplainsDescription d found) }

@@ -28,7 +28,7 @@ distinct_both (n ∷ ns) ms one other apart = (
   distinct_both ns ms one.1 other (λ m left right. apart m (contains_there m n ns left) right),
 )
 
--- if the first numbers of items are distinct, and items that share a second number share the first, the second numbers are distinct
+-- if first numbers are distinct, and items with equal second numbers have equal first ones, the second numbers are distinct
 pub distinct_other : {E : Type 0} → (first second : E → ℕ) (es : List E) → AreDistinct (map first es)
     → ((e f : E) → Contains es e → Contains es f → second e ≡ second f → first e ≡ first f) → AreDistinct (map second es)
 distinct_other first second [] distinct same = tt

@@ -66,7 +66,7 @@ module _ (A B C D whole : List ℕ) (is : whole ≡ ((A ++ B) ++ C) ++ D) (a b :
   fourth_written c d f r one two three w = writes_same a f r _ whole (sym is)
       (writes_after a d f r _ D (wrote_trans a c d _ C (wrote_trans a b c A B one two) three) w)
 
--- two texts that are written one after the other are written as one; so are three
+-- writing two texts, or three, one after the other writes their join
 pub two_written : (a b c : Written) (r : Result (Unit {0}) RunFault) (A B whole : List ℕ) → whole ≡ A ++ B → Wrote a b A → Writes b c r B →
     Writes a c r whole
 two_written a b c r A B whole is one w = writes_same a c r (A ++ B) whole (sym is) (writes_after a b c r A B one w)

@@ -67,7 +67,7 @@ pub fn run_image<D: Device, S: ObjectStore<D>, R: Script, W: Output, V: Output>(
 }
 
 /// Runs a script as `run_image` does, and traces it. A strict run ends at the first line that is bad or refused, or
-/// whose order has a result code other than 0. Then all answers up to that line's are written, `stopped at line`
+/// whose order has a result code other than 0. Then all answers up to that line's are written. `stopped at line`
 /// with its number and the reason is written to `errors`, and the status is 1.
 ///
 /// The text written to `writer` and the changes of the device are those of `run_image` for the lines taken.

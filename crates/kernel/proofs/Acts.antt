@@ -367,7 +367,7 @@ pub commit_cause : (old new : Disk) (left : Option ℕ) (saved : ℕ) (why : Ref
     IsCaused old new (answer.Refused why)
 commit_cause old new left saved why reported = search (arith, nat_tests, other_cause, failed_cause)
 
--- if `freeze` refuses, the refusal isn't one that needs no device call
+-- no refusal of `freeze` is one of `NeedsNoDeviceCall`
 pub freeze_looks : (left : Option ℕ) (entries : ℕ) (why : Refusal) → IsFreezeAnswer {T = ℕ} left entries (Err why) →
     MakesNoDeviceCall (answer.Refused why) → ⊥
 freeze_looks left entries why reported is = search (arith, nat_tests)

@@ -70,7 +70,7 @@ module _ (g : Geometry) (s : Running) (n : ℕ) where
             unfolding refusal_of carried_out
             journal_step saved = search (arith, nat_tests, done_step)
 
-        -- the state that `journal` may save: the journaled one, or none if a refusal applies
+        -- the states that `journal` may save: the journaled one, or none if a refusal applies
         abbrev seconds : Bool → Option Frozen → Bool → Bool → Bool → List Saved
         seconds young frozen home page saved = elim (unless young refusal.Worn (elim frozen [
           | Some f ↦ Some refusal.CheckpointRunning

@@ -63,7 +63,7 @@ frames_if b fs = search (arith, nat_tests)
 pub base_moved : (a : Snapshots FrozenFrames) (n : ℕ) → base_of (moved n a) ≡ base_of a
 base_moved a n = ap (λ (fs : List Frame). base_by fs a.frozen) (frames_if (a.to_move - n == 0) a.saved)
 
--- an image that denotes one of some states denotes one of a longer list
+-- if an image denotes one of some states, it denotes one of any longer list
 pub among : (g : Geometry) (size : ℕ) (c : Image) (ss ts : List Saved) → DenotesOne g size ss c → DenotesOne g size (ss ++ ts) c
 among g size c [] ts one = absurd one
 among g size c (s ∷ ss) ts one = ⊎_elim (λ here. inl here) (λ there. inr (among g size c ss ts there)) one
@@ -149,7 +149,7 @@ reopens_step g m c a after which again = search (arith, nat_tests, restarts, is_
 
 -- ---- crashes
 
--- a crash that leaves one of some candidates leaves one of more candidates
+-- if a crash leaves one of some candidates, it leaves one of any longer list
 more_left : (g : Geometry) (old new : Disk) (ss ts : List Saved) → LeavesOne g old new ss → LeavesOne g old new (ss ++ ts)
 more_left g old new ss ts run = search (arith, nat_tests, leaves_weaker, among)
 

@@ -133,7 +133,7 @@ module _ {age : ℕ} {old mid : Parts} (new : Parts) (p address : ℕ) (sound : 
       (λ renewed frozen saved to_move other. absurd (other refl)))
   store_refused word c of unchanged later cause full = absurd of
 
-  -- the parameters: a store that was prepared, with its word and the headers unchanged
+  -- the parameters: the word to store, and a preparation that left sizes and headers unchanged
   module _ (word : ℕ) (geometry : new.geometry ≡ mid.geometry) (headers : new.headers ≡ mid.headers) (later : mid.failures ≤ new.failures)
     where
       -- a store changes at most one page, and sound frames stay sound

@@ -78,7 +78,7 @@ module _ (g : Geometry) (s : Running) where
   unfolding refusal_of carried_out
   migrate_step n = done_step g s (command.Migrate n) _ _ refl refl refl
 
-  -- ---- the states that a commit may save besides
+  -- ---- the other states that a commit may save
 
   abbrev committing : Option Frozen → List Saved
   committing o = elim o [ None ↦ [] | Some f ↦ if f.left == 0 then committed s f ∷ [] else [] ]

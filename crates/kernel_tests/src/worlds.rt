@@ -64,8 +64,8 @@ fn run_by<D: Device, S: ObjectStore<D>, R: Script, W: Output>(
     }
 }
 
-/// Returns how a run over a device ends. Only this function names a store type, because each place that does takes
-/// long to compile.
+/// Returns how a run over a device ends. Only this function names a store type, because each function that names
+/// one compiles slowly.
 pub(crate) fn run_over<D: Device, R: Script, W: Output>(
     alloc: Global,
     device: D,

@@ -15,7 +15,7 @@ use Rattle.model.specs.declared.order.ResultCode.TheVariants as code
 use Rattle.noninterference.proofs.ReadEdits.{Link, link_consume, link_of_root, link_slot, link_state, link_word}
 use Rattle.noninterference.proofs.ReadBanks.{OutcomesLink, bank_link, both_chosen, given_link, refused_link, replying_link, wrote_link}
 
--- if a property holds of two results when an option is `None`, and when it is `Some`, it holds of them
+-- to prove a property of two results that depend on an option, prove it for `None` and for `Some`
 found_both : {A X : Type 0} (P : X → X → Type 0) (found : Option A) (x y : X) (f k : A → X) → P x y →
     ((a : A) → found ≡ Some a → P (f a) (k a)) → P (elim found [ None ↦ x | Some a ↦ f a ]) (elim found [ None ↦ y | Some a ↦ k a ])
 found_both {A} {X} P None x y f k p q = p

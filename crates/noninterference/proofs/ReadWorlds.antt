@@ -5,7 +5,7 @@ use Rattle.noninterference.proofs.Names.{root_at, slot_at, object_at, All, holds
 use Rattle.noninterference.proofs.Names.{NamesBut, AreSameForReader, e0, e1, reader, remaining, server, rows}
 use Rattle.std.proofs.Common.{◌≡◌}
 
--- what holds of 1, 2, 5 and 6 holds of each member
+-- if P holds of 1, 2, 5 and 6, it holds of each member
 members : (P : ℕ → Type 0) → P 1 → P 2 → P 5 → P 6 → (n : ℕ) → IsTrue (reader n) → P n
 members P root annex bank node zero inside = cc
 members P root annex bank node (suc zero) inside = root

@@ -27,17 +27,17 @@ TellsImage disk device back output output_left Tells (Err (fault.Open why)) = Re
 TellsImage disk device back output output_left Tells outcome = (s : SavedState) × ReadsSaved disk device back s ×
     Tells s outcome
 
--- The description has each object with the content in its frame, the age, and nothing else. It omits defaults,
--- its numbers rise, and its home ranges and version are the plan's.
+-- The description has the age, and each object with the content in its frame. It has nothing else. It omits
+-- defaults, its numbers rise, and its home ranges and version are the plan's.
 pub record IsDescriptionOf (p : Plan) (age : ℕ) (frames : List Frame) (description : Description) : Type 0 where
   pub describes : Describes p.geometry (world_at age frames) description
   pub brief : IsBrief description
   pub ranges : description.ranges.items ≡ map numbers_of p.ranges
   pub layout : description.layout ≡ version_number p.version
 
--- The description has each object that these frames stand for, numbered for an image of these sizes, the age, and
--- nothing else. It omits defaults, its numbers rise, its home ranges suit the sizes, and its version is the
--- plan's.
+-- The description has the age, and each object that these frames stand for, with its number in an image of these
+-- sizes. It has nothing else. It omits defaults, its numbers rise, its home ranges suit the sizes, and its version
+-- is the plan's.
 pub record IsDescribedIn (p : Plan) (g : Geometry) (age : ℕ) (frames : List Frame) (description : Description) : Type 0
   where
     pub world : World

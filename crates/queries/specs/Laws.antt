@@ -27,7 +27,7 @@ DescribedIsAccepted = (g : Geometry) (age : ℕ) (fs : List Frame) (d : Descript
     IsAccepted d sectors
 
 -- Take a text that describes an image for other sizes. If the sectors hold what `build` makes of it, the image
--- denotes the described objects at their new numbers, at generation 0 and with an empty log.
+-- denotes the described objects at their new numbers. The generation is 0, and the log is empty.
 abbrev pub GrownIsDenoted : Type 0
 GrownIsDenoted = (p : Plan) (g : Geometry) (age : ℕ) (frames : List Frame) (text : List ℕ) (table : Members)
     (d : Description) (saved : SavedFrames) (size : ℕ) (c : Image) →

@@ -46,7 +46,7 @@ fn explain_and_tell<D: Device, S: WholeStore<D>, W: Output>(
 ///
 /// If a run opens the image, writes `ok`, and the status is 0. If a run refuses it, writes one line, and the status
 /// is 1. The line names the object, slot, field or sector that breaks a rule, says what is wrong there, and ends with
-/// `(bad image K)`, K being the reason that `check` gives.
+/// `(bad image K)`. K is the reason that `check` gives.
 ///
 /// After a fault the status is 1, and one line is written to `errors`: `device failed`, `no memory`, or `cannot write
 /// output` if the writer fails.

@@ -2,8 +2,8 @@
 
 ghost use Rattle.queries.specs.Laws.{DescribedIsAccepted, DescribedIsDenoted, GrownIsDenoted, UnsizedIsWhole};
 
-/// Build an image from the text that `describe_image` wrote. The image on the device, and any image that a later
-/// crash leaves, denotes the world that the text describes, at generation 0 and with an empty log.
+/// Build an image from the text that `describe_image` wrote. The image on the device denotes the world that the text
+/// describes, at generation 0 and with an empty log. So does any image that a later crash leaves.
 pub fn described_is_denoted()
     ensures { DescribedIsDenoted }
 {}

@@ -81,7 +81,7 @@ slots_settle os n slots follows other no_root is all = record {
     no_space (content.Annex held) not_root = void_stays follows other
     no_space (content.Bank limit) not_root = void_stays follows other
 
--- a number and its owners are being added, up to the member `at`
+-- `number` and the owners in its chain before `at` were added, unless `at` is `number`
 pub record Adds (os : List Object) (number at : ℕ) (old new : List Bool) : Type 0 where
   pub count : length new ≡ length old
   pub there : is_free (content_at os at) ≡ false

@@ -16,9 +16,9 @@ use std::alloc::{AllocError, Global};
 /// annexes, the objects that its banks own, and each object that a member holds a capability to. Two kinds of
 /// capabilities don't count: those that start a process of `trusted`, and, if the purpose is to change, weak ones.
 ///
-/// If the purpose is to read, the set is closed for reading: nothing outside determines an answer to its processes,
-/// except in turns that look outside, or that are refused because the log is full or the machine worn (crate
-/// `noninterference`).
+/// If the purpose is to read, the set is closed for reading: nothing outside determines an answer to its processes
+/// (crate `noninterference`). Exceptions: turns that look outside, and refusals because the log is full or the
+/// machine worn.
 ///
 /// The authority bound (EROS: confinement) holds over any run of invocations, loads and stores by processes of the
 /// set, and by processes that they make from free numbers: objects outside that weren't free keep their content and

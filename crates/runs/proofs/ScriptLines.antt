@@ -76,7 +76,7 @@ one_and_more [] i b within is = absurd (omega (arith, within))
 one_and_more (x ∷ xs) zero b within is = ap (λ (y : ℕ). y ∷ xs) is
 one_and_more (x ∷ xs) (suc i) b within is = ap (λ (ys : List ℕ). x ∷ ys) (one_and_more xs i b (omega (arith, within)) is)
 
--- if a piece has a newline at `end` of its rest, it is what was read, the line, the newline, and a shorter rest
+-- if a piece has a newline at `end` of its rest, it consists of what was read, the line, the newline and a shorter rest
 pub line_taken : (piece read rest : List ℕ) (end : ℕ) → piece ≡ read ++ rest → end < length rest → slice_index_or rest end 0 ≡ 10 →
     piece ≡ ((read ++ take end rest) ++ 10 ∷ []) ++ drop (suc end) rest
 line_taken piece read rest end is within newline = search (arith, nat_tests, one_and_more, append_assoc)

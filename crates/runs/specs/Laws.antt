@@ -49,8 +49,7 @@ module _ {D S : Type 0} (disk : D → Disk) (view : S → View D) (parts : S →
       ((k : Power D S) → Opens disk view parts d k → Stands disk view parts g k (Up (opened g s)))
       × ((back : D) (why : OpenFault) → RefusesToOpen disk d back why → IsNoReason why)
 
-  -- a crash at any moment between two kernels leaves an image that denotes a state which may be left, and opens at
-  -- this state
+  -- after a crash at any moment between two kernels, the image denotes a state that may be left, and opens at it
   abbrev pub IsSurvived : Geometry → Power D S → Power D S → (Saved → Type 0) → Type 0
   IsSurvived g old new MayBeLeft = LeavesOnly (disk_of disk view parts old) (disk_of disk view parts new)
       (λ c. (s : Saved) × MayBeLeft s × Denotes g (disk_of disk view parts old).sectors c s

@@ -1,4 +1,4 @@
--- Recording what a run did that isn't committed.
+-- Recording the uncommitted work of a run.
 use Rattle.runs.specs.Names.{Bool, true, false, Answer, Command, Geometry, Reply, Reported, Turn, Says}
 use Rattle.std.specs.Prelude.{◌≡◌}
 use Rattle.model.specs.declared.answer.Answer.TheVariants as answer

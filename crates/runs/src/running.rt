@@ -211,8 +211,8 @@ fn run_turns<D: Device, S: ObjectStore<D>, R: Script, W: Output, O: Observer>(
 /// - **Output.** The text written is the printed answers of a run of the machine on these commands. The run may
 ///   begin with any machine that the kernel stands for, and includes power cuts and failures of the device. `fault`
 ///   is answered exactly if the device failed.
-/// - **Crashes.** After a crash at any moment of a line, the image denotes a candidate of the machine before the
-///   line, or the state that its command saves.
+/// - **Crashes.** After a crash at any moment of a line, the image denotes one of two: a candidate of the machine
+///   before the line, or the state that its command saves.
 /// - **Confinement** (EROS). Let each line be an invocation, load or store by a process of a closed set, or by one
 ///   made from free numbers. Then objects outside the set that weren't free keep their content and owner. Exception:
 ///   capabilities to members may become void.

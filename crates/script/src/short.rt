@@ -61,8 +61,8 @@ fn digit_at(text: &[u8], at: usize) -> Option<u64>
     Some(byte - FIRST_DIGIT)
 }
 
-// Returns an index up to which the digits from `at` on may reach: at most 19 of them, whose number
-// is below 2^64.
+// Returns where the search for digits from `at` on ends: 19 bytes later, or at the end of the text.
+// A number of 19 digits is below 2^64.
 #[inline(always)]
 fn digits_end(text: &[u8], at: usize) -> usize
     requires { at < length text.now }
@@ -153,8 +153,8 @@ fn longer_before(text: &[u8], at: usize) -> Short
     digits_before(text, at, at + 3, three)
 }
 
-/// Returns the number at `at` if a space follows it. The caller shows that at least `behind` bytes follow the one
-/// at `at`; then at least `behind - 2` follow the first byte of the next word.
+/// Returns the number at `at` if a space follows it. `behind` is at most the number of bytes after that at `at`;
+/// so at least `behind - 2` bytes follow the first byte of the next word.
 #[inline(always)]
 pub fn number_before(text: &[u8], at: usize, behind: usize) -> Option<Short>
     requires room { at + behind < length text.now }

@@ -92,7 +92,7 @@ module _ (first : Option (List (List ℕ))) (begun : List ℕ) where
       nothing (Some ls) (Some xs) None read takes = absurd read
       nothing (Some ls) (Some xs) (Some ys) read takes = takes ∙ ap (λ (t : List ℕ). map read_as (lines_from begun t)) read
 
-  -- reading a byte that is no newline keeps it, if it is one of the first 257 of the line
+  -- if fewer than 257 bytes of the line are kept, reading a byte that is no newline keeps it
   pub byte_read : (old new : Option (List ℕ)) (b : ℕ) (after : List ℕ) → b ≢ 10 → IsKept begun b after →
       Consumes old new (b ∷ []) → Takes first (lines_ahead begun old) [] → Takes first (lines_ahead after new) []
   byte_read old new b after other is = more first old new
@@ -140,7 +140,7 @@ module _ (first : Option (List (List ℕ))) (begun : List ℕ) where
 
 -- ---- taking a line
 
--- if a line was read, the next line ahead was taken
+-- reading a line takes the next line ahead
 pub line_taken : (old : Option (List (List ℕ))) (rest : Option (List ℕ)) (line : List ℕ) (e : LineEnd) → ReadsLine old rest line e →
     (e ≡ end.Input → line ≡ [] → ⊥) → Takes old (lines_ahead [] rest) (read_as line ∷ [])
 line_taken old rest line e reads some = taken e line reads.0 some

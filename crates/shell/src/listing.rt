@@ -52,8 +52,7 @@ fn print_shown<W: Output>(answer: &Answer, writer: &mut W) -> Result<(), RunFaul
     }
 }
 
-// Ends a list whose `show` was refused: writes the refusal, unless it only says that the number is beyond the
-// last.
+// Ends a list after a refused `show`. Writes the refusal, unless the number is beyond the last.
 fn print_end<W: Output>(refusal: Refusal, writer: &mut W) -> Result<(), RunFault>
     ensures writes { Writes (W.written writer.old) (W.written writer.new) result (end_text refusal) }
     ensures none_waits { OnOk result (W.waiting writer.new ≡ []) }

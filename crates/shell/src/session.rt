@@ -67,7 +67,7 @@ impl<V: Output> Shell<V> {
         }
     }
 
-    /// Returns what the lines so far did that isn't committed.
+    /// Returns the uncommitted work of the lines so far.
     pub fn unsaved(&self) -> Unsaved
         ensures { result ≡ self.now.unsaved }
     {

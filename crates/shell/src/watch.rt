@@ -54,8 +54,8 @@ pub(crate) fn note_remark<V: Output>(remark: Option<Remark>, notes: &mut V)
 }
 
 impl Watch {
-    /// Returns an observer for the next line. `unsaved` is what the lines before it did that isn't
-    /// committed.
+    /// Returns an observer for the next line. `unsaved` is the uncommitted work of the lines before
+    /// it.
     pub(crate) fn new(unsaved: Unsaved) -> Watch
         ensures unsaved { result.unsaved ≡ unsaved }
         ensures remark { result.remark ≡ None }

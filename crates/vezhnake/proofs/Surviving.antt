@@ -23,7 +23,7 @@ first_events k calls lost =
     ap (take (length (events_of (take k calls)))) (front_of k calls lost) ∙ take-append_seam (events_of (take k calls))
     (events_of (drop k calls) ++ lost)
 
--- if storage may hold an image after the first k calls and a crash, a crash of the device at event t or later may leave it
+-- if a crash after the first k calls may leave an image in storage, a crash of the device at event t or later may leave it
 at_calls : (d : HostDevice) (t k : ℕ) (c : Image) → t ≤ length (events_of (take k d.file.history.calls))
     → StorageLeaves d.sectors d.file.history.first (take k d.file.history.calls) c → (host_disk d).left_since t c
 at_calls d t k c later leaves =

@@ -10,7 +10,7 @@ abbrev pub are_registers : List ℕ → Bool
 are_registers [] = true
 are_registers (r ∷ rs) = nat_lt r 32 && are_registers rs
 
--- the registers with these numbers, if each is one
+-- these numbers, if each is a register's; else `None`
 abbrev pub registers_of : List ℕ → Option (List ℕ)
 registers_of rs = if are_registers rs then Some rs else None
 

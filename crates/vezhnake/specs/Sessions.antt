@@ -152,7 +152,7 @@ OnSession None new result Unchanged P = (result ≡ status.NotOpen) × (new ≡ 
 OnSession (Some old) None result Unchanged P = ⊥
 OnSession (Some old) (Some new) result Unchanged P = P old new
 
--- a handle without a session got one, or has none still; a handle with one is unchanged
+-- a handle without a session got one or still has none; a handle with a session is unchanged
 abbrev pub OpensHandle : Option Session → Option Session → List ℕ → ℕ → Status → Type 0
 OpensHandle (Some old) new bytes cache result = (result ≡ status.AlreadyOpen) × (new ≡ Some old)
 OpensHandle None (Some new) bytes cache result = (result ≡ status.Done) × OpensSession bytes cache new
