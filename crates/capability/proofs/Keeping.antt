@@ -43,7 +43,7 @@ keepable_from g age p count each = grind (arith, nat_tests, length_in, frame_in)
 pub keepable_roles : (g : Geometry) (age : ℕ) (fs : List Frame) → AreKeepable g age fs → HaveTheirRoles fs
 keepable_roles g age fs k n = grind (arith, nat_tests, get_or_past)
 
--- one object changes to one that may be kept
+-- facts if the object at n is replaced by one that may be kept at a later age
 module _ (g : Geometry) (age later : ℕ) (le : age ≤ later) (p q : Parts) (n : ℕ) (h : ObjectHeader) (c : Content Cap)
     (inside : n < length p.contents) where
   pub one_keepable : q ≡ with_both p n h c → IsKeepable g later n (record { header = h; content = c }) → AreKeepable g age (frames_of p) →

@@ -17,7 +17,7 @@ pub enum Version {
 pub struct Row {
     /// The number for the version in a superblock.
     pub number: u64,
-    /// How many sectors after an opening structure the next begins. These are superblock, headers and gates.
+    /// The distance, in sectors, from one opening structure (superblock, header or gate) to the next.
     pub opening_step: u64,
     /// How many header slots there are.
     pub header_slots: u64,

@@ -190,7 +190,7 @@ module _ (g : Geometry) (os : List Object) (h : IsFramed g os) (b : ℕ) (is : I
     tree,
   )
 
-  -- this bank, and each bank under it, has it in its chain
+  -- this bank is in its own chain, and in that of each bank under it
   bank_under : (c : ℕ) → IsTrue (is_bank (content_at os c)) → is_member (under os b) c ≡ true → is_member (chain os c) b ≡ true
   bank_under c bank e = elim (cases_eq c b) [
     | inl same ↦ subst (λ k. is_member (chain os k) b ≡ true) (sym same) (chain_itself os tree b is)

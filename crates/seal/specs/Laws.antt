@@ -13,7 +13,7 @@ FewChangesChangeSums = (x y : List ℕ) → IsRow x → IsRow y → length x ≡
 abbrev pub BurstsChangeSums : Type 0
 BurstsChangeSums = (i : ℕ) (x y : List ℕ) → IsRow x → IsRow y → DifferInBurst i x y → sums_of x ≡ sums_of y → x ≡ y
 
--- of two rows that differ in a burst, at most one is sealed
+-- if two rows differ in a burst, at most one of them is sealed
 abbrev pub BurstsBreakSeals : Type 0
 BurstsBreakSeals = (i : ℕ) (x y : List ℕ) → IsRow x → IsRow y → DifferInBurst i x y → IsSealed x → IsSealed y → x ≡ y
 
