@@ -27,7 +27,7 @@ frame_later g age later n f le k = grind (arith, nat_tests, count_later, slots_l
 pub keepable_later : (g : Geometry) (age later : ℕ) (fs : List Frame) → age ≤ later → AreKeepable g age fs → AreKeepable g later fs
 keepable_later g age later fs le k = grind (arith, nat_tests, frame_later)
 
--- all frames may be kept exactly if, for each number, its header and content may
+-- if all frames may be kept, there is a header for each object number
 pub keepable_count : (g : Geometry) (age : ℕ) (p : Parts) → AreKeepable g age (frames_of p) → length p.headers ≡ object_count g
 keepable_count g age p k = sym (length_in p.headers p.contents) ∙ k.count
 
@@ -127,7 +127,7 @@ module _ (g : Geometry) (age : ℕ) (p q : Parts) (n : ℕ) (known : n < length 
         kept = grind (arith, nat_tests);
       }) k
 
--- A new object may be kept.
+-- 32 void slots may be kept
 blank_slots : (g : Geometry) (age : ℕ) → AreKeptSlots g age (all_slots void_held)
 unfolding all_slots
 blank_slots g age = record { count = refl; each = All-replicate (IsKeptCap g age) 32 void_held refl }

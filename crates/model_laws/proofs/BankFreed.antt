@@ -134,7 +134,7 @@ unfolding under
 under_stands os b n below passes = stands_in (λ n. (n == b) || is_under os b (object_at os n)) 0 (length os) n (omega arith)
     (omega (arith, below)) passes
 
--- the objects that a bank owns are the numbers below the length that aren't free and have it as their owner
+-- a number that `owned_by` lists for bank b is in range, isn't free, and has b as its owner
 pub owned_found : (os : List Object) (b n : ℕ) → is_member (owned_by os b) n ≡ true →
     (n < length os) × (is_free (content_at os n) ≡ false) × (owner_at os n ≡ b)
 unfolding owned_by
