@@ -74,7 +74,7 @@ current_from p each n = elim (cases_lt n (length p.headers)) [
       (λ k d inside. absurd (omega arith))
 ]
 
--- An edit at a number that leaves both counts: the objects change there alone.
+-- ---- an edit at a number that leaves both counts: only the object there changes
 module _ (p : Parts) (n : ℕ) (h : ObjectHeader) (c : Content Cap) (inside : n < length p.contents)
     (same : HasCounts h (header_at p.headers n)) where
   pub objects_set : objects_in (with_both p n h c)

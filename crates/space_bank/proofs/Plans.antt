@@ -89,7 +89,7 @@ quota_is os b count within =
     ∙ ap (λ (t : Bool). t && list_all (λ c. nat_le (usage os c + count) (limit_in (content_at os c))) rest)
     (fits_left count (usage os b) (limit_in (content_at os b)) (within 0 0 (omega arith))))
 
--- if bank b itself allows at most m, all limits in its chain allow the least of m and of what each bank there allows
+-- if bank b itself allows at most m more objects, its chain allows the least of m and of what each bank in it allows
 pub least_begun : (os : List Object) (b m : ℕ) → left_of os b ≤ m → remaining os b ≡ least m (map (left_of os) (chain_within (16 - 0) os b))
 unfolding remaining chain
 least_begun os b m within =
