@@ -8,7 +8,7 @@ module _ (n : ℕ) where
   pub apart_from : (m : ℕ) (ms : List ℕ) (place : ℕ) → slice_get ms place ≡ Some n → is_member ms m ≡ false → n ≢ m
   apart_from m ms place at none same = true≢false (sym (listed_member ms place n at) ∙ ap (is_member ms) same ∙ none)
 
-  -- removing the last number leaves the first k
+  -- if there are more than k numbers, removing the last one doesn't change the first k
   pub front_stays : (ns : List ℕ) (i k : ℕ) → i + 1 ≡ length ns → AllDiffer ns → slice_get ns i ≡ Some n → k < length ns →
       take k (without n ns) ≡ take k ns
   front_stays [] i k last once at below = absurd (omega (arith, below))

@@ -38,7 +38,7 @@ module _ {ns : List (Option (List Cap))} {ends : List ℕ} (are : AreEnds ns end
   pub end_within : (k : ℕ) → IsSome (item_at ns k) → k < length ends
   end_within k there = omega (arith, are.count, some_place ns k there)
 
-  -- replacing the slots at a place, with an end that fits them, keeps all ends right
+  -- if the slots at a place, and the end for them, are replaced by others for which `AreVoidFrom` holds, `AreEnds` holds
   pub ends_put : (k e : ℕ) (slots : List Cap) → k < length ns → AreVoidFrom e slots → AreEnds (set ns k (Some slots)) (set ends k e)
   ends_put k e slots below void = record {
     count = omega (arith, are.count, length-set ends k e, length-set ns k (Some slots));

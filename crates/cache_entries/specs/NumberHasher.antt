@@ -3,7 +3,7 @@ use Rattle.std.specs.Prelude.{◌==◌, if◌then◌else◌, ℕ, ◌*◌, ◌%�
 use Rattle.std.specs.Int.{w64, from_le_bytes}
 use Rattle.cache_entries.specs.declared.number_hasher.NumberHasher.{NumberHasher}
 
--- the number to hash: the value of 8 bytes, lowest first; of any other bytes, how many there are
+-- the number to hash for some bytes: the value of 8 bytes, lowest first; if there aren't 8, how many there are
 abbrev pub number_in : List ℕ → ℕ
 number_in bytes = if length bytes == 8 then from_le_bytes w64 bytes else length bytes
 

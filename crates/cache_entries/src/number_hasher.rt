@@ -4,7 +4,7 @@ ghost use Rattle.cache_entries.specs.NumberHasher.{number_in};
 
 use std::hash::Hasher;
 
-// 2^64 over the golden ratio, and odd.
+// An odd number close to 2^64 divided by the golden ratio.
 const MULTIPLIER: u64 = 0x9e37_79b9_7f4a_7c15;
 
 /// Hashes 8 bytes, as one number, by a multiplication (Fibonacci hashing). Places are few and consecutive, so

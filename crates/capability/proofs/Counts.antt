@@ -44,7 +44,7 @@ module _ (goes : Capability → Bool) (hs ks : List ObjectHeader) (raises : (w :
       map_content (conveyed ks) c ≡ map_content (void_where goes) (map_content (conveyed hs) c)
   conveyed_without c all = search (content_agree, stale, content_twice)
 
--- Rescinding the members of a set.
+-- ---- rescinding the members of a set
 allocations_given : (b : Bool) (h k : ObjectHeader) → k ≡ (if b then given_up h else h) → k.allocations ≡ raised b h.allocations
 allocations_given b h k is = grind (arith, nat_tests)
 
@@ -116,7 +116,7 @@ module _ (set : List ℕ) (p q : Parts) (given : AreGivenUp set p q) where
       given_kept g age n few (is_member set n) (header_at p.headers n) (header_at q.headers n) (held_at p.contents n) (held_at q.contents n)
       (given.headers n) (given.contents n) (keepable_at g age p n old k))
 
--- Raising a call count.
+-- ---- raising a call count
 module _ (r : ℕ) (p q : Parts) (known : r < length p.headers) (is : q ≡ with_header p r (called (header_at p.headers r))) where
   abbrev next : List ObjectHeader
   next = slice_set p.headers r (called (header_at p.headers r))

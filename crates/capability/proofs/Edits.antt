@@ -74,7 +74,7 @@ current_from p each n = elim (cases_lt n (length p.headers)) [
       (λ k d inside. absurd (omega arith))
 ]
 
--- An edit at a number that leaves both counts: the objects change there alone.
+-- ---- an edit at a number that leaves both counts: only the object there changes
 module _ (p : Parts) (n : ℕ) (h : ObjectHeader) (c : Content Cap) (inside : n < length p.contents)
     (same : HasCounts h (header_at p.headers n)) where
   pub objects_set : objects_in (with_both p n h c)
@@ -183,7 +183,7 @@ pub root_keeps : (g : Geometry) (age n : ℕ) (h : ObjectHeader) (change : Root 
     IsKeepable g age n (record { header = h; content = c }) → IsKeepable g age n (record { header = h; content = with_root_in change c })
 root_keeps g age n h change stays c k = grind (arith, nat_tests, refilled)
 
--- a root with another word, state or address space may be kept
+-- the words of a root may be kept after one of them is set to a 64-bit word
 pub word_kept : (i word : ℕ) (ws : List ℕ) → word < 2 ^ 64 → AreKeptWords 4 ws → AreKeptWords 4 (slice_set ws i word)
 word_kept i word ws fits k = record { count_is = length-set ws i word ∙ k.count_is; each = All-set (λ w. w < 2 ^ 64) ws i word fits k.each }
 

@@ -27,7 +27,7 @@ frame_later g age later n f le k = grind (arith, nat_tests, count_later, slots_l
 pub keepable_later : (g : Geometry) (age later : ℕ) (fs : List Frame) → age ≤ later → AreKeepable g age fs → AreKeepable g later fs
 keepable_later g age later fs le k = grind (arith, nat_tests, frame_later)
 
--- all frames may be kept exactly if, for each number, its header and content may
+-- if all frames may be kept, there is a header for each object number
 pub keepable_count : (g : Geometry) (age : ℕ) (p : Parts) → AreKeepable g age (frames_of p) → length p.headers ≡ object_count g
 keepable_count g age p k = sym (length_in p.headers p.contents) ∙ k.count
 
@@ -43,7 +43,7 @@ keepable_from g age p count each = grind (arith, nat_tests, length_in, frame_in)
 pub keepable_roles : (g : Geometry) (age : ℕ) (fs : List Frame) → AreKeepable g age fs → HaveTheirRoles fs
 keepable_roles g age fs k n = grind (arith, nat_tests, get_or_past)
 
--- one object changes to one that may be kept
+-- facts if the object at n is replaced by one that may be kept at a later age
 module _ (g : Geometry) (age later : ℕ) (le : age ≤ later) (p q : Parts) (n : ℕ) (h : ObjectHeader) (c : Content Cap)
     (inside : n < length p.contents) where
   pub one_keepable : q ≡ with_both p n h c → IsKeepable g later n (record { header = h; content = c }) → AreKeepable g age (frames_of p) →
@@ -127,7 +127,7 @@ module _ (g : Geometry) (age : ℕ) (p q : Parts) (n : ℕ) (known : n < length 
         kept = grind (arith, nat_tests);
       }) k
 
--- A new object may be kept.
+-- 32 void slots may be kept
 blank_slots : (g : Geometry) (age : ℕ) → AreKeptSlots g age (all_slots void_held)
 unfolding all_slots
 blank_slots g age = record { count = refl; each = All-replicate (IsKeptCap g age) 32 void_held refl }

@@ -87,7 +87,7 @@ module _ (words : List ℕ) where
   pub none_past_words : (from : ℕ) → length words ≤ from / 64 → HasNoneSet words from
   none_past_words from past m after = bit_of_zero m (get_or_past words (m / 64) 0 (omega arith))
 
-  -- no bit is set if no word has a set bit
+  -- if no bit from `from` up to the last word is set, none is set from `from` on
   pub none_past_all : (from w : ℕ) → length words ≤ w → ((m : ℕ) → from ≤ m → m < w * 64 → bit_of words m ≡ 0) → HasNoneSet words from
   none_past_all from w past_all before m past = grind (arith, nat_tests, bit_of_zero, get_or_past)
 
@@ -120,7 +120,7 @@ module _ (words : List ℕ) where
   unfolding bit_of
   bit_put n word bit within here others = grind (arith, nat_tests, length-set, get_or-set_same, get_or-set_other)
 
--- a bit is 0 in the complement of a word exactly if it is 1 in the word
+-- a bit that is 0 in the complement of a word is 1 in the word
 flipped_zero : (word i : ℕ) → word < 2 ^ 64 → i < 64 → bit_at (bit_not w64 word) i ≡ 0 → bit_at word i ≡ 1
 flipped_zero word i fits within none = omega (arith, bit_at_not w64 word i fits within, bit_at-lt word i, none)
 
@@ -193,7 +193,7 @@ module _ (count : ℕ) (words : List ℕ) where
   unfolding marks_of
   mark_within n within = get_or-map-range_with_len (λ k. nat_eq (bit_of words k) 1) 0 count n n false within (omega arith)
 
-  -- two lists with the same marks are equal
+  -- if a list of marks marks exactly the numbers whose bits are set, it is `marks_of` the words
   same_marks : (marks : List Bool) → length marks ≡ count → ((n : ℕ) → n < count → is_marked marks n ≡ nat_eq (bit_of words n) 1) →
       marks ≡ marks_of count words
   unfolding marks_of

@@ -6,11 +6,11 @@ ghost use Rattle.collections.specs.SparseVec.{item_at};
 use std::alloc::{AllocError, Global};
 use std::marker::Model;
 
-/// Items by place, with memory reserved for one at each place. At first no place has an item; a place that was given
-/// one keeps it.
+/// Items by place, with memory reserved for one at each place. At first no place has an item; a place that
+/// was given one keeps it.
 ///
-/// The items lie in memory without gaps, in the order in which they were added. So a system that provides memory only
-/// when it is first written provides none for places without an item.
+/// The items lie in memory without gaps, in the order in which they were added. If the operating system
+/// provides memory only once it is written to, places without an item take none.
 #[derive(Drop)]
 pub struct SparseVec<T> {
     items: Vec<T>,

@@ -80,7 +80,7 @@ module _ (sectors : ℕ) (first : Image) (past : List Event) where
     untorn_outside : (c : Image) (i : ℕ) → IsOutside i → untorn c i ≡ c i
     untorn_outside c i out = ⊎_elim (untorn_before c i) (untorn_after c i) out
 
-    -- a sector that the write doesn't touch is unsynced afterwards exactly if it was before
+    -- if the write doesn't touch a sector, and the sector wasn't unsynced, it isn't unsynced afterwards
     outside_unsynced : (i : ℕ) → IsOutside i → state.unsynced i ≡ false → (replay (at_first first) more).unsynced i ≡ false
     outside_unsynced i out none = grind (arith, nat_tests, names-entries_of, state_written, written-unsynced)
 

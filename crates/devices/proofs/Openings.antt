@@ -25,7 +25,7 @@ resizes_append (got at piece ∷ a) b = resizes_append a b
 resizes_append (resized n ∷ a) b = omega (arith, resizes_append a b)
 resizes_append (listed path ∷ a) b = resizes_append a b
 
--- calls that don't set the length keep `KeepsLength`
+-- if none of the calls made sets the length, `KeepsLength` holds
 pub keeps_length : (a b : Calls) (more : List OpeningCall) → Adds a b more → resizes more ≡ 0 → KeepsLength a b
 keeps_length a b more adds none = grind (arith, nat_tests, resizes_append)
 

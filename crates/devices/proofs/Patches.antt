@@ -41,7 +41,7 @@ names_at (e ∷ es) (suc j) d lt i hit =
 pub wrote_here : (action : Action) (sector : ℕ) (bytes : List ℕ) → action ≡ Wrote sector bytes → writes action sector ≡ true
 wrote_here action sector bytes is = ap (λ (a : Action). writes a sector) is ∙ eq-eqb sector sector refl
 
--- replacing the sector of an action by that of `from` patches it
+-- if the sector that an action wrote is replaced by that of `from`, `Patches` holds
 pub patches_one : (action : Action) (sector : ℕ) (bytes part : List ℕ) (from old new : Image) → action ≡ Wrote sector bytes →
     length part ≡ 512 → image_of part 0 ≡ from sector
     → AreSectors new sector part → Elsewhere sector (sectors_of part) old new → Patches (writes action) from old new

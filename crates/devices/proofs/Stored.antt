@@ -88,7 +88,7 @@ module _ (xs : Stored) (was : AreWhole xs) (v : List ℕ) (view : bytes_in xs �
   pub is_put : IsPut v at sector ys
   is_put = grind (arith, nat_tests, now, image_is, is_within, apart, length_bytes, count_is, bytes_fit)
 
--- if nothing is stored, no sector is
+-- if no sector is stored, sector k isn't
 none_at : (n k : ℕ) → item_at {T = List ℕ} (replicate n None) k ≡ None
 none_at zero k = refl
 none_at (suc n) zero = refl

@@ -1,4 +1,4 @@
-// A file, as a device needs one.
+// A file of sectors, as a device uses it.
 ghost use Rattle.std.specs.Prelude.{◌≡◌, ◌<◌, ◌≤◌, ◌+◌, ◌%◌, ◌++◌, ◌∷◌, [], ℕ, List, length, IsErr, OnOk, OnErr};
 ghost use Rattle.devices.specs.declared.record.Outcome.TheVariants.{Keep};
 ghost use Rattle.device.specs.Calls.{sectors_of};

@@ -62,7 +62,7 @@ answered_frame Call us p replying = go (is_running_process us p) (λ runs. runni
 answered_frame Return us p replying = frame_refl us
 answered_frame Send us p replying = frame_refl us
 
--- the numbers that an invocation writes itself come first in the list
+-- for a call or a return, a property of all listed numbers holds of the process, which is listed first
 pub process_listed : (P : ℕ → Type 0) (op : Operation) (p a : ℕ) (rest list : List ℕ) → list ≡ writers op p a ++ rest → (op ≡ Send → ⊥) →
     All P list → P p
 process_listed P op p a rest list is other all = grind (arith, nat_tests)

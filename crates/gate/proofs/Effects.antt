@@ -206,7 +206,7 @@ contained (y ∷ ys) (suc i) x inside is =
     let rest = contained ys i x (omega arith) is in
     (suc rest.0, omega (arith, rest.1), rest.2)
 
--- an invocation through a gate writes the receiver, its annex and, unless it sends, the process that invokes
+-- unless it is a send, an invocation through a gate writes the process that invokes
 asking_in : (operation : Operation) (p q a : ℕ) → (operation ≡ Send → ⊥) → Contains (written_through operation p q a) p
 asking_in operation p q a other = grind (arith, nat_tests)
 

@@ -256,7 +256,7 @@ module _ (g : Geometry) (os : List Object) (i : Invocation) (now : IsNow g os) w
   pub enough_held : (c : Capability) (args : Arguments) → Fits (command.Invoke i) → AreEnough os i c args → AreArguments os args
   enough_held c args fits enough = grind (arith, nat_tests, arguments_held, held_void)
 
--- an order that isn't a bank's is planned right
+-- the plan of an order that isn't a bank's satisfies `IsPlanned`
 pub object_planned : (g : Geometry) (os us : List Object) (i : Invocation) (caller : Caller) (plan : OrderPlan) (args : Arguments)
     (first list : List ℕ) → us ≡ os → IsNow g os → object_count g < 2 ^ 64 → Fits (command.Invoke i) → IsRequested os i caller →
     AreEnough os i caller.invoked args → first ≡ writers caller.operation caller.process caller.annex →

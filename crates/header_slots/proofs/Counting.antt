@@ -9,7 +9,7 @@ use Rattle.header_slots.specs.Slots.{Counts, IsCommitted, IsGreatestPair, Slot, 
 pub one_each : (slots : Slots) (m n : ℕ) → Counts slots m → Counts slots n → m % 3 ≡ n % 3 → m ≡ n
 one_each slots m n a b same = same_Some m n (sym a.header ∙ ap (λ (k : ℕ). (slots k).header) same ∙ b.header)
 
--- if a slot doesn't change, the same header counts in it
+-- if a header counts in a slot that didn't change, it counted before
 pub counts_before : (slot : ℕ) (old new : Slots) (n : ℕ) → OthersStay slot old new → (n % 3 ≡ slot → ⊥) → Counts new n → Counts old n
 counts_before slot old new n others other counts = record {
   header = sym (ap (λ (it : Slot). it.header) (others (n % 3) other)) ∙ counts.header;

@@ -134,7 +134,7 @@ module _ (v : Version) (g : Geometry) (rs : List NumberRange) (opened : IsOpened
     apart = follow_apart 5 (extents (plan_from v g rs)) follow;
   }
 
--- a plan is valid exactly if its ranges may be laid out
+-- if the plan with these ranges is valid, the ranges may be laid out
 may_be : (v : Version) (g : Geometry) (rs : List NumberRange) → IsPlan (plan_from v g rs) → MayBeLaid g rs
 may_be v g rs is = search (arith, length_laid, laid_covers)
 

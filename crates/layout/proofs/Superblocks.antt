@@ -320,7 +320,7 @@ plan_reported p v bytes m second g all half_0 half_1 total fits ranges_fit eight
       plan_is = grind (arith, nat_tests, same_plan);
     }
 
--- of eight ranges that were read, those in use are the superblock's
+-- if eight ranges were read, the used ones are the superblock's
 pub used_are : (p : Plan) (v : Version) (second : ℕ) (g : Geometry) (all : List HomeRange) (half_0 half_1 total : ℕ) →
     IsPlanRead p v second g all half_0 half_1 total → take (second / 4294967296) all ≡ p.ranges
 used_are p v second g all half_0 half_1 total read = grind (arith, nat_tests, take_at)

@@ -17,7 +17,7 @@ pub enum Version {
 pub struct Row {
     /// The number for the version in a superblock.
     pub number: u64,
-    /// How many sectors after an opening structure the next begins. These are superblock, headers and gates.
+    /// The distance, in sectors, from one opening structure (superblock, header or gate) to the next.
     pub opening_step: u64,
     /// How many header slots there are.
     pub header_slots: u64,
@@ -33,7 +33,7 @@ pub struct Row {
     pub node_bytes: u64,
     /// How many entries a sector of a directory has.
     pub sector_entries: u64,
-    /// The sequence number of the first header. The limit of sequence numbers is higher by this than in
+    /// The sequence number of the first header. The greatest sequence number is greater by this than in
     /// version 1.
     pub first_sequence: u64,
     /// Whether all structures are sealed.

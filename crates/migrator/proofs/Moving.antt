@@ -167,7 +167,7 @@ next_low so_far few lt = subst (λ (x : Books). x.moved < x.header.entries) (sym
 move_left : {entries m count some : ℕ} → m ≤ entries → IsLesser some count (entries - m) → entries - (m + some) ≡ entries - m - count
 move_left few lesser = ⊎_elim (λ e. omega (arith, e, few)) (λ e. omega (arith, e, few, lesser.0)) lesser.2
 
--- the device failed after some frames were copied home
+-- if the device failed after some frames were copied home, `Migrates` holds
 pub migrates_part : {T E U F : Type 0} {old mid : Disk} {a b : Books} {count k : ℕ} {e : E} {r : Result U F} → IsDurable mid b →
     IsSoundOn old a → MovedBy old mid a b k → IsErr r → Counts {T = T} old mid (Err e) → Migrates old mid a b count r
 migrates_part {T} {E} {U} {F} {old} {mid} {a} {b} {count} {k} {e} {r} stands sound so_far failed counts = grind (arith, nat_tests)
@@ -184,7 +184,7 @@ module _ {old mid : Disk} {a b : Books} {count some : ℕ} (few : a.moved ≤ a.
   pub left_number : a.header.entries - a.moved - some ≡ a.header.entries - a.moved - count
   left_number = omega (arith, left_is)
 
-  -- frames are left to copy, or none were to begin with
+  -- if frames are left to copy, or none were to begin with, `Migrates` holds
   pub migrates_left : {T E : Type 0} {value : T} → IsDurable mid b → IsSoundOn old a →
       (b.header.entries ≡ 0) ⊎ (b.moved < b.header.entries) → mid.failures ≡ old.failures →
       Migrates {T = T} {E = E} old mid a b count (Ok value)
@@ -199,7 +199,7 @@ module _ {old mid : Disk} {a b : Books} {count some : ℕ} (few : a.moved ≤ a.
     pub all_number : 0 ≡ a.header.entries - a.moved - count
     all_number = omega (arith, all_old, lesser.0)
 
-    -- all frames are home, and a header that says so is published
+    -- if all frames are home, and a header that says so is published, `Migrates` holds
     pub migrates_all : {T E U F : Type 0} {new : Disk} {c : Books} {r : Result T E} {s : Result U F} → IsSoundOn old a →
         mid.failures ≡ old.failures → Publishes mid new b c (on_snapshots all_moved (stored_on mid b)) r → (is_err s ≡ is_err r) →
         Migrates old new a c count s

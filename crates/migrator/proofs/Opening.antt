@@ -140,13 +140,13 @@ frozen_is : (image : Image) (b : Books) (o : Option ℕ) {n : ℕ} → n < count
     → frozen_put (option_map (frozen_of image b) o) n ≡ put_of image b.plan (frozen_generation b) n (place_at b.frozen n)
 frozen_is image b o {n} lt running = grind (arith, nat_tests, put_is)
 
--- the frozen frame of an object or, if there is none, its saved one
+-- the frame below an object's working one is the frozen one or, if there is none, the saved one
 pub below_by : {size : ℕ} {image : Image} {b : Books} {n : ℕ} {place : Place} → n < count_of b.plan → IsIntact size image b →
     place_at b.frozen n ≡ place → put_or (put_of image b.plan (frozen_generation b) n place) (frame_at (stored_in image b).saved.frames n)
     ≡ below_at (stored_in image b) n
 below_by {size} {image} {b} {n} {place} lt kept at = grind (arith, nat_tests, frozen_is)
 
--- the newest frame of an object: its working one or, if there is none, the frozen or saved one
+-- the newest frame of an object is its working one or, if there is none, the one below
 pub newest_by : (image : Image) (b : Books) {n : ℕ} {place : Place} → n < count_of b.plan → place_at b.working n ≡ place
     → put_or (put_of image b.plan (working_generation b) n place) (below_at (stored_in image b) n) ≡ newest (stored_in image b) n
 newest_by image b {n} {place} lt at = grind (arith, nat_tests, put_is)
@@ -249,7 +249,7 @@ module _ {old new : Disk} {p : Plan} {h : CheckpointHeader} {es : List Entry} {f
   pub first_durable : IsDurable new (first_books p h es fs ws)
   first_durable = record { kept = first_kept; unwritten = tt }
 
--- the store is open
+-- a store over a device that was read is open (`OpensDurable`)
 pub first_opens : {D : Type 0} {disk : D → Disk} {device back : D} {p : Plan} {h : CheckpointHeader} {es : List Entry} {fs ws : List Place}
     → OnlyReads (disk device) (disk back) → HasPlan (disk device).seen (disk device).sectors p
     → IsRead (disk device).seen p h es → fs ≡ replicate (count_of p) Nowhere → ws ≡ replicate (count_of p) Nowhere →

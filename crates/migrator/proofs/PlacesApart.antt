@@ -141,7 +141,7 @@ module _ (p : Plan) (es : List Entry) (n first at : ℕ) (fits : IsPlan p) (is :
     none_below : (i : ℕ) → i < length es → i < at → home_place p (entry_at es i).object ≡ home_place p n → ⊥
     none_below i within less same = omega (arith, (start.least (entry_at es i).object (object i within) same), (below i less))
 
-    -- the entry found there shares the home of n, or no entry does
+    -- if the entry found there shares the home of n, `slot_beside` finds its slot
     pub found_there : at < length es → home_place p (entry_at es at).object ≡ home_place p n →
         slot_beside p es n ≡ Some (entry_at es at).slot
     found_there within same = beside_at p es n at within (λ j less. none_below j (omega (arith, less, within)) less) same

@@ -69,7 +69,7 @@ module _ {old mid : Disk} {b : Books} {next : CheckpointHeader} {fs : List Entry
     seen : Encodes mid.seen mid.sectors (saved mid.seen)
     seen = mid_sound mid.seen left
 
-    -- each crash leaves the same committed header, which the next one may follow
+    -- each crash leaves the same committed header as a read gives
     pub commits_one : CommitsOne mid
     commits_one c is = (mid_sound c is).header.spelt ∙ sym seen.header.spelt
 

@@ -163,7 +163,7 @@ module _ (since : Bool) {old new : Disk} {b : Books} {n : ℕ} (f : Frame) (kept
   put_goes_on : (ps : List Place) → GoesOnSeen old new b (with_places since b ps)
   put_goes_on ps = goes_spared refl refl refl (saved_spares since kept inside) (touches writes)
 
-  -- the result of the write, whether or not the device failed
+  -- after the write the invariant holds, whether or not the device failed
   put_either : {T : Type 0} (r : Result T Failed) (ps : List Place) → IsKeepable b.plan.geometry most n f →
       OnOk r (ps ≡ set (places since b) n (Whole slot)) → OnErr r (ps ≡ set (places since b) n (Torn slot)) →
       OnOk r (slot_bytes new.seen b.plan g slot n ≡ frame_bytes b.plan.geometry n f) →

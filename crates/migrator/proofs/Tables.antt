@@ -70,7 +70,7 @@ some_has p {s} is = grind (arith, nat_tests)
 pub set_here : (ps : List Place) {n : ℕ} {q : Place} → n < length ps → place_at (set ps n q) n ≡ q
 set_here ps {n} {q} lt = get_or-set_same ps n q Nowhere lt
 
--- the slot for an object that has one is this slot
+-- if an object has slot s, `slot_for` returns s
 pub slot_kept : (ps : List Place) (n : ℕ) {s : ℕ} → slot_of (place_at ps n) ≡ Some s → slot_for ps n ≡ s
 slot_kept ps n is = ap (λ (o : Option ℕ). slot_or o (taken_count ps)) is
 
@@ -157,7 +157,7 @@ none_held ps {from} none =
     entries_unheld ps from (length ps) (λ m past within. none m past) ∙ ap (entries_from (from + length ps))
     (drop_all (from + length ps) ps (omega arith))
 
--- the entries that aren't listed yet are `rest`
+-- the entries that are listed, and those that are left (`rest`), are together as many as the taken slots
 pub entries_left : (ps : List Place) (xs rest : List Entry) → entries_of ps ≡ xs ++ rest → length xs + length rest ≡ taken_count ps
 entries_left ps xs rest are = let all = ap length are in omega (arith, all, length_entries ps, length-append xs rest)
 

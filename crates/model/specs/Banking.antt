@@ -34,7 +34,7 @@ free_pages g os = are_free os (range_with_len g.nodes g.pages)
 unfoldable pub has_quota : List Object → ℕ → ℕ → Bool
 has_quota os b count = list_all (λ c. nat_le (usage os c + count) (limit_in (content_at os c))) (chain os b)
 
--- the contents of new objects
+-- the content of a new page, node, root and annex
 abbrev pub new_page : Content Capability
 new_page = content.Page zero_words
 

@@ -9,7 +9,8 @@ use Rattle.model.specs.World.{content_at, owner_at, slot_at, root_at, annex_at, 
 abbrev pub StaysInside : (ℕ → Bool) → Capability → Type 0
 StaysInside inside c = IsWeak c ⊎ elim (named c) [ None ↦ Unit {0} | Some n ↦ IsTrue (inside n) ]
 
--- a set with its members' annexes and its banks' objects; its members hold only capabilities that `MayHold` allows
+-- a set that contains its members' annexes and all objects that its banks own; its members hold only capabilities that
+-- `MayHold` allows
 pub record IsClosedBy (MayHold : Capability → Type 0) (os : List Object) (inside : ℕ → Bool) : Type 0 where
   pub annexes : (p : ℕ) → IsTrue (inside p) → IsTrue (is_process os p) → IsTrue (inside (annex_at os p))
   pub owned : (b n : ℕ) → IsTrue (inside b) → IsTrue (is_bank (content_at os b)) →

@@ -18,7 +18,7 @@ pub const MAX_HEIGHT: u8 = 4;
 pub enum Capability {
     /// Conveys nothing.
     Void,
-    /// A number of 64 bits.
+    /// A 64-bit number.
     Number(u64),
     /// A page of 512 words.
     Page {

@@ -134,7 +134,7 @@ unfolding under
 under_stands os b n below passes = stands_in (λ n. (n == b) || is_under os b (object_at os n)) 0 (length os) n (omega arith)
     (omega (arith, below)) passes
 
--- the objects that a bank owns are the numbers below the length that aren't free and have it as their owner
+-- a number that `owned_by` lists for bank b is in range, isn't free, and has b as its owner
 pub owned_found : (os : List Object) (b n : ℕ) → is_member (owned_by os b) n ≡ true →
     (n < length os) × (is_free (content_at os n) ≡ false) × (owner_at os n ≡ b)
 unfolding owned_by
@@ -190,7 +190,7 @@ module _ (g : Geometry) (os : List Object) (h : IsFramed g os) (b : ℕ) (is : I
     tree,
   )
 
-  -- this bank, and each bank under it, has it in its chain
+  -- this bank is in its own chain, and in that of each bank under it
   bank_under : (c : ℕ) → IsTrue (is_bank (content_at os c)) → is_member (under os b) c ≡ true → is_member (chain os c) b ≡ true
   bank_under c bank e = elim (cases_eq c b) [
     | inl same ↦ subst (λ k. is_member (chain os k) b ≡ true) (sym same) (chain_itself os tree b is)

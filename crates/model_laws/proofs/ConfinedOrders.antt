@@ -14,7 +14,7 @@ use Rattle.model.specs.declared.order.ProcessOrder.TheVariants as process
 use Rattle.model_laws.proofs.ConfinedBanks.{OutcomeStays, bank_stays}
 use Rattle.model_laws.proofs.Kept.{stays_consume, stays_refl, stays_root, stays_slot, stays_state, stays_trans, stays_word}
 
--- an outcome that leaves the objects unchanged and gives a capability that stays inside
+-- an outcome that leaves the objects unchanged, and gives a capability that stays inside, stays within the set
 still : (inside : ℕ → Bool) (os : List Object) (c : Capability) → Encloses inside os → StaysInside inside c
     → StaysWithin inside os os × StaysInside inside c
 still inside os c h stays = (stays_refl inside os h, stays)

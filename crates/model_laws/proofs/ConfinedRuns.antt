@@ -44,7 +44,7 @@ content_alike f k (content.Root r) slots space = grind (arith, nat_tests)
 content_alike f k (content.Annex cs) slots space = ap content.Annex (map_alike f k cs slots)
 content_alike f k c slots space = refl
 
--- in a sound world no capability that is made void names a number that was free
+-- in a sound world, if an object `IsKept` relative to the set and the free numbers, it `IsKept` relative to the set alone
 kept_inside : (g : Geometry) (os : List Object) (age : ℕ) (inside : ℕ → Bool) (n : ℕ) (new : Object) →
     IsSound g (record { objects = os; age = age }) → IsKept (with_free os inside) (object_at os n) new → IsKept inside (object_at os n) new
 kept_inside g os age inside n new sound k = (

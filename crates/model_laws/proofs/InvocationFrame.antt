@@ -175,7 +175,7 @@ pub state_now : (g : Geometry) (os : List Object) (p : ℕ) → IsNow g os → I
     → IsNow g (with_state os p Available)
 state_now g os p h is runs = (after_state g os p Available h (rw (is, runs) refl)).now
 
--- a sound world stays sound if a running process gets another state at the same age
+-- a sound world stays sound if a running process becomes available and the age stays the same
 pub state_sound : (g : Geometry) (os : List Object) (p age : ℕ) → IsSound g (record { objects = os; age = age }) → IsTrue (is_process os p)
     → IsTrue (is_running (state_at os p)) → IsSound g (record { objects = with_state os p Available; age = age })
 state_sound g os p age h is runs = search (arith, nat_tests, nearly_to, state_now, nearly_from)

@@ -33,7 +33,7 @@ replying_saved saved = map (λ at. (at.generation, at.world.age, at.entries)) sa
 abbrev pub AnswersBySteps : Type 0
 AnswersBySteps = (s : Machine) (c : Command) → Step small (Up s) c (answered s c).answer (Up (answered s c).after)
 
--- three machines: a page is frozen; it is written again and all frozen objects are in the log; these are committed
+-- three machines: a page was frozen; it was written again, and all frozen objects are in the log; these were committed
 abbrev pub frozen : Machine
 frozen = after (at_world f0) (writes Call 42 ∷ command.Checkpoint ∷ [])
 

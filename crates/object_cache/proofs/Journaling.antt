@@ -81,14 +81,14 @@ module _ {s : Stored} {m : Memory} {all : Bool} {left count : ℕ} (is : IsCache
     frozen_now : (k : ℕ) → frozen_at after m k ≡ below_at after k
     frozen_now k = rw (is.idle none k)
 
-    -- the saved frame of an untouched page is its present one, before and after
+    -- if the page is untouched, journaling it doesn't change the frame below its working one
     unwritten_here : n < length m.headers → mark_at m.touched n ≡ false → below_at s n ≡ below_at after n
     unwritten_here inside untouched = search (arith, frozen_was, none, saved_below, page_is, below_here)
 
     pub journal_stands : IsCache all (on_snapshots (journaled age n (words_in (content_at s m n))) s) m left count
     journal_stands = search (arith, present_same, frozen_was, cases_eq, unwritten_here, below_other, frozen_now, none-some, length-set)
 
-    -- before and after the journal, no checkpoint is frozen
+    -- journaling doesn't change the frozen state
     pub journal_frozen : frozen_seen (on_snapshots (journaled age n (words_in (content_at s m n))) s) m left ≡ frozen_seen s m left
     journal_frozen = search arith
 
@@ -183,7 +183,7 @@ module _ {D : Type 0} (disk : D → Disk) {d : DurableState D} {m : Memory} {all
           ∙ ap (λ t. snapshots_of disk t) view,
     )
 
-    -- how many frozen objects are left, in the view and in the store
+    -- the count of frozen objects that are left is the same in the view as in the store
     left_seen : (o : Option FrozenPuts) →
         option_map (λ (f : FrozenFrames). f.left) (option_map (λ (f : FrozenPuts). record
         { frames = frozen_in st m; size = f.size; left = left }) o) ≡

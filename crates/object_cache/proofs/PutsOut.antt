@@ -275,7 +275,7 @@ module _ {s : Stored} {m : Memory} {all : Bool} {left count : ℕ} (is : IsCache
       ((below : Content Cap) → apart_body e.kept (mark_at m.touched n) e.present below ≡ own_body e.kept e.present)
   frozen_state_pending = search (arith, has_frozen_body)
 
-  -- the frozen frame depends only on the entry
+  -- the frozen frame of n has the frozen header and the frozen body that the entry has
   pub frozen_is_own : (t : Stored) → frozen_at t m n ≡ own_frame (header_at m.frozen_headers n) e
   frozen_is_own t = rw (at, frozen_state_pending.0, frozen_state_pending.1 (below_body t m n))
 

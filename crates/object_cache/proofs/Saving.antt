@@ -42,7 +42,7 @@ module _ {D : Type 0} (disk : D → Disk) {s t : DurableState D} (reads : ReadsS
     cause = counts_on same saves.cause;
   }
 
-  -- if a call before failed, the device was only read
+  -- if an earlier call failed, `SavesPage` holds: the device was only read
   pub not_saved : {T E : Type 0} {n age : ℕ} {ws : List ℕ} {e : E} (r : Result ℕ E) (Q : E → Type 0) → IsErrAnd r Q →
       Counts {T = T} (disk s.beneath) (disk t.beneath) (Err e) → SavesPage disk s t n age ws r
   not_saved {n = n} {age = age} {ws = ws} (Ok g) Q failed counts = absurd failed
@@ -57,7 +57,7 @@ module _ {D : Type 0} (disk : D → Disk) {s t : DurableState D} (reads : ReadsS
     cause = err_counts refl counts;
   }
 
-  -- the page was saved with its present words
+  -- if the page was saved with the words that were read, it was saved with its present words
   pub held_after : {E : Type 0} {u : DurableState D} {n age : ℕ} (es : List (Option Entry)) {r : Result ℕ E} →
       (disk t.beneath).failures ≡ (disk s.beneath).failures → SavesPage disk t u n age (words_in (held_now es (stored_of disk t) n)) r →
       SavesPage disk s u n age (words_in (held_now es (stored_of disk s) n)) r
@@ -88,7 +88,7 @@ module _ {D : Type 0} (disk : D → Disk) {s : DurableState D} (sound : is_sound
   journals_as {t = t} {g = g} {r = r} h_is k_is is =
       subst (λ x. JournalsPage disk s t es g x n age r) k_is (subst (λ x. JournalsPage disk s t es x is_known n age r) h_is is)
 
-  -- a refusal without a change of the stored frames
+  -- a refusal that changes no stored frame satisfies `JournalsPage`
   pub refuses : {t : DurableState D} {why : Refusal} {r : Result ℕ Refusal} → (e : Refusal) × (r ≡ Err e) × (e ≡ why) →
       stored_of disk t ≡ stored_of disk s → GoesOn disk s t → (IsTurnedAway (Err why) → t ≡ s) →
       IsJournalAnswer (disk s.beneath) (disk t.beneath) (option_map left_of (stored_of disk s).frozen) (stored_of disk s).saved is_known
@@ -109,7 +109,7 @@ module _ {D : Type 0} (disk : D → Disk) {s : DurableState D} (sound : is_sound
       })
 
   module _ (free : (stored_of disk s).frozen ≡ None) (page : is_page_role h.role ≡ true) where
-    -- a refusal after the device was read
+    -- a refusal after the device was read satisfies `JournalsPage`
     pub refuses_late : {t : DurableState D} {why : Refusal} {r : Result ℕ Refusal} → (e : Refusal) × (r ≡ Err e) × (e ≡ why) →
         ReadsStore disk s t → (IsTurnedAway (Err why) → ⊥) →
         IsJournalAnswer (disk s.beneath) (disk t.beneath) None (stored_of disk s).saved is_known true (is_saved_page (stored_of disk s) h n)

@@ -234,7 +234,7 @@ pub record HaveRoom (e : EntriesState) (taken count : ℕ) : Type 0 where
   pub most : e.most ≡ all_of count
   pub later : (n : ℕ) → taken ≤ n → n < count → IsUnkept (entry_at e.at n)
 
--- of `count` numbers exactly those below k have an entry, without a frozen copy
+-- among `count` numbers exactly those below k have an entry; no entry has a frozen copy
 pub record AreInserted (e : EntriesState) (k count : ℕ) : Type 0 where
   pub each : length e.at ≡ count
   pub used : length e.order ≡ k

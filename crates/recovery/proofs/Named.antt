@@ -21,13 +21,13 @@ module _ (p : Parts) (hs : List ObjectHeader) (c : Cap) (current : ℕ) (table :
 
 -- facts about the capabilities of one object
 module _ (fs : List Frame) (c : Content Cap) (n : ℕ) (is : c ≡ (frame_at fs n).content) (b : Bool) where
-  -- if all slots of a node or annex satisfy `IsNamed`, so do all capabilities of the object
+  -- if b decides whether all slots of a node or annex satisfy `IsNamed`, it decides this for all capabilities of the object
   pub held_named : (slots : List Cap) → caps_in c ≡ slots → (IsTrue b ↔ All (IsNamed fs) slots) →
       IsTrue b ↔ All (IsNamed fs) (caps_in (frame_at fs n).content)
   held_named slots all tells = subst (λ (cs : List Cap). IsTrue b ↔ All (IsNamed fs) cs) (sym all ∙ ap (λ (d : Content Cap). caps_in d) is)
       tells
 
-  -- if the address space of a root satisfies `IsNamed`, so do all capabilities of the object
+  -- if b decides whether the address space of a root satisfies `IsNamed`, it decides this for all capabilities of the object
   pub space_named : (held : Cap) → caps_in c ≡ held ∷ [] → (IsTrue b ↔ IsNamed fs held) →
       IsTrue b ↔ All (IsNamed fs) (caps_in (frame_at fs n).content)
   space_named held all tells = grind (arith, nat_tests)

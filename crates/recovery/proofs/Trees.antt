@@ -12,7 +12,7 @@ use Rattle.recovery.proofs.Sound.{kept_at}
 use Rattle.recovery.proofs.Standing.{bank_role, free_role, limit_is, owner_is, role_bank, role_free}
 use Rattle.recovery.proofs.Tables.{bank_known, role_known}
 
--- a list contains number 0 exactly if the test finds it
+-- if a list contains number 0, the test finds it
 any_of : (xs : List ℕ) → Contains xs 0 → list_any (nat_eq 0) xs ≡ true
 any_of xs h = go xs h.0 h.1 h.2
   where

@@ -25,7 +25,7 @@ pub fn denoted_is_not_bad()
     ensures { DenotedIsNotBad }
 {}
 
-/// If none of the ten reasons holds for an image, it denotes a saved state. So the ten are all reasons to
+/// If none of the ten reasons holds for an image, it denotes a saved state. So there is no other reason to
 /// refuse an image.
 #[tactic(auto, using(crate::proofs::Complete::not_bad_denoted))]
 pub fn not_bad_is_denoted()

@@ -1,4 +1,4 @@
--- The numbers of 4 bytes in a row, and its bytes.
+-- The 4-byte numbers of a row of bytes, and the bytes of these numbers.
 use Rattle.seal.proofs.Names.{ℕ, zero, suc, List, length, get_or, drop, replicate, ap, sym, subst, inl, inr, arith, cases_lt, get_or-drop}
 use Rattle.seal.proofs.Names.{get_or-replicate, get_or_past, get_or_default, length-replicate, same_lists, length-map-range_with_len, get_or-map-range_with_len}
 use Rattle.seal.proofs.Names.{little_number, numbers}

@@ -25,7 +25,7 @@ two_numbers a b d e a' b' d' e' same =
     let first = number_first a d (little_bytes 8 b) (little_bytes 8 e) a' d' same in
     (first.0, (number_first b e [] [] b' e' first.1).0)
 
--- values of sums with the same bytes are equal
+-- sums with the same bytes are equal
 pub one_spelling : (s t : Sums) → AreWords s → AreWords t → sums_bytes s ≡ sums_bytes t → s ≡ t
 unfolding sums_bytes
 one_spelling s t small small' e =

@@ -4,7 +4,7 @@ use Rattle.seal.specs.Damage.{DifferInBurst, IsRow, differences}
 use Rattle.seal.specs.Seal.{IsSealed, body_of}
 use Rattle.seal.specs.Sums.{Fit, numbers, sums_of}
 
--- rows that differ in at most three numbers of 4 bytes have different sums
+-- if two rows differ in at most three 4-byte numbers, they have different sums
 abbrev pub FewChangesChangeSums : Type 0
 FewChangesChangeSums = (x y : List ℕ) → IsRow x → IsRow y → length x ≡ length y →
     differences (numbers x) (numbers y) ≤ 3 → sums_of x ≡ sums_of y → x ≡ y
@@ -13,7 +13,7 @@ FewChangesChangeSums = (x y : List ℕ) → IsRow x → IsRow y → length x ≡
 abbrev pub BurstsChangeSums : Type 0
 BurstsChangeSums = (i : ℕ) (x y : List ℕ) → IsRow x → IsRow y → DifferInBurst i x y → sums_of x ≡ sums_of y → x ≡ y
 
--- of two rows that differ in a burst, at most one is sealed
+-- if two rows differ in a burst, at most one of them is sealed
 abbrev pub BurstsBreakSeals : Type 0
 BurstsBreakSeals = (i : ℕ) (x y : List ℕ) → IsRow x → IsRow y → DifferInBurst i x y → IsSealed x → IsSealed y → x ≡ y
 

@@ -4,7 +4,7 @@ use Rattle.std.specs.List.{range_with_len}
 use Rattle.byteorder.specs.Endian.{little_bytes, little_number}
 use Rattle.seal.specs.declared.sums.Sums.{Sums}
 
--- the numbers of 4 bytes each in a row, the lowest byte first
+-- a row of bytes as 4-byte numbers, the lowest byte first
 unfoldable pub numbers : List ℕ → List ℕ
 numbers row = map (λ k. little_number 4 (drop (4 * k) row)) (range_with_len 0 (length row / 4))
 

@@ -2,8 +2,9 @@
 ghost use Rattle.seal.specs.Laws.{BodiesDecideSeals, BurstsBreakSeals, BurstsChangeSums, FewChangesChangeSums, SumsFit};
 ghost use Rattle.seal.specs.Laws.{ZerosAreSealed};
 
-/// If at most three numbers of 4 bytes in a row change, or a burst of at most 64 bits, its sums change. A sealed row
-/// with such a burst, even in its seal, isn't sealed any more. The function does nothing: its contract is the law.
+/// If at most three of a row's 4-byte numbers change, or a burst of at most 64 bits does, the sums of the row
+/// change. If a sealed row changes by such a burst, even in its seal, it isn't sealed any more. The function
+/// does nothing: its contract is the law.
 pub fn damage_is_seen()
     ensures numbers { FewChangesChangeSums }
     ensures burst { BurstsChangeSums }

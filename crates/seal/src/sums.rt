@@ -8,11 +8,11 @@ use byteorder::{ByteOrder, LittleEndian};
 /// How many bytes sums take.
 pub const SUMS_BYTES: usize = 24;
 
-/// The sums of a row of bytes. Rows of one length that differ in at most three numbers of 4 bytes have
+/// The sums of a row of bytes. If two rows of one length differ in at most three 4-byte numbers, they have
 /// different sums.
 #[derive(Clone, Copy, PartialEq, Eq)]
 pub struct Sums {
-    /// The sum of all numbers of 4 bytes in the row.
+    /// The sum of all 4-byte numbers in the row.
     pub a: u64,
     /// The sum of these numbers, each times its place k, counted from the end: the last number has place 1.
     pub b: u64,

@@ -256,7 +256,7 @@ used_first os t b = used_same os b 0 (not_empty os t) (elim (cases_eq 0 b) [
   | inr other ↦ grind (arith, nat_tests, chain_prime, and-false)
 ])
 
--- counting one more object: a free one changes no usage, any other raises those in its owner's chain by one
+-- counting one more object that is free changes no usage
 pub used_free : (os : List Object) (b n : ℕ) → n < length os → is_free (content_at os n) ≡ true →
     used_below os b (n + 1) ≡ used_below os b n
 used_free os b n inside none = used_same os b n inside (rw none (and-false (not (n == b))))

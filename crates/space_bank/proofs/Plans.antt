@@ -56,7 +56,7 @@ module _ (os : List Object) (i b sought : ℕ) (other : b ≡ sought → ⊥) wh
       list_any (nat_eq sought) (chain_within (16 - i) os b) ≡ list_any (nat_eq sought) (chain_within (16 - (i + 1)) os owner)
   sought_next owner inside inner is = grind (arith, nat_tests)
 
--- `count` more objects pass no limit in the rest of the chain exactly if `count` is at most the least that any of them allows
+-- `count` is at most what the limit leaves exactly if the usage plus `count` is within the limit
 fits_left : (count used limit : ℕ) → used ≤ limit → nat_le count (limit - used) ≡ nat_le (used + count) limit
 fits_left count used limit within = grind (arith, nat_tests)
 
@@ -89,7 +89,7 @@ quota_is os b count within =
     ∙ ap (λ (t : Bool). t && list_all (λ c. nat_le (usage os c + count) (limit_in (content_at os c))) rest)
     (fits_left count (usage os b) (limit_in (content_at os b)) (within 0 0 (omega arith))))
 
--- at the beginning of a walk, the least that the limits allow is still to be found
+-- if bank b itself allows at most m more objects, its chain allows the least of m and of what each bank in it allows
 pub least_begun : (os : List Object) (b m : ℕ) → left_of os b ≤ m → remaining os b ≡ least m (map (left_of os) (chain_within (16 - 0) os b))
 unfolding remaining chain
 least_begun os b m within =

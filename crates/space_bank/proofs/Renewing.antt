@@ -172,7 +172,7 @@ module _ {S : Type 0} (parts : S → Parts) (Fetched Announced : S → ℕ → T
       → KeepsObjects parts Fetched Announced Continues old new
   snapshots_alone old new a stays = grind (arith, nat_tests)
 
--- the rest of a list as the slice that the code takes
+-- the slice that the code takes is the list from index i on
 pub rest_is : (xs ys : List ℕ) (i : ℕ) → xs ≡ ys → take (length xs - i) (drop i xs) ≡ drop i ys
 rest_is xs ys i same = take_rest xs i ∙ ap (λ (zs : List ℕ). drop i zs) same
 
@@ -233,7 +233,7 @@ one_all P n h is d inside = grind (arith, nat_tests)
 pub rest_all : (P : ℕ → Type 0) (n : ℕ) (ns : List ℕ) → All P (n ∷ ns) → All P ns
 rest_all P n ns all k d inside = all (suc k) d (omega arith)
 
--- marking one number as free
+-- if n is marked as free, the free numbers are n and those that were free before
 pub mark_one : (before now : List Bool) (n : ℕ) → n < length before → now ≡ slice_set before n true
     → (m : ℕ) → is_marked now m ≡ (if is_member (n ∷ []) m then true else is_marked before m)
 mark_one before now n inside is m = grind (arith, nat_tests, get_or-set_same, member_head, get_or-set_other, member_tail)

@@ -5,7 +5,7 @@ use Rattle.layout.specs.declared.header.CheckpointHeader.{CheckpointHeader}
 use Rattle.layout.specs.declared.sealed.header.SealedHeader.{SealedHeader}
 use Rattle.layout.specs.sealed.Sector.{sector_bytes}
 
--- a header as numbers of 8 bytes; the first is the magic
+-- a header as 8-byte numbers; the first is the magic
 abbrev pub header_numbers : SealedHeader → List ℕ
 header_numbers h =
     little_number 8 (codes "EROSHEAD") ∷ h.header.sequence ∷ h.header.generation ∷ h.header.entries ∷ h.header.age

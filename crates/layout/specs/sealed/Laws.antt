@@ -33,12 +33,12 @@ SpellOneSealedSuperblock = (p q : SuperblockRow) (qs rs : List HomeRange) → le
     AreWords (superblock_numbers p qs) → AreWords (superblock_numbers q rs) →
     sealed_superblock_bytes p qs ≡ sealed_superblock_bytes q rs → (p ≡ q) × (qs ≡ rs)
 
--- of two rows that differ in a burst, at most one is a sealed sector: superblock, header, directory or page header
+-- if two rows differ in a burst, at most one of them is a sealed sector: superblock, header, directory or page header
 abbrev pub SectorsShowBursts : Type 0
 SectorsShowBursts = (i : ℕ) (x y ms ns : List ℕ) → IsRow x → IsRow y → DifferInBurst i x y →
     x ≡ sector_bytes ms → y ≡ sector_bytes ns → x ≡ y
 
--- of two rows that differ in a burst, at most one is a sealed cluster
+-- if two rows differ in a burst, at most one of them is a sealed cluster
 abbrev pub ClustersShowBursts : Type 0
 ClustersShowBursts = (i : ℕ) (x y : List ℕ) (m n : ℕ) → IsRow x → IsRow y → DifferInBurst i x y →
     IsCluster m x → IsCluster n y → x ≡ y

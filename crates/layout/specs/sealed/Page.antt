@@ -7,7 +7,7 @@ use Rattle.layout.specs.Bytes.{zeros}
 use Rattle.layout.specs.declared.sealed.page.PageHeader.{PageHeader}
 use Rattle.layout.specs.sealed.Sector.{sector_bytes}
 
--- the header sector as numbers of 8 bytes: the frame's header, and the sums of the words
+-- the header sector as 8-byte numbers: the frame's header, and the sums of the words
 abbrev pub page_header_numbers : PageHeader → List ℕ
 page_header_numbers h =
     role_number h.object.role ∷ h.object.allocations ∷ h.object.calls ∷ h.object.owner

@@ -9,7 +9,7 @@ use Rattle.seal.specs.Seal.{body_of}
 unfoldable pub with_seal : List ℕ → List ℕ
 with_seal body = body ++ sums_bytes (sums_of body)
 
--- the 512 bytes of numbers of 8 bytes each, zeros and a seal
+-- a sector of 512 bytes: these 8-byte numbers, zeros, and a seal
 unfoldable pub sector_bytes : List ℕ → List ℕ
 sector_bytes ns = with_seal (words_bytes ns ++ zeros (488 - 8 * length ns))
 

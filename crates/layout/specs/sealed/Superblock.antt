@@ -10,8 +10,8 @@ abbrev pub range_numbers : List HomeRange → List ℕ
 range_numbers [] = []
 range_numbers (r ∷ rs) = r.first ∷ r.count ∷ r.sector ∷ range_numbers rs
 
--- a superblock as numbers of 8 bytes: the first is the magic, the second the version and the count of ranges, each
--- of 4 bytes
+-- a superblock as 8-byte numbers; the first is the magic, the second has the version and the count of ranges, 4 bytes
+-- each
 abbrev pub superblock_numbers : SuperblockRow → List HomeRange → List ℕ
 superblock_numbers row rs =
     little_number 8 (codes "EROSCKPT") ∷ (3 + 2 ^ 32 * row.used) ∷ row.geometry.nodes ∷ row.geometry.pages

@@ -9,8 +9,8 @@ pub fn invocation_is_confined()
     ensures { InvocationIsConfined }
 {}
 
-/// Over any run of invocations and memory references by processes of a closed set, and by processes that they
-/// make from free numbers: each object outside the set that wasn't free keeps its content and its owner, but
+/// Take any run of invocations and memory references by processes of a closed set, and by processes that they
+/// make from free numbers. Each object outside the set that wasn't free keeps its content and its owner, but
 /// capabilities in it that name a member may become void. So an object to which the set has only weak
 /// capabilities is never written (EROS: confinement).
 #[tactic(auto, using(crate::proofs::ConfinedRuns::run_confined))]
