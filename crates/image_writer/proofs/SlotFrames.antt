@@ -123,7 +123,7 @@ slots_stay p generation at long es frames mid new is place change so_far j lt = 
 -- each frame is in the slot of its own or its cluster's first entry, or at home
 pub all_slotted : (p : Plan) (generation : ℕ) (es : List Entry) (frames : List Frame) (homes new : Image) → IsPlan p →
     Elsewhere (half_sector p generation) (half_extent p.version p.geometry 0).length homes new →
-        AreHome p frames (object_count p.geometry) homes
+    AreHome p frames (object_count p.geometry) homes
     → AreInSlots p generation es frames (length es) new → (a : ℕ) → a < object_count p.geometry →
     frame_in new p generation es a ≡ frame_bytes p.geometry a (frame_at frames a)
 all_slotted p generation es frames homes new fits change home slots a lt = by (frame_slot_in p es a) refl where
