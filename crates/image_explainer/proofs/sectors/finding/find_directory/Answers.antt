@@ -28,7 +28,8 @@ returns-in-Some-clause-found c = λ image copy plan header.
     directory_fault image c.args.size p c.args.header c.read_entries.new.into c.slot_sector-sector.result (c.slot_sector-sector.result + 9)
     c.sectors.result.now
     (omega (arith, plan.fits.geometry.least_log)) at refl (length c.args.entries.now) c.requires.length
-    (subst (λ (k : ℕ). c.sectors.result.now ≡ sectors_from image (c.slot_sector-sector.result + 9) k) count (c.sectors.ensures.value image copy))
+    (subst (λ (k : ℕ). c.sectors.result.now ≡ sectors_from image (c.slot_sector-sector.result + 9) k) count
+    (c.sectors.ensures.value image copy))
     c.read_entries.ensures.bytes
     c.in-Some.part plan header c.read_entries.ensures.size c.read_entries.ensures.fits
     (subst (λ (g : Geometry). BreaksDirectory g c.read_entries.new.into c.in-Some.part) c.geometry-geometry.ensures.value
