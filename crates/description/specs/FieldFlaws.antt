@@ -24,7 +24,7 @@ IsOutside first end ns i = IsFirst (λ n. (first ≤ n) × (n < end)) (λ n. (fi
 abbrev pub IsTwice : List ℕ → ℕ → ℕ → Type 0
 IsTwice ns i j = (i < j) × (n : ℕ) × (slice_get ns i ≡ Some n) × (slice_get ns j ≡ Some n)
 
--- j is the first place whose number occurs before, and i is where
+-- place j is the first whose number also stands at an earlier place, and i is that place
 abbrev pub IsFirstTwice : List ℕ → ℕ → ℕ → Type 0
 IsFirstTwice ns i j = AreDistinct (take j ns) × IsTwice ns i j
 

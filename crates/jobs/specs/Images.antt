@@ -29,7 +29,7 @@ checked_text format.Text generation age entries =
 checked_text format.Json generation age entries =
     number_object (codes "generation") generation (member.Number key.Age age ∷ member.Number key.Entries entries ∷ [])
 
--- the size of a table's image was written
+-- the line with the size of the image that a TOML table describes was written
 abbrev pub TellsTotal : Members → (List ℕ → Type 0) → Type 0
 TellsTotal ms Reported = (d : Description) × IsDescription ms d × Reported (line_of (built_text (plan_for d).total))
 

@@ -20,7 +20,7 @@ use Rattle.model.specs.declared.order.BankOrder.TheVariants as bank
 use Rattle.model.specs.declared.order.ResultCode.TheVariants as code
 use Rattle.model_laws.proofs.Kept.{kept_refl, stays_refl, stays_rescind, stays_trans}
 
--- an outcome of an order whose objects, and given capability, stay within a set
+-- an order's outcome stays within a set: its objects do, and so does the capability that it gives
 abbrev pub OutcomeStays : (ℕ → Bool) → List Object → OrderOutcome → Type 0
 OutcomeStays inside os o = StaysWithin inside os o.objects × StaysInside inside o.capability
 

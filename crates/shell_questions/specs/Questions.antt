@@ -89,7 +89,7 @@ IsNoQuestion j = Unit {0}
 
 -- ---- the answer
 
--- whether the output took an answer, by the fault of the command
+-- the result of a command with this fault, or none: a write error if it couldn't write its output, else success
 abbrev pub end_of : Option Fault → Result (Unit {0}) RunFault
 end_of (Some fault.CannotWriteOutput) = Err run_fault.Write
 end_of other = Ok tt

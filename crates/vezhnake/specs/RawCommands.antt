@@ -38,7 +38,7 @@ command_of r =
     if r.kind == 11 then Some command.Restart else
     if r.kind == 12 then Some command.Cut else None
 
--- a command of this kind in numbers, without registers and for all objects
+-- a stage of a save in numbers: its kind, and the greatest count of objects, so that a stage with a count does all
 abbrev pub stage_of : ℕ → RawCommand
 stage_of kind =
     record { kind = kind; register = 0; sent = replicate 4 0; number = 2 ^ 64 - 1; words = replicate 4 0 }

@@ -16,7 +16,7 @@ use Rattle.ckpt_log.specs.sealed.Publish.{HasNew, SparesRest, StaysCommitted}
 abbrev pub HomesAreAfter : Plan → Type 0
 HomesAreAfter p = (object : ℕ) → IsObject p.geometry object → 56 ≤ home_place p object
 
--- all blocks lie after the header slots, if those at home do
+-- an object's block lies after the header slots if the object's home does
 abbrev pub BlocksAreAfter : Type 0
 BlocksAreAfter = (p : Plan) (generation : ℕ) (es : List Entry) (object : ℕ) → IsSealedPlan p →
     56 ≤ home_place p object → 56 ≤ block_sector p generation es object

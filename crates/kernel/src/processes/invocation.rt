@@ -38,7 +38,7 @@ fn refuse_worn<F: Frames>(store: &mut F, invocation: &Invocation) -> Refusal
 /// Carries out an invocation by a process, and raises `age` by one. Returns the result code of the order, or
 /// `None` if the capability was a start or resume capability. `banks` keeps the usage of each bank.
 ///
-/// A refusal changes nothing. It is the first that applies: `NoProcess` (the store is untouched),
+/// A refusal changes no object. It is the first that applies: `NoProcess` (the store is untouched),
 /// `NotRunning`, `Worn` at the greatest age, `Stalled`, `LogFull`.
 ///
 /// `Fault` if the device failed: then nothing is said of the objects.
