@@ -19,7 +19,7 @@ abbrev pub IsInOrder : CheckpointHeader → Image → Image → Type 0
 IsInOrder h old new = (new (header_sector h) ≡ old (header_sector h)) ⊎
     ((new (gate_sector h) ≡ closed_gate (old (gate_sector h))) ⊎ (new (header_sector h) ≡ header_bytes h))
 
--- `IsInOrder` holds from some image that a crash of `disk` may leave to the image c
+-- for some image d that a crash of `disk` may leave, `IsInOrder` holds from d to c
 abbrev pub IsInOrderAfter : CheckpointHeader → Disk → Image → Type 0
 IsInOrderAfter h disk c = (d : Image) × disk.may_leave d × IsInOrder h d c
 

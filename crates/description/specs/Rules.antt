@@ -18,7 +18,7 @@ version_of n = if n == 2 then Two else One
 abbrev pub plan_for : Description → Plan
 plan_for d = plan_from (version_of d.layout) d.geometry d.ranges.items
 
--- the sizes, ranges and age are those that an image may have, in a layout that programs open
+-- the layout is a version that `eros` opens, and an image may have these sizes, ranges and age
 pub record IsWithinLimits (d : Description) : Type 0 where
   pub layout : (v : Version) × (d.layout ≡ version_number v) × IsOpened v
   pub laid : MayBeLaid d.geometry d.ranges.items

@@ -52,11 +52,12 @@ pub record IsTable (ps : List Place) : Type 0 where
   pub few : (n s : ℕ) → slot_of (place_at ps n) ≡ Some s → s < taken_count ps
   pub apart : (m n s : ℕ) → slot_of (place_at ps m) ≡ Some s → slot_of (place_at ps n) ≡ Some s → m ≡ n
 
--- the entries of objects that have a slot, in rising order; the first place is that of object n
+-- these entries, after one for object n if it has a slot
 abbrev pub entry_before : ℕ → Option ℕ → List Entry → List Entry
 entry_before n None es = es
 entry_before n (Some s) es = record { object = n; slot = s } ∷ es
 
+-- the entries of the objects that have a slot, in rising order; the first place in the list is that of object n
 abbrev pub entries_from : ℕ → List Place → List Entry
 entries_from n [] = []
 entries_from n (p ∷ ps) = entry_before n (slot_of p) (entries_from (n + 1) ps)

@@ -16,7 +16,7 @@ abbrev pub IsFollowed : Purpose → Capability → Type 0
 IsFollowed purpose.Change c = IsWeak c → ⊥
 IsFollowed purpose.Read c = Unit {0}
 
--- the search follows this capability to object n; it doesn't start a trusted process
+-- the search follows this capability, which names object n and is no start capability of a trusted process
 abbrev pub Conveys : Links → Capability → ℕ → Type 0
 Conveys follows c n = IsFollowed follows.purpose c × (StartsOne follows.trusted c → ⊥) × (named c ≡ Some n)
 
