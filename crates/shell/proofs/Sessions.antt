@@ -48,7 +48,8 @@ takes_joined (Some ls) (Some ms) None xs ys first then = absurd then
 takes_joined (Some ls) (Some ms) (Some ns) xs ys first then =
     first ∙ ap (λ (l : List (List ℕ)). xs ++ l) then ∙ sym (append_assoc xs ys ns)
 
-module _ {D S : Type 0} (disk : D → Disk) (view : S → View D) (parts : S → Parts) (inspects : Inspects D) (topics : List Topic) (prompts : Bool) where
+module _ {D S : Type 0} (disk : D → Disk) (view : S → View D) (parts : S → Parts) (inspects : Inspects D) (topics : List Topic)
+    (prompts : Bool) where
   -- the lines that were taken so far were served
   abbrev pub SoFar : Option (List (List ℕ)) → Option (List (List ℕ)) → Session D S → Session D S → Type 0
   SoFar ahead now s t = (lines : List (List ℕ)) × Takes ahead now lines × AreServed disk view parts inspects topics prompts lines s t
@@ -57,7 +58,8 @@ module _ {D S : Type 0} (disk : D → Disk) (view : S → View D) (parts : S →
   none_yet ahead s = ([], nothing_taken ahead, refl)
 
   served_more : (ls : List (List ℕ)) (l : List ℕ) (s mid t : Session D S) → AreServed disk view parts inspects topics prompts ls s mid →
-      StepsBy disk view parts inspects topics prompts l mid t (Ok true) → AreServed disk view parts inspects topics prompts (ls ++ l ∷ []) s t
+      StepsBy disk view parts inspects topics prompts l mid t (Ok true) →
+      AreServed disk view parts inspects topics prompts (ls ++ l ∷ []) s t
   served_more [] l s mid t same step =
       (t, subst (λ (x : Session D S). StepsBy disk view parts inspects topics prompts l x t (Ok true)) same step, refl)
   served_more (k ∷ ks) l s mid t served step = (served.0, served.1, served_more ks l served.0 mid t served.2 step)
@@ -69,7 +71,8 @@ module _ {D S : Type 0} (disk : D → Disk) (view : S → View D) (parts : S →
   more their_topics theirs same_topics same_prompts ahead now later s mid t l so_far takes step = (
     so_far.0 ++ l ∷ [],
     takes_joined ahead now later so_far.0 (l ∷ []) so_far.1 takes,
-    served_more so_far.0 l s mid t so_far.2 (subst (λ (ts : List Topic). StepsBy disk view parts inspects ts prompts l mid t (Ok true)) same_topics
+    served_more so_far.0 l s mid t so_far.2
+        (subst (λ (ts : List Topic). StepsBy disk view parts inspects ts prompts l mid t (Ok true)) same_topics
         (subst (λ (p : Bool). StepsBy disk view parts inspects their_topics p l mid t (Ok true)) same_prompts step)),
   )
 

@@ -12,7 +12,9 @@ loop-word-preserved c =
     record {
       numbered = numbered_more names c.loop-word.place c.loop-word.words c.next.new.self c.in-Some.word.now (search rules)
           c.after-place.result c.loop-word.numbered.items c.push_word.new.line.items c.push.new.line.items
-          (numbered_words names Command (words_of c.args.line.now)) c.after-place.ensures (search rules) (search rules) c.loop-word.invariant.numbered;
+          (numbered_words names Command (words_of c.args.line.now)) c.after-place.ensures (search rules) (search rules)
+          c.loop-word.invariant.numbered;
       known = known_more names c.loop-word.place c.loop-word.words c.next.new.self c.in-Some.word.now (search rules)
-          c.after-place.result (are_known names Command (words_of c.args.line.now)) c.after-place.ensures (search rules) c.loop-word.invariant.known;
+          c.after-place.result (are_known names Command (words_of c.args.line.now)) c.after-place.ensures (search rules)
+          c.loop-word.invariant.known;
     }

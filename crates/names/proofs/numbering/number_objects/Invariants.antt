@@ -7,7 +7,8 @@ use Rattle.names.proofs.numbering.number_objects.Given as goal
 
 abbrev pub invariant-loop-word : goal.invariant-loop-word
 invariant-loop-word l = record {
-  numbered : l.numbered.items ++ numbered_words (entries l.names) l.place l.words ≡ numbered_words (entries l.names) Command (words_of l.line);
+  numbered : l.numbered.items ++ numbered_words (entries l.names) l.place l.words ≡
+      numbered_words (entries l.names) Command (words_of l.line);
   known : are_known (entries l.names) Command (words_of l.line) ≡ are_known (entries l.names) l.place l.words;
 }
 
