@@ -16,3 +16,4 @@ pub mod SealedDirectories
 pub mod SealedChecks
 pub mod SealedWritten
 pub mod SealedStates
+pub mod AnyVersions

@@ -9,3 +9,4 @@ pub mod Places
 pub mod SavedSectors
 pub mod Slot
 pub mod sealed
+pub mod AnyVersion

@@ -2,6 +2,7 @@
 //! header committed, or the new one.
 #![tactic(auto)]
 
+mod any_version;
 mod closing;
 mod committed;
 mod directory;
@@ -13,6 +14,7 @@ pub mod sealed;
 mod sector;
 mod slots;
 
+pub use any_version::close_gates_of;
 pub use closing::close_gates;
 pub use header_slot::HeaderSlot;
 pub use laws::{

@@ -4,7 +4,7 @@ ghost use Rattle.layout.specs.Homes.{shape_of};
 ghost use Rattle.layout.specs.Shape.{IsShapeFor, shape_length};
 ghost use Rattle.layout.specs.Superblock.{IsWithin, half_extent};
 ghost use Rattle.layout.specs.Image.{half_sector, slot_sector, directory_sector};
-ghost use Rattle.layout.specs.Version.{directory_length};
+ghost use Rattle.layout.specs.Version.{directory_length, row};
 
 use layout::{Half, Shape, Superblock, directory_length};
 use model::Geometry;
@@ -31,6 +31,15 @@ impl<'a> Log<'a> {
         ensures { result ≡ superblock.now }
     {
         Log { superblock }
+    }
+
+    // Whether the version has seals. Homes and the log lie after the header slots.
+    #[tactic(auto, using(crate::proofs::AnyVersions::first_home_inside))]
+    pub(crate) fn is_sealed(&self) -> bool
+        ensures value { result ≡ (row self.now.version).sealed }
+        ensures behind { (row self.now.version).first_home ≤ self.now.total }
+    {
+        self.superblock.version().row().sealed
     }
 
     // Returns how many nodes, pages and log slots there are.

@@ -19,5 +19,6 @@ pub use laws::{
     sealed_saved_is_read_from_its_sectors,
 };
 pub use publishing::publish;
+pub(crate) use publishing::slot_of;
 pub use root::{add_last, empty_root, replace_seal};
 pub use units::{read_cluster, read_page, write_cluster, write_page};

@@ -12,8 +12,8 @@ use crate::sealed::sector::put_sector;
 use device::{Device, Failed, SECTOR_SIZE};
 use layout::{SealedHeader, encode_numbered_gate, encode_sealed_header};
 
-// Returns the slot that a header belongs in.
-fn slot_of(header: SealedHeader) -> u64
+/// Returns the slot that a header belongs in.
+pub(crate) fn slot_of(header: SealedHeader) -> u64
     ensures value { result ≡ header.header.sequence % 3 }
     ensures low { result < 3 }
     ensures fits { AreWords (header_numbers header) }
