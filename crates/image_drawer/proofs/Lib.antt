@@ -1,6 +1,7 @@
 mod Names
 pub mod Arrows
 pub mod Boxes
+pub mod Rectangles
 pub mod Listed
 pub mod Once
 mod Parts

@@ -2,7 +2,7 @@
 use Rattle.image_drawer.specs.Names.{ℕ, Bool, true, false, Option, None, Some, List, [], map, codes, decimal, unwrap_or}
 use Rattle.image_drawer.specs.Names.{flat_map, Capability, Void, Number, Space, Start, Resume, Discrim, State}
 use Rattle.image_drawer.specs.Names.{access_bits, named, capability_text, line_of, spaced, state_text, BankEntry}
-use Rattle.image_drawer.specs.Names.{Description, NodeEntry, PageEntry, ProcessEntry, SlotEntry}
+use Rattle.image_drawer.specs.Names.{Description, NodeEntry, Object, PageEntry, ProcessEntry, SlotEntry, chain}
 use Rattle.std.specs.Prelude.{◌==◌, if◌then◌else◌, ◌∷◌, ◌++◌}
 use Rattle.image_drawer.specs.declared.arrow.Arrow.{Arrow}
 use Rattle.image_drawer.specs.declared.arrow.Place.{Place}
@@ -147,6 +147,6 @@ abbrev pub head_lines : List ℕ
 head_lines = line_of (codes "digraph eros {") ++ line_of (codes "graph [rankdir=LR newrank=true]")
     ++ line_of (codes "node [fontsize=10 height=0 margin=0.05]") ++ line_of (codes "edge [fontsize=8]")
 
--- the whole graph
-unfoldable pub graph_text : Description → List ℕ
-graph_text d = head_lines ++ box_lines d ++ owner_lines d ++ arrow_lines d ++ line_of (codes "}")
+-- the whole graph, with the banks of these objects
+unfoldable pub graph_text : List Object → Description → List ℕ
+graph_text os d = head_lines ++ box_lines d ++ owner_lines os d ++ arrow_lines d ++ line_of (codes "}")

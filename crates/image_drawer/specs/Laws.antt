@@ -1,9 +1,9 @@
 -- What the graph of a world's description shows.
 use Rattle.image_drawer.specs.Names.{ℕ, false, List, [], Some, IsTrue, Contains, Capability, Geometry, Object, named}
-use Rattle.image_drawer.specs.Names.{is_annex, is_free, is_node, World, content_at, is_process, owner_at, register_at}
-use Rattle.image_drawer.specs.Names.{root_at, slot_at, Description, Describes}
+use Rattle.image_drawer.specs.Names.{IsSound, chain, is_annex, is_bank, is_free, is_node, World, content_at, is_process}
+use Rattle.image_drawer.specs.Names.{owner_at, register_at, root_at, slot_at, Description, Describes}
 use Rattle.std.specs.Prelude.{◌≡◌, ◌≢◌, ◌↔◌, ◌∷◌}
-use Rattle.image_drawer.specs.Graph.{arrows, boxes, owners}
+use Rattle.image_drawer.specs.Graph.{arrows, boxes, in_rectangle, in_rectangles, owners}
 use Rattle.image_drawer.specs.declared.arrow.Arrow.{Arrow}
 use Rattle.image_drawer.specs.declared.arrow.Place.{Place}
 use Rattle.image_drawer.specs.declared.arrow.Place.TheVariants as place

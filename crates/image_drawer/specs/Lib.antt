@@ -1,4 +1,5 @@
 pub mod Names
 pub mod Graph
+pub mod Rectangles
 pub mod Laws
 pub mod Part

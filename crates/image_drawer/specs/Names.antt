@@ -7,8 +7,10 @@ pub use Rattle.description.specs.declared.entry.NodeEntry.{NodeEntry}
 pub use Rattle.description.specs.declared.entry.PageEntry.{PageEntry}
 pub use Rattle.description.specs.declared.entry.ProcessEntry.{ProcessEntry}
 pub use Rattle.description.specs.declared.entry.SlotEntry.{SlotEntry}
+unfoldable pub use Rattle.model.specs.Bank.{chain}
 pub use Rattle.model.specs.Capability.{access_bits, named}
-pub use Rattle.model.specs.Object.{is_annex, is_free, is_node}
+pub use Rattle.model.specs.Object.{is_annex, is_bank, is_free, is_node}
+pub use Rattle.model.specs.Sound.{IsSound}
 pub use Rattle.model.specs.Text.{line_of, spaced, state_text}
 unfoldable pub use Rattle.model.specs.Text.{capability_text}
 pub use Rattle.model.specs.World.{World, content_at, is_process, owner_at, register_at, root_at, slot_at}

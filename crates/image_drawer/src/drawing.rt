@@ -5,6 +5,7 @@ ghost use Rattle.image_drawer.specs.Graph.{arrow_line, arrow_lines, box_lines, g
 
 use crate::part::Part;
 use description::Description;
+use model::Object;
 use script::{Output, RunFault};
 
 // Writes the boxes of these objects, in order.
@@ -21,10 +22,10 @@ fn draw_boxes<P: Part, W: Output>(parts: &[P], writer: &mut W) -> Result<(), Run
 // Writes the lines that put these objects into the clusters of their owners.
 fn draw_owners<P: Part, W: Output>(parts: &[P], writer: &mut W) -> Result<(), RunFault>
     ensures { Writes (W.written writer.old) (W.written writer.new) result
-        (flat_map owner_line (flat_map P.owner_of parts.now)) }
+        (flat_map (owner_line objects.now) (flat_map P.owner_of parts.now)) }
 {
     for part in parts {
-        part.draw_owner(writer)?;
+        part.draw_owner(objects, writer)?;
     }
     Ok(())
 }
@@ -51,15 +52,19 @@ fn draw_all_boxes<W: Output>(description: &Description, writer: &mut W) -> Resul
     draw_boxes(description.pages.as_slice(), writer)
 }
 
-// Writes the lines that put all objects into the clusters of their owners.
-fn draw_all_owners<W: Output>(description: &Description, writer: &mut W) -> Result<(), RunFault>
+// Writes the lines that put all objects into the rectangles of the banks that own them.
+fn draw_all_owners<W: Output>(
+    objects: &[Object],
+    description: &Description,
+    writer: &mut W,
+) -> Result<(), RunFault>
     ensures { Writes (W.written writer.old) (W.written writer.new) result
-        (owner_lines description.now) }
+        (owner_lines objects.now description.now) }
 {
-    draw_owners(description.banks.as_slice(), writer)?;
-    draw_owners(description.processes.as_slice(), writer)?;
-    draw_owners(description.nodes.as_slice(), writer)?;
-    draw_owners(description.pages.as_slice(), writer)
+    draw_owners(objects, description.banks.as_slice(), writer)?;
+    draw_owners(objects, description.processes.as_slice(), writer)?;
+    draw_owners(objects, description.nodes.as_slice(), writer)?;
+    draw_owners(objects, description.pages.as_slice(), writer)
 }
 
 // Writes the arrows of all objects.
@@ -76,16 +81,20 @@ fn draw_all_arrows<W: Output>(description: &Description, writer: &mut W) -> Resu
 ///
 /// Returns `Err(RunFault::Write)` if the writer fails or accepts no bytes; then it accepted only a beginning of the
 /// text. It takes no memory.
-pub fn draw<W: Output>(description: &Description, writer: &mut W) -> Result<(), RunFault>
+pub fn draw<W: Output>(
+    objects: &[Object],
+    description: &Description,
+    writer: &mut W,
+) -> Result<(), RunFault>
     ensures { Writes (W.written writer.old) (W.written writer.new) result
-        (graph_text description.now) }
+        (graph_text objects.now description.now) }
 {
     writer.write_fully(
         b"digraph eros {\ngraph [rankdir=LR newrank=true]\nnode [fontsize=10 height=0 margin=0.05]\n\
           edge [fontsize=8]\n",
     )?;
     draw_all_boxes(description, writer)?;
-    draw_all_owners(description, writer)?;
+    draw_all_owners(objects, description, writer)?;
     draw_all_arrows(description, writer)?;
     writer.write_fully(b"}\n")
 }

@@ -1,6 +1,6 @@
 //! Laws of graphs. Each is the contract of an empty function.
 
-ghost use Rattle.image_drawer.specs.Laws.{ArrowsAreHeld, BoxesAreObjects, OwnersAreOwners};
+ghost use Rattle.image_drawer.specs.Laws.{ArrowsAreHeld, BoxesAreObjects, RectanglesNest, OwnersAreOwners};
 ghost use Rattle.image_drawer.specs.Part.{PartIsShown};
 
 /// In the graph of a world's description each object in use has exactly one box; an annex shares its root's. There

@@ -13,7 +13,7 @@ use crate::lines::begin;
 use crate::owner::draw_owner;
 use crate::slots::{draw_plain_slots, draw_slots, held};
 use description::{BankEntry, NodeEntry, PageEntry, ProcessEntry};
-use model::State;
+use model::{Object, State};
 use script::{LineText, Output, RunFault, state_word};
 
 /// A part of the graph: an object's box, its owner, and its arrows.
@@ -35,7 +35,7 @@ pub(crate) trait Part {
     /// itself.
     fn draw_owner<W: Output>(&self, writer: &mut W) -> Result<(), RunFault>
         ensures { Writes (W.written writer.old) (W.written writer.new) result
-            (flat_map owner_line (owner_of self.now)) };
+            (flat_map (owner_line objects.now) (owner_of self.now)) };
 
     /// Writes the object's arrows.
     fn draw_arrows<W: Output>(&self, writer: &mut W) -> Result<(), RunFault>
@@ -61,8 +61,8 @@ impl Part for BankEntry {
         line.print(writer)
     }
 
-    fn draw_owner<W: Output>(&self, writer: &mut W) -> Result<(), RunFault> {
-        draw_owner(self.owner, self.number, writer)
+    fn draw_owner<W: Output>(&self, objects: &[Object], writer: &mut W) -> Result<(), RunFault> {
+        draw_owner(objects, self.owner, self.number, writer)
     }
 
     fn draw_arrows<W: Output>(&self, _writer: &mut W) -> Result<(), RunFault> {
@@ -112,8 +112,8 @@ impl Part for ProcessEntry {
         writer.write_fully(b"\" shape=ellipse]\n")
     }
 
-    fn draw_owner<W: Output>(&self, writer: &mut W) -> Result<(), RunFault> {
-        draw_owner(self.owner, self.root, writer)
+    fn draw_owner<W: Output>(&self, objects: &[Object], writer: &mut W) -> Result<(), RunFault> {
+        draw_owner(objects, self.owner, self.root, writer)
     }
 
     fn draw_arrows<W: Output>(&self, writer: &mut W) -> Result<(), RunFault> {
@@ -147,8 +147,8 @@ impl Part for NodeEntry {
         writer.write_fully(b"\" shape=box]\n")
     }
 
-    fn draw_owner<W: Output>(&self, writer: &mut W) -> Result<(), RunFault> {
-        draw_owner(self.owner, self.number, writer)
+    fn draw_owner<W: Output>(&self, objects: &[Object], writer: &mut W) -> Result<(), RunFault> {
+        draw_owner(objects, self.owner, self.number, writer)
     }
 
     fn draw_arrows<W: Output>(&self, writer: &mut W) -> Result<(), RunFault> {
@@ -172,8 +172,8 @@ impl Part for PageEntry {
         line.print(writer)
     }
 
-    fn draw_owner<W: Output>(&self, writer: &mut W) -> Result<(), RunFault> {
-        draw_owner(self.owner, self.number, writer)
+    fn draw_owner<W: Output>(&self, objects: &[Object], writer: &mut W) -> Result<(), RunFault> {
+        draw_owner(objects, self.owner, self.number, writer)
     }
 
     fn draw_arrows<W: Output>(&self, _writer: &mut W) -> Result<(), RunFault> {

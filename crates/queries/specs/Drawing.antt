@@ -52,7 +52,7 @@ KeepsPart os focus d e (Err why) = IsNoFocus os focus d why
 
 -- the graph of a part was written
 abbrev pub TellsPart : List Object → Focus → Description → (List ℕ → Type 0) → Type 0
-TellsPart os focus d Reported = (e : Description) × IsFocus os focus d e × Reported (graph_text e)
+TellsPart os focus d Reported = (e : Description) × IsFocus os focus d e × Reported (graph_text os e)
 
 -- the graph of a part was written; or the fault says why not
 abbrev pub DrawsPart : List Object → Focus → Description → Written → Written → Result (Unit {0}) Fault →

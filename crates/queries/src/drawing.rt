@@ -110,7 +110,7 @@ fn draw_part<W: Output>(
     let (description, objects) = whole;
     let mut description = description;
     match keep_part(alloc, &objects, focus, &mut description) {
-        Ok(()) => of_write(draw(&description, writer)),
+        Ok(()) => of_write(draw(&objects, &description, writer)),
         Err(fault) => Err(fault),
     }
 }

@@ -7,7 +7,7 @@ pub returns-in_err-write_fully : goal.returns-in_err-write_fully
 unfolding graph_text
 returns-in_err-write_fully g c =
     let p = err_from_is_err_and c.from_residual.result c.from_residual.ensures.1 in
-    rw (p.1, p.2) (first_fails (head_lines ++ box_lines c.args.description.now) (owner_lines c.args.description.now)
+    rw (p.1, p.2) (first_fails (head_lines ++ box_lines c.args.description.now) (owner_lines c.args.objects.now c.args.description.now)
     (arrow_lines c.args.description.now)
     (line_of (codes "}")) _ refl _ _ _ (fails_before _ _ _ _ (box_lines c.args.description.now) c.in_err-write_fully.ensures))
 
@@ -15,7 +15,7 @@ pub returns-in_err-draw_all_boxes : goal.returns-in_err-draw_all_boxes
 unfolding graph_text
 returns-in_err-draw_all_boxes g c =
     let p = err_from_is_err_and c.from_residual-in_err-draw_all_boxes.result c.from_residual-in_err-draw_all_boxes.ensures.1 in
-    rw (p.1, p.2) (first_fails (head_lines ++ box_lines c.args.description.now) (owner_lines c.args.description.now)
+    rw (p.1, p.2) (first_fails (head_lines ++ box_lines c.args.description.now) (owner_lines c.args.objects.now c.args.description.now)
     (arrow_lines c.args.description.now)
     (line_of (codes "}")) _ refl _ _ _
     (fails_after _ _ _ _ head_lines (box_lines c.args.description.now) c.in_ok-write_fully.ensures c.in_err-draw_all_boxes.ensures))
@@ -24,7 +24,7 @@ pub returns-in_err-draw_all_owners : goal.returns-in_err-draw_all_owners
 unfolding graph_text
 returns-in_err-draw_all_owners g c =
     let p = err_from_is_err_and c.from_residual-in_err-draw_all_owners.result c.from_residual-in_err-draw_all_owners.ensures.1 in
-    rw (p.1, p.2) (second_fails (head_lines ++ box_lines c.args.description.now) (owner_lines c.args.description.now)
+    rw (p.1, p.2) (second_fails (head_lines ++ box_lines c.args.description.now) (owner_lines c.args.objects.now c.args.description.now)
     (arrow_lines c.args.description.now)
     (line_of (codes "}")) _ refl _ _ _ _
     (wrote_trans _ _ _ head_lines (box_lines c.args.description.now) c.in_ok-write_fully.ensures c.in_ok-draw_all_boxes.ensures)
@@ -34,7 +34,7 @@ pub returns-in_err-draw_all_arrows : goal.returns-in_err-draw_all_arrows
 unfolding graph_text
 returns-in_err-draw_all_arrows g c =
     let p = err_from_is_err_and c.from_residual-in_err-draw_all_arrows.result c.from_residual-in_err-draw_all_arrows.ensures.1 in
-    rw (p.1, p.2) (third_fails (head_lines ++ box_lines c.args.description.now) (owner_lines c.args.description.now)
+    rw (p.1, p.2) (third_fails (head_lines ++ box_lines c.args.description.now) (owner_lines c.args.objects.now c.args.description.now)
     (arrow_lines c.args.description.now)
     (line_of (codes "}")) _ refl _ _ _ _ _
     (wrote_trans _ _ _ head_lines (box_lines c.args.description.now) c.in_ok-write_fully.ensures c.in_ok-draw_all_boxes.ensures)
@@ -43,7 +43,7 @@ returns-in_err-draw_all_arrows g c =
 pub returns : goal.returns
 unfolding graph_text
 returns g c =
-    fourth_written (head_lines ++ box_lines c.args.description.now) (owner_lines c.args.description.now)
+    fourth_written (head_lines ++ box_lines c.args.description.now) (owner_lines c.args.objects.now c.args.description.now)
     (arrow_lines c.args.description.now)
     (line_of (codes "}")) _ refl _ _ _ _ _ _
     (wrote_trans _ _ _ head_lines (box_lines c.args.description.now) c.in_ok-write_fully.ensures c.in_ok-draw_all_boxes.ensures)

@@ -9,5 +9,6 @@ returns-in-Ok g c =
     let new = g.W.Output.written c.draw.new.writer in
     let is : IsFocus c.args.whole.1.items c.args.focus d e = subst (λ (os : List Object). IsFocus os c.args.focus d e) c.deref.ensures.value
     c.in-Ok.ensures in
-    rw c.of_write.ensures (text_written old new (graph_text e) (DrawsPart c.args.whole.1.items c.args.focus d old new)
-    (λ a wrote. (e, is, wrote)) (λ front. (e, is, front)) c.draw.result c.draw.ensures)
+    rw c.of_write.ensures (text_written old new (graph_text c.args.whole.1.items e) (DrawsPart c.args.whole.1.items c.args.focus d old new)
+    (λ a wrote. (e, is, wrote)) (λ front. (e, is, front)) c.draw.result
+    (rw c.deref-2.ensures.value at c.draw.ensures))
