@@ -73,6 +73,13 @@ impl Names {
         }
     }
 
+    /// The names, in the order of the table that they were read from.
+    pub fn entries(&self) -> &[Name]
+        ensures { result.now ≡ entries self.now }
+    {
+        self.entries.as_slice()
+    }
+
     // Adds a name. Fails only if memory runs out.
     fn push(&mut self, name: Name) -> Result<(), AllocError>
         ensures { OnOk result (entries self.new ≡ entries self.old ++ name ∷ []) }
@@ -130,6 +137,7 @@ impl Names {
             None => None,
         }
     }
+
     /// The number with this name.
     pub fn number_of(&self, text: &[u8]) -> Option<u64>
         ensures { result ≡ number_at (entries self.now) text.now }

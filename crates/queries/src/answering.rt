@@ -6,12 +6,14 @@ ghost use Rattle.queries.specs.Queries.{AnswersImage};
 use crate::describing::describe_image;
 use crate::drawing::{Focus, draw_image};
 use crate::inspecting::info_image;
+use crate::naming::describe_named;
 use crate::reaching::{ReachQuestion, reach_image};
 use description::Sizes;
 use device::Device;
 use jobs::{Done, Fault};
 use json_lines::Format;
 use migrator::WholeStore;
+use names::Name;
 use script::Output;
 use std::alloc::Global;
 
@@ -20,6 +22,8 @@ use std::alloc::Global;
 pub enum Query<'w> {
     /// Its description, for an image of these sizes.
     Describe(Sizes),
+    /// The same, with these names in its numbers.
+    DescribeNamed(Sizes, &'w [Name]),
     /// Its graph.
     Draw(Focus),
     /// Its sizes, and what it holds.
@@ -34,7 +38,7 @@ pub enum Query<'w> {
 }
 
 /// Opens a device as a run does, and writes the answer to a question about what it saves: see `describe_image`,
-/// `draw_image`, `info_image` and `reach_image`, which also say what the status is and which faults there are.
+/// `describe_named`, `draw_image`, `info_image` and `reach_image`, which also say what the status is and which faults there are.
 ///
 /// The device is returned. Nothing is written to it at any moment.
 pub fn answer<D: Device, S: WholeStore<D>, W: Output, V: Output>(
@@ -52,6 +56,9 @@ pub fn answer<D: Device, S: WholeStore<D>, W: Output, V: Output>(
     match query {
         Query::Describe(sizes) => describe_image::<D, S, W, V>(
             alloc, device, setting, sizes, writer, errors,
+        ),
+        Query::DescribeNamed(sizes, names) => describe_named::<D, S, W, V>(
+            alloc, device, setting, sizes, names, writer, errors,
         ),
         Query::Draw(focus) => draw_image::<D, S, W, V>(
             alloc, device, setting, focus, writer, errors,

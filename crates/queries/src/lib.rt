@@ -10,6 +10,7 @@ mod explaining;
 mod info;
 mod inspecting;
 pub mod laws;
+mod naming;
 mod reaching;
 mod saved;
 
@@ -20,5 +21,6 @@ pub use drawing::{Focus, draw_image};
 pub use explaining::{explain_description, explained};
 pub use info::count_role;
 pub use inspecting::info_image;
+pub use naming::describe_named;
 pub use reaching::{ReachQuestion, reach_image};
 pub use saved::{SavedPart, read_saved};

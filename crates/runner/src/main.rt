@@ -2,6 +2,7 @@
 #![tactic(auto)]
 
 mod cause;
+mod explaining;
 mod inspection;
 mod json;
 mod making;
@@ -9,7 +10,8 @@ mod named_input;
 mod naming;
 mod reading;
 
-use crate::cause::{Cause, NO_FILE, Refusal, tell_cause, tell_line};
+use crate::cause::{Cause, Refusal, tell_cause};
+use crate::explaining::explain;
 use crate::inspection::Inspection;
 use crate::json::{explain_in_json, format_of, is_json, tell_json};
 use crate::making::build;
@@ -17,21 +19,20 @@ use crate::named_input::NamedInput;
 use crate::naming::{Naming, NoNames, naming_of};
 use crate::reading::{Reading, writing};
 use checkpoint::ObjectStore;
-use command_line::{CommandLine, Job, JobFault, Run, Script, command_line};
+use command_line::{CommandLine, Job, JobFault, Run, Script, Sizes, command_line};
 use device::Device;
-use devices::{FileDevice, FileFault, Fuse, SharedDevice};
+use devices::{FileDevice, Fuse, SharedDevice};
 use image_builder::NewLayout;
 use jobs::{Done, Fault, check_image, finish, run_and_save, run_image, run_shell, run_traced};
 use json_lines::Format;
 use names::{NamedLines, NamedOutput, Names};
 use object_cache::{Capacity, KeepAll, KeepRecent, PlainStore, Policy, Store};
-use queries::explain_description;
+use queries::Query;
 use runs::{ScriptReader, TraceOptions, Tracer};
 use script::{BufferedOutput, CountedWriter, Output};
 use shell::{Shell, TOPICS, TypedLines};
 use shell_questions::{describing, drawing, reaching, telling};
 use std::alloc::Global;
-use std::fmt::Display;
 use std::fs::{self, File};
 use std::io::{self, BufWriter, ErrorKind, IsTerminal, Read, Stderr, Stdout};
 use std::os::unix::fs::FileTypeExt;
@@ -499,11 +500,19 @@ fn open_shell(
     }
 }
 
+// Returns the query of `describe`, with names if there are some.
+fn described<'n>(sizes: &Sizes, names: &'n Option<Names>) -> Query<'n> {
+    match (describing(sizes), names) {
+        (Query::Describe(sizes), Some(names)) => Query::DescribeNamed(sizes, names.entries()),
+        (query, _) => query,
+    }
+}
+
 // Does a job, and returns the end of the command. Traces are written to `notes`.
 fn serve(
     rt: &HostRuntime,
     job: &Job<'_>,
-    input: Option<Names>,
+    names: Option<Names>,
     notes: StandardError,
     stdio: &mut Stdio,
 ) -> Result<End, Refusal> {
@@ -514,13 +523,13 @@ fn serve(
             is_new,
         } => return build(rt, description, image, *is_new, stdio),
         Job::Run(run) => return run_script(rt, run, notes, stdio),
-        Job::Shell { image, cache } => return open_shell(rt, image, *cache, input, stdio),
+        Job::Shell { image, cache } => return open_shell(rt, image, *cache, names, stdio),
         Job::Check { image, json } => return check(rt, image, format_of(*json), stdio),
         Job::Explain { file, json: false } => return explain(rt, file, stdio),
         Job::Explain { file, json: true } => return explain_in_json(rt, file, stdio),
         Job::Upgrade { old, new } => (*old, writing(old, new, NewLayout::Newest)),
         Job::Copy { image, new } => (*image, writing(image, new, NewLayout::Kept)),
-        Job::Describe { image, sizes } => (*image, Reading::Answer(describing(sizes))),
+        Job::Describe { image, sizes } => (*image, Reading::Answer(described(sizes, &names))),
         Job::Draw {
             image,
             from,
@@ -538,11 +547,11 @@ fn serve_whole(rt: &HostRuntime, job: &Job<'_>, naming: Naming) -> Result<End, R
     let Naming {
         output,
         trace,
-        input,
+        names,
     } = naming;
     let mut stdio = stdio_of(rt, output)?;
     let notes = NamedOutput::new(CountedWriter::new(rt.stderr()), trace);
-    match serve(rt, job, input, notes, &mut stdio) {
+    match serve(rt, job, names, notes, &mut stdio) {
         Ok(end) => {
             let Stdio { output, errors } = &mut stdio;
             let status = finish(output, end.status, errors);

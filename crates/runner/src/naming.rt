@@ -13,12 +13,12 @@ pub(crate) enum NoNames {
     Told,
 }
 
-/// What names the lines of a command's output and of its trace, and the names that a shell takes.
+/// What names the lines of a command's output and of its trace, and the names that a shell takes and `describe` writes.
 #[derive(Drop)]
 pub(crate) struct Naming {
     pub(crate) output: Option<NamedLines>,
     pub(crate) trace: Option<NamedLines>,
-    pub(crate) input: Option<Names>,
+    pub(crate) names: Option<Names>,
 }
 
 // The message for a key that isn't a name.
@@ -80,22 +80,25 @@ fn lines_by(
     job: &Job<'_>,
     file: &str,
     table: &Table,
-) -> Result<NamedLines, NoNames> {
-    match names_of(rt, file, table) {
-        Ok(names) => Ok(NamedLines::new(rt.alloc(), names, kinds_of(job))),
-        Err(why) => Err(why),
+) -> Result<Option<NamedLines>, NoNames> {
+    match job {
+        Job::Describe { .. } => Ok(None),
+        _ => match names_of(rt, file, table) {
+            Ok(names) => Ok(Some(NamedLines::new(rt.alloc(), names, kinds_of(job)))),
+            Err(why) => Err(why),
+        },
     }
 }
 
-// The names that a shell takes.
-fn typed_names(
+// The names that a shell takes and `describe` writes.
+fn taken_names(
     rt: &HostRuntime,
     job: &Job<'_>,
     file: &str,
     table: &Table,
 ) -> Result<Option<Names>, NoNames> {
     match job {
-        Job::Shell { .. } => match names_of(rt, file, table) {
+        Job::Shell { .. } | Job::Describe { .. } => match names_of(rt, file, table) {
             Ok(names) => Ok(Some(names)),
             Err(why) => Err(why),
         },
@@ -115,7 +118,7 @@ pub(crate) fn naming_of(
         return Ok(Naming {
             output: None,
             trace: None,
-            input: None,
+            names: None,
         });
     };
     let table = match table_in(rt, file) {
@@ -124,17 +127,17 @@ pub(crate) fn naming_of(
     };
     let output = lines_by(rt, job, file, &table)?;
     let trace = lines_by(rt, job, file, &table)?;
-    let input = typed_names(rt, job, file, &table)?;
+    let names = taken_names(rt, job, file, &table)?;
     if is_json {
         return Ok(Naming {
             output: None,
             trace: None,
-            input: None,
+            names: None,
         });
     }
     Ok(Naming {
-        output: Some(output),
-        trace: Some(trace),
-        input,
+        output,
+        trace,
+        names,
     })
 }
