@@ -101,11 +101,24 @@ node_box n = box_line n.number (spaced (codes "node" ∷ decimal n.number ∷ []
 unfoldable pub page_box : PageEntry → List ℕ
 page_box p = box_line p.number (spaced (codes "page" ∷ decimal p.number ∷ [])) (codes "note")
 
--- the line that puts an object into the cluster of its owner
-unfoldable pub owner_line : ℕ × ℕ → List ℕ
-owner_line p = line_of
-    (spaced ((codes "subgraph cluster_" ++ decimal p.0) ∷ codes
-    "{" ∷ codes "label=\"bank" ∷ (decimal p.0 ++ codes "\"") ∷ decimal p.1 ∷ codes "}" ∷ []))
+-- the rectangle of a bank, in DOT a cluster, up to what stands in it; its end; a text in it
+unfoldable pub rectangle_start : ℕ → List ℕ
+rectangle_start b = spaced ((codes "subgraph cluster_" ++ decimal b) ∷ codes "{ label=\"bank" ∷ (decimal b ++ codes "\" ") ∷ [])
+
+abbrev pub rectangle_end : List ℕ
+rectangle_end = codes " }"
+
+abbrev pub in_rectangle : ℕ → List ℕ → List ℕ
+in_rectangle b text = (rectangle_start b ++ text) ++ rectangle_end
+
+-- a text in the rectangles of some banks: in that of the first, which stands in that of the second, and so on
+abbrev pub in_rectangles : List ℕ → List ℕ → List ℕ
+in_rectangles [] text = text
+in_rectangles (b ∷ bs) text = in_rectangles bs (in_rectangle b text)
+
+-- an owned object is drawn in the rectangles of its owner and of all banks above it
+unfoldable pub owner_line : List Object → ℕ × ℕ → List ℕ
+owner_line os p = line_of (in_rectangles (chain os p.0) (decimal p.1))
 
 abbrev pub place_text : Place → List ℕ
 place_text place.Space = codes "space"
@@ -134,9 +147,8 @@ abbrev pub box_lines : Description → List ℕ
 box_lines d = flat_map bank_box d.banks.items ++ flat_map process_box d.processes.items ++ flat_map node_box
     d.nodes.items ++ flat_map page_box d.pages.items
 
--- the lines of all owners
-abbrev pub owner_lines : Description → List ℕ
-owner_lines d = flat_map owner_line (owners d)
+abbrev pub owner_lines : List Object → Description → List ℕ
+owner_lines os d = flat_map (owner_line os) (owners d)
 
 -- the lines of all arrows
 abbrev pub arrow_lines : Description → List ℕ

@@ -41,7 +41,16 @@ abbrev pub OwnersAreOwners : Type 0
 OwnersAreOwners = (g : Geometry) (w : World) (d : Description) → Describes g w d →
     IsOnce (owners d) × ((p : ℕ × ℕ) → Contains (owners d) p ↔ IsOwner w.objects p)
 
--- each capability that names an object has exactly one arrow, and there are no other arrows
+-- what stands in the rectangle of a bank stands, with this rectangle, in that of the bank's owner; the rectangle of bank 0 is in none
+pub record AreNested (os : List Object) : Type 0 where
+  pub outermost : (text : List ℕ) → in_rectangles (chain os 0) text ≡ in_rectangle 0 text
+  pub nested : (b : ℕ) (text : List ℕ) → IsTrue (is_bank (content_at os b)) → b ≢ 0 →
+      in_rectangles (chain os b) text ≡ in_rectangles (chain os (owner_at os b)) (in_rectangle b text)
+
+abbrev pub RectanglesNest : Type 0
+RectanglesNest = (g : Geometry) (w : World) → IsSound g w → AreNested w.objects
+
+-- each capability that names an object is drawn where it is held, nothing else is, and none twice
 abbrev pub ArrowsAreHeld : Type 0
 ArrowsAreHeld = (g : Geometry) (w : World) (d : Description) → Describes g w d →
     IsOnce (arrows d) × ((a : Arrow) → Contains (arrows d) a ↔ IsArrow w.objects a)

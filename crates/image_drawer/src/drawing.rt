@@ -19,8 +19,12 @@ fn draw_boxes<P: Part, W: Output>(parts: &[P], writer: &mut W) -> Result<(), Run
     Ok(())
 }
 
-// Writes the lines that put these objects into the clusters of their owners.
-fn draw_owners<P: Part, W: Output>(parts: &[P], writer: &mut W) -> Result<(), RunFault>
+// Writes the lines that put all parts into the rectangles of the banks that own them.
+fn draw_owners<P: Part, W: Output>(
+    objects: &[Object],
+    parts: &[P],
+    writer: &mut W,
+) -> Result<(), RunFault>
     ensures { Writes (W.written writer.old) (W.written writer.new) result
         (flat_map (owner_line objects.now) (flat_map P.owner_of parts.now)) }
 {
@@ -76,8 +80,9 @@ fn draw_all_arrows<W: Output>(description: &Description, writer: &mut W) -> Resu
     draw_arrows(description.nodes.as_slice(), writer)
 }
 
-/// Writes the graph of a description in DOT. Each object has a box, in the cluster of the bank that owns it. Each
-/// capability that names an object has an arrow.
+/// Writes the graph of a description in DOT: a box for each object that it names, in the rectangle of the bank that owns
+/// it, and an arrow for each capability that names an object. `objects` are all objects of the image: by their owners
+/// the rectangle of each bank stands in that of its owner, also where the description leaves that bank out.
 ///
 /// Returns `Err(RunFault::Write)` if the writer fails or accepts no bytes; then it accepted only a beginning of the
 /// text. It takes no memory.

@@ -15,7 +15,12 @@ pub fn owners_are_owners()
     ensures { OwnersAreOwners }
 {}
 
-/// Each capability of the world that names an object has exactly one arrow, from its holder to that object. There
+/// What stands in the rectangle of a bank stands, with this rectangle, in that of the bank's owner, up to bank 0.
+pub fn rectangles_nest()
+    ensures { RectanglesNest }
+{}
+
+/// For each capability of the world that names an object there is one arrow, from the holder to this object. There
 /// are no other arrows.
 pub fn arrows_are_held()
     ensures { ArrowsAreHeld }

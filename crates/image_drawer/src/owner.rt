@@ -24,8 +24,26 @@ fn owner_in(objects: &[Object], number: u64) -> u64
     }
 }
 
-/// Writes the line that joins an object to its owner. Writes nothing if the object owns itself.
-pub(crate) fn draw_owner<W: Output>(owner: u64, number: u64, writer: &mut W) -> Result<(), RunFault>
+// Returns the beginning of a bank's rectangle.
+fn start_rectangle(bank: u64) -> LineText
+    ensures text { result ≡ rectangle_start bank }
+    ensures short { length result ≤ 100 }
+{
+    let mut line = LineText::new(b"subgraph cluster_");
+    push_number(&mut line, bank);
+    line.word(b"{ label=\"bank");
+    line.number(bank);
+    line.push(b"\" ");
+    line
+}
+
+// Begins the rectangles of a bank and of those above it, `most` in all, the outermost first.
+fn start_rectangles<W: Output>(
+    objects: &[Object],
+    bank: u64,
+    most: u64,
+    writer: &mut W,
+) -> Result<(), RunFault>
     ensures { Writes (W.written writer.old) (W.written writer.new) result
         (starts (chain_within most objects.now bank)) }
 {

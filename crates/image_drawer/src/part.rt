@@ -31,9 +31,8 @@ pub(crate) trait Part {
     fn draw_box<W: Output>(&self, writer: &mut W) -> Result<(), RunFault>
         ensures { Writes (W.written writer.old) (W.written writer.new) result (box_of self.now) };
 
-    /// Writes the line that joins the object to its owner. Writes nothing if the object owns
-    /// itself.
-    fn draw_owner<W: Output>(&self, writer: &mut W) -> Result<(), RunFault>
+    /// Writes the line that puts the object into the rectangles of the banks that own it.
+    fn draw_owner<W: Output>(&self, objects: &[Object], writer: &mut W) -> Result<(), RunFault>
         ensures { Writes (W.written writer.old) (W.written writer.new) result
             (flat_map (owner_line objects.now) (owner_of self.now)) };
 

@@ -110,7 +110,21 @@ module _ {D : Type 0} {disk : D → Disk} {device back : D} {s : SavedState} (re
       reported.2,
     )
 
-  -- if the text of the renumbered description was written, so was that of the image
+  -- what was written is about what is saved
+  tells_state : (output output_left : Written) (outcome : Result (Unit {0}) Fault) → TellsGrown d sizes output output_left outcome →
+      TellsGrownState sizes s output output_left outcome
+  tells_state output output_left (Ok a) tells = tells_grown tells.0 tells.1 (Wrote output output_left) tells.2
+  tells_state output output_left (Err fault.CannotWriteOutput) tells =
+      tells_grown tells.0 tells.1 (WroteFront output output_left) tells.2
+  tells_state output output_left (Err fault.NoMemory) tells = tells
+  tells_state output output_left (Err (fault.Sizes why)) tells = (
+    not_suited g (grown_geometry g sizes) d w whole.describes why
+        (subst (λ (h : Geometry). IsNotRenumbered d (grown_geometry h sizes) why) geometry_is tells.0),
+    tells.1,
+  )
+  tells_state output output_left outcome tells = absurd tells
+
+  -- the outcome of the command
   pub describes_image : (output output_left : Written) (outcome : Result (Unit {0}) Fault) → TellsGrown d sizes output output_left outcome →
       DescribesImage disk sizes device back output output_left outcome
   describes_image output output_left (Ok a) tells = (s, reads, tells_state output output_left (Ok a) tells)
@@ -121,7 +135,33 @@ module _ {D : Type 0} {disk : D → Disk} {device back : D} {s : SavedState} (re
       (s, reads, tells_state output output_left (Err (fault.Sizes why)) tells)
   describes_image output output_left outcome tells = absurd tells
 
--- The parameters: a description, and the same renumbered for other sizes.
+  -- the same with names
+  module _ (names : List Name) where
+    same_names : grown_names d.geometry sizes names ≡ grown_names g sizes names
+    same_names = ap (λ (h : Geometry). grown_names h sizes names) geometry_is
+
+    pub describes_named : (output output_left : Written) (outcome : Result (Unit {0}) Fault) →
+        TellsNamed d sizes names output output_left outcome →
+        DescribesNamed disk sizes names device back output output_left outcome
+    describes_named output output_left (Ok a) tells = (
+      s,
+      reads,
+      (tells.0, tells_state output tells.0 (Ok a) tells.1, subst (Wrote tells.0 output_left) same_names tells.2),
+    )
+    describes_named output output_left (Err fault.CannotWriteOutput) tells = (
+      s,
+      reads,
+      elim tells [
+        | inl early ↦ inl (tells_state output output_left (Err fault.CannotWriteOutput) early)
+        | inr late ↦ inr (late.0, tells_state output late.0 (Ok tt) late.1, subst (WroteFront late.0 output_left) same_names late.2)
+      ],
+    )
+    describes_named output output_left (Err fault.NoMemory) tells = (s, reads, tells)
+    describes_named output output_left (Err (fault.Sizes why)) tells =
+        (s, reads, tells_state output output_left (Err (fault.Sizes why)) tells)
+    describes_named output output_left outcome tells = absurd tells
+
+-- The text of a description that was renumbered.
 module _ (sizes : Sizes) (d e : Description) (grown : IsGrownFrom sizes d e) where
   pub grown_has_fields : HasFields d → HasFields e
   grown_has_fields fields = fields_grown d e grown.same fields

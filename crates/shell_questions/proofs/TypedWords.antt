@@ -24,7 +24,7 @@ one_more old new all ws rest w is pushed so_far =
 pub none_left : (old all ws : List (List ℕ)) → ws ≡ [] → old ++ ws ≡ all → old ≡ all
 none_left old all ws none so_far = sym (append-nil old) ∙ ap (λ (l : List (List ℕ)). old ++ l) (sym none) ∙ so_far
 
--- if all words are texts, the first is a text, and all others are
+-- of words that are texts, the first is one, and so are the others
 pub first_text : (ws rest : List (List ℕ)) (w : List ℕ) → ws ≡ w ∷ rest → All IsUtf8 ws → IsUtf8 w
 first_text ws rest w is texts = All-head IsUtf8 w rest (subst (All IsUtf8) is texts)
 
