@@ -76,9 +76,10 @@ pub use Rattle.std.proofs.lemmas.Result.{IfOk-weaker, err_from_is_err_and}
 pub use Rattle.std.specs.List.{Contains, find, fold}
 pub use Rattle.std.specs.Prelude.{IfSome, IsTrue, Vec, false, not, slice_index_or}
 pub use Rattle.toml.specs.Data.{Members}
+pub use Rattle.toml.specs.Errors.{span_start}
 pub use Rattle.toml.specs.View.{table_view}
 pub use Rattle.queries.specs.Drawing.{DrawsImage, DrawsPart, IsFocus, IsHeldTo, KeepsPart, KeepsReached}
-pub use Rattle.queries.specs.Explained.{IsSyntaxLine, position_from, position_text}
+pub use Rattle.queries.specs.Explained.{IsSyntaxLineAt, position_from, position_text}
 pub use Rattle.queries.specs.Growing.{IsGrownFrom, TellsDescription, TellsGrown, TellsText}
 pub use Rattle.queries.specs.Images.{DescribesImage, IsDescribedIn, IsDescriptionOf, ReadsSaved, TellsWhole}
 pub use Rattle.queries.specs.Info.{InspectsImage, headers_with, info_line, info_lines, info_text, lines_with, objects_with, range_line}

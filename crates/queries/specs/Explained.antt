@@ -22,13 +22,17 @@ position_from line column (b ∷ bs) =
 abbrev pub position_text : ℕ × ℕ → List ℕ → List ℕ
 position_text p why = codes "line " ++ (decimal p.0 ++ (codes ", column " ++ (decimal p.1 ++ (codes ": " ++ why))))
 
--- the line about a text that isn't TOML: a place in the text and why, on one line
-abbrev pub IsSyntaxLine : List ℕ → List ℕ → Type 0
-IsSyntaxLine text line =
-    (at : ℕ) × (why : List ℕ) × (at ≤ length text) × IsOneLine why
+-- the line about a text that isn't TOML at a place in it: the place, and why, on one line
+abbrev pub IsSyntaxLineAt : ℕ → List ℕ → List ℕ → Type 0
+IsSyntaxLineAt at text line =
+    (why : List ℕ) × (at ≤ length text) × IsOneLine why
     × (line ≡ position_text (position_from 1 1 (take at text)) (why ++ codes " (bad description)"))
 
--- the line that explains where a table breaks a rule
+-- the same at some place
+abbrev pub IsSyntaxLine : List ℕ → List ℕ → Type 0
+IsSyntaxLine text line = (at : ℕ) × IsSyntaxLineAt at text line
+
+-- the explanation of a place where a table breaks a rule
 abbrev pub IsRuleLine : Members → List ℕ → Type 0
 IsRuleLine table line = (place : Place) × Explains table (Some place) × IsExplanation place line
 

@@ -1,8 +1,8 @@
 // The command that says why a description is refused.
 ghost use Rattle.std.specs.Prelude.{◌≡◌, ℕ, Bool, IfOk, List, Result, string_bytes};
 ghost use Rattle.script.specs.Lines.{IsOneLine};
-ghost use Rattle.toml.specs.Errors.{IsWithin};
-ghost use Rattle.queries.specs.Explained.{ExplainsText, IsSyntaxLine, TellsLine, TellsOf, accepted_status};
+ghost use Rattle.toml.specs.Errors.{IsWithin, span_start};
+ghost use Rattle.queries.specs.Explained.{ExplainsText, IsSyntaxLineAt, TellsLine, TellsOf, accepted_status};
 ghost use Rattle.queries.specs.Explained.{position_from};
 ghost use Rattle.queries.specs.Explained.{without_answer};
 ghost use Rattle.jobs.specs.Faults.{IsReported};
@@ -42,10 +42,10 @@ fn why_not_toml(words: &str) -> &str
     on_one_line(why)
 }
 
-// Returns the line for a text that isn't TOML.
+// Returns the line for a text that isn't TOML. It names the place where the parser's error begins.
 fn syntax_line(alloc: Global, text: &str, error: &Error) -> Result<String, AllocError>
     requires { IsWithin text.now error.now }
-    ensures { IfOk result (λ line. IsSyntaxLine text.now (string_bytes line)) }
+    ensures { IfOk result (λ line. IsSyntaxLineAt (span_start error.now) text.now (string_bytes line)) }
 {
     let start = match error.span() {
         Some(span) => span.start,
@@ -112,10 +112,10 @@ fn tell_explained<W: Output>(
     }
 }
 
-/// If `build` accepts the description in a text on a device that is large enough, writes `ok`, and the status is 0.
-/// Otherwise the status is 1, and one line is written: the place of the first mistake, what is wrong there, and
-/// `(bad description K)` with the number that `build` gives; or, if the text isn't TOML, the line and column of the
-/// first error. After a fault the status is 1, and one line is written to `errors`: `no memory`, or `cannot write
+/// Writes `ok` if `build` accepts the description in a text on a device that is large enough; then the status is 0.
+/// Otherwise writes one line, and the status is 1: the place of the first mistake, what is wrong there, and `(bad
+/// description K)` with the number that `build` gives; or, if the text isn't TOML, the line and the column where the
+/// parser's error begins. After a fault one line is written to `errors`, and the status is 1: `no memory`, or `cannot write
 /// output` if the writer fails.
 pub fn explain_description<W: Output, V: Output>(
     alloc: Global,
