@@ -190,6 +190,34 @@ def try_block_device(path):
     return None
 
 
+def try_longer_file(path):
+    """An image at the start of a file over 64 MiB: what follows is neither read nor written. If the superblock says too much, at most 64 MiB
+    are read."""
+    image, longer = path.read_bytes(), 65 << 20
+    with path.open("r+b") as file:
+        file.truncate(longer)
+        file.seek(len(image))
+        file.write(b"another")
+    storage = vezhnake.FileStorage(path)
+    need(storage.read() == image, "what follows an image is read with it")
+    with vezhnake.Machine(storage) as machine:
+        machine.call(1, 6, 2, 0, 5)
+        machine.save()
+    with path.open("rb") as file:
+        need(count_in(file.read(len(image))) == 5, "a save isn't at the start of a longer file")
+        need(file.read() == b"another".ljust(longer - len(image), b"\0"), "what follows an image is written")
+    for total, length in ((2**64 - 1, 64 << 20), (2**63, 64 << 20), (131073, 64 << 20), (6, 3072), (0, 2560)):
+        with path.open("r+b") as file:
+            file.seek(56)
+            file.write(total.to_bytes(8, "little"))
+        storage = vezhnake.FileStorage(path)
+        need(len(storage.read()) == length, f"of {total} sectors {len(storage.read())} bytes are read")
+        storage.close()
+    for length in (0, 1, 511, 512, 2559, 2560, len(image) - 1):
+        path.write_bytes(image[:length])
+        need(raises(vezhnake.BadImage, f"the first {length} bytes", lambda: vezhnake.open(path)).status == 1, f"{length} bytes are no small image")
+
+
 def usage_of(*words):
     """What a counter with wrong arguments prints."""
     done = subprocess.run([str(it) for it in words], stdin=subprocess.DEVNULL, capture_output=True, text=True, timeout=60, env={
@@ -259,7 +287,7 @@ def try_module(folder, image):
     try_threads(image)
     try_buffers_of_bytes(image)
     try_errors(image)
-    for name, trying in (("lock", try_lock), ("block", try_block_device)):
+    for name, trying in (("lock", try_lock), ("longer", try_longer_file), ("block", try_block_device)):
         path = folder / f"{name}.image"
         path.write_bytes(image)
         skipped = trying(path)

@@ -68,7 +68,7 @@ public:
     virtual void sync() = 0;
 };
 
-// An image in a file or on a block device, which is locked while it is open.
+// An image at the start of a file or a block device, which is locked while it is open.
 class file_storage : public storage {
 public:
     explicit file_storage(std::string path) : path_(std::move(path)), file_(::open(path_.c_str(), O_RDWR | O_CLOEXEC)) {
@@ -84,16 +84,18 @@ public:
     file_storage &operator=(const file_storage &) = delete;
     ~file_storage() override { ::close(file_); }
 
+    // The sectors of the image. The file may be longer: what follows the image is not read.
     std::vector<uint8_t> read() override {
         // The end, because the size that fstat reports is 0 for a block device.
         const off_t end = lseek(file_, 0, SEEK_END);
-        if (end < 0 || end > (64 << 20)) fail(end < 0 ? errno : EFBIG);
-        std::vector<uint8_t> image(static_cast<size_t>(end) / 512 * 512);
-        for (size_t place = 0; place < image.size();) {
-            const ssize_t done = pread(file_, &image[place], image.size() - place, static_cast<off_t>(place));
-            if (done <= 0) fail(done ? errno : EIO);
-            place += static_cast<size_t>(done);
-        }
+        if (end < 0) fail();
+        const uint64_t sectors = static_cast<uint64_t>(end) / 512;
+        std::vector<uint8_t> image;
+        extend(image, std::min(sectors, least));
+        // The superblock says at byte 56 how many sectors the image has.
+        uint64_t total = 0;
+        for (size_t place = 64; !image.empty() && place-- > 56;) total = total << 8 | image[place];
+        extend(image, std::min({sectors, most, std::max(least, total)}));
         return image;
     }
     void write(uint64_t byte, const uint8_t *data, size_t size) override {
@@ -108,6 +110,19 @@ public:
     }
 
 private:
+    // An image has at least the sectors of the superblock and the headers, and at most 64 MiB.
+    static constexpr uint64_t least = 5, most = 131072;
+
+    // Reads on until the image has this many sectors.
+    void extend(std::vector<uint8_t> &image, uint64_t sectors) const {
+        size_t place = image.size();
+        image.resize(static_cast<size_t>(sectors) * 512);
+        while (place < image.size()) {
+            const ssize_t done = pread(file_, &image[place], image.size() - place, static_cast<off_t>(place));
+            if (done <= 0) fail(done ? errno : EIO);
+            place += static_cast<size_t>(done);
+        }
+    }
     [[noreturn]] void fail(int number = errno) const {
         throw std::system_error(number, std::generic_category(), number == EWOULDBLOCK ? path_ + ": another program uses the image" : path_);
     }

@@ -81,10 +81,11 @@ static int open_image(const char *path) {
     return file;
 }
 
-/* Opens the machine in the image. A block device has a size that lseek finds and fstat doesn't. */
+/* Opens the machine in the image at the start of the file: at most 64 MiB, in whole sectors. A block device has a size
+ * that lseek finds and fstat doesn't. */
 static void open_machine(int file, vezhnake_machine *machine) {
     off_t end = lseek(file, 0, SEEK_END);
-    size_t size = (size_t)end;
+    size_t size = end > 64 << 20 ? 64 << 20 : (size_t)end / 512 * 512;
     uint8_t *image = malloc(size);
     if (end < 0 || !image || pread(file, image, size, 0) != (ssize_t)size) fail("the image can't be read");
     check(vezhnake_open(image, size, 0, machine), "open");

@@ -7,7 +7,9 @@ import os
 from typing import Protocol, Union
 
 Bytes = Union[bytes, bytearray, memoryview]
-SECTOR, MOST = 512, 64 << 20
+SECTOR = 512
+# An image has at least the sectors of the superblock and the headers, and at most 64 MiB. Its superblock says at this byte how many it has.
+LEAST, MOST, TOTAL = 5, 131072, 56
 
 
 class Storage(Protocol):
@@ -27,7 +29,7 @@ class Storage(Protocol):
 
 
 class FileStorage:
-    """An image in a file or on a block device, which is locked while it is open. Each method raises OSError with the path."""
+    """An image at the start of a file or a block device, which is locked while it is open. Each method raises OSError with the path."""
 
     def __init__(self, path: str | os.PathLike[str]) -> None:
         self.path = os.fspath(path)
@@ -46,19 +48,23 @@ class FileStorage:
         """The same error with the path."""
         return OSError(error.errno, error.strerror, self.path)
 
+    def _extend(self, image: bytearray, sectors: int) -> None:
+        """Reads on until the image has this many sectors."""
+        while len(image) < sectors * SECTOR:
+            piece = os.pread(self.file, sectors * SECTOR - len(image), len(image))
+            if not piece:
+                raise OSError(errno.EIO, "the file became shorter")
+            image += piece
+
     def read(self) -> bytes:
-        """All whole sectors."""
+        """The sectors of the image. The file may be longer: what follows the image is not read."""
+        image = bytearray()
         try:
             # The end, because the size that fstat reports is 0 for a block device.
-            size = os.lseek(self.file, 0, os.SEEK_END) // SECTOR * SECTOR
-            if size > MOST:
-                raise OSError(errno.EFBIG, "the image is over 64 MiB")
-            image = bytearray()
-            while len(image) < size:
-                piece = os.pread(self.file, size - len(image), len(image))
-                if not piece:
-                    raise OSError(errno.EIO, "the file became shorter")
-                image += piece
+            sectors = os.lseek(self.file, 0, os.SEEK_END) // SECTOR
+            self._extend(image, min(sectors, LEAST))
+            total = int.from_bytes(image[TOTAL : TOTAL + 8], "little")
+            self._extend(image, min(sectors, MOST, max(LEAST, total)))
         except OSError as error:
             raise self._named(error) from None
         return bytes(image)

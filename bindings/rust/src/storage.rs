@@ -1,12 +1,16 @@
 //! What holds an image.
 use std::fs::{File, OpenOptions};
-use std::io::{self, Read, Seek, SeekFrom};
+use std::io::{self, Seek, SeekFrom};
 use std::os::fd::AsRawFd;
 use std::os::unix::fs::FileExt;
 use std::path::Path;
 
 const SECTOR: u64 = 512;
-const MOST: u64 = 64 << 20;
+// An image has at least the sectors of the superblock and the headers, and at most 64 MiB.
+const LEAST: u64 = 5;
+const MOST: u64 = 131_072;
+// Its superblock says at these bytes how many sectors it has.
+const TOTAL: std::ops::Range<usize> = 56..64;
 
 /// What holds an image: a file, a block device, flash, rows of a database.
 ///
@@ -27,7 +31,7 @@ extern "C" {
 const LOCK_EXCLUSIVE: i32 = 2;
 const LOCK_WITHOUT_WAITING: i32 = 4;
 
-/// A file or a block device, which is locked while it is open.
+/// A file or a block device with an image at its start. It is locked while it is open.
 #[derive(Debug)]
 pub struct FileStorage(File);
 
@@ -56,18 +60,22 @@ impl FileStorage {
 }
 
 impl Storage for FileStorage {
+    /// The sectors of the image. The file may be longer: what follows the image is not read.
     fn read(&mut self) -> io::Result<Vec<u8>> {
         // The end, because the length in the metadata is 0 for a block device.
-        let size = self.0.seek(SeekFrom::End(0))? / SECTOR * SECTOR;
-        if size > MOST {
-            return Err(io::Error::new(
-                io::ErrorKind::InvalidData,
-                "the image is over 64 MiB",
-            ));
-        }
-        self.0.rewind()?;
-        let mut image = vec![0; size as usize];
-        self.0.read_exact(&mut image)?;
+        let sectors = self.0.seek(SeekFrom::End(0))? / SECTOR;
+        let mut image = vec![0; (sectors.min(LEAST) * SECTOR) as usize];
+        self.0.read_exact_at(&mut image, 0)?;
+        let begun = image.len();
+        let total = image.get(TOTAL).map_or(0, |bytes| {
+            bytes
+                .iter()
+                .rev()
+                .fold(0, |sum, &byte| sum << 8 | u64::from(byte))
+        });
+        let wanted = sectors.min(MOST).min(total.max(LEAST));
+        image.resize((wanted * SECTOR) as usize, 0);
+        self.0.read_exact_at(&mut image[begun..], begun as u64)?;
         Ok(image)
     }
 

@@ -1,5 +1,6 @@
 use std::error::Error as _;
 use std::io::{self, BufRead, BufReader};
+use std::os::unix::fs::FileExt;
 use std::process::{Command, Stdio};
 use std::time::Duration;
 use vezhnake::{
@@ -69,6 +70,38 @@ fn refusals_and_result_codes_are_errors() {
         (2, 2)
     );
     assert_eq!(machine.step("sohw 16").unwrap(), "bad line");
+}
+
+#[test]
+fn an_image_may_be_the_start_of_a_longer_file() {
+    let path = std::env::temp_dir().join(format!("vezhnake-longer-{}", std::process::id()));
+    let image = vezhnake::example_image();
+    let mut longer = image.clone();
+    longer.extend_from_slice(b"another");
+    std::fs::write(&path, &longer).unwrap();
+    let file = std::fs::OpenOptions::new().write(true).open(&path).unwrap();
+    file.set_len(65 << 20).unwrap();
+    assert_eq!(FileStorage::open(&path).unwrap().read().unwrap(), image);
+    let mut machine = Machine::open(&path).unwrap();
+    machine.call(1, 6, [2, 3, 99]).unwrap();
+    machine.save().unwrap();
+    drop(machine);
+    assert_eq!(Machine::open(&path).unwrap().page(16).unwrap()[3], 99);
+    let left = std::fs::read(&path).unwrap();
+    assert!(left.len() == 65 << 20 && left[image.len()..].starts_with(b"another\0"));
+    for (total, sectors) in [(u64::MAX, 131_072), (131_073, 131_072), (6, 6), (0, 5)] {
+        file.write_all_at(&total.to_le_bytes(), 56).unwrap();
+        let read = FileStorage::open(&path).unwrap().read().unwrap();
+        assert_eq!(read.len(), sectors * 512);
+    }
+    for length in [0, 1, 512, 2559, 2560, image.len() - 1] {
+        std::fs::write(&path, &image[..length]).unwrap();
+        assert!(matches!(
+            Machine::open(&path),
+            Err(Error::BadImage(BadImage::Small))
+        ));
+    }
+    std::fs::remove_file(&path).unwrap();
 }
 
 #[test]
