@@ -246,6 +246,15 @@ def try_two_counters(counter, path):
     need(count_in(path.read_bytes()) in (last, last + 1), f"{counter[-1]} lost a count")
 
 
+def try_longer_counter(counter, path):
+    """A counter counts on in an image at the start of a longer file, which stays as long."""
+    before, longer = count_in(path.read_bytes()), 65 << 20
+    os.truncate(path, longer)
+    environment = {**os.environ, "PYTHONPATH": str(ROOT / "python")}
+    printed = subprocess.run([*map(str, counter), str(path), "1"], stdout=subprocess.PIPE, env=environment, text=True, timeout=60).stdout
+    need(printed == f"{before + 1}\n" and path.stat().st_size == longer, f"{counter[-1]} prints {printed!r} over a longer file")
+
+
 def letters_in(path):
     """The numbers of the letters that wait, how many were sent, and how many were read."""
     with vezhnake.open(path) as machine:
