@@ -38,7 +38,7 @@ pub use Rattle.std.proofs.lemmas.List.{drop-drop, drop-set-lt, drop_all, get_or-
 pub use Rattle.std.proofs.lemmas.List.{take_more_set}
 pub use Rattle.std.proofs.lemmas.List.Concat.{flat_map-append}
 pub use Rattle.std.specs.List.{Contains}
-pub use Rattle.std.specs.Prelude.{IfErr, IsErrOf, IsSome, Result, nat_lt, slice_set}
+pub use Rattle.std.specs.Prelude.{IfErr, IfNone, IfSome, IsErrOf, IsSome, Result, nat_lt, slice_set}
 pub use Rattle.std_alloc.proofs.BoxSteps.Form.{B, Bx, D, P, R, args, box_ty, box_typed, word, τ}
 pub use Rattle.std_alloc.proofs.BoxSteps.Steps.{box_in, box_out}
 pub use Rattle.std_alloc.proofs.ResultValues.{and_tt}
@@ -54,7 +54,8 @@ pub use Rattle.vezhnake.specs.Sessions.{ClosesHandle, CollectsCalls, CopiesOut, 
 pub use Rattle.vezhnake.specs.Sessions.{RefusesFrom, RunsKernel, RunsSession, StepsSession, calls_in}
 pub use Rattle.vezhnake.specs.Statuses.{kept_status, status_by, status_for}
 pub use Rattle.vezhnake.specs.Steps.{fresh, stepped}
-pub use Rattle.vezhnake.specs.TypedCalls.{SavesSession, ServesBatch, ServesEachOver, ServesFront, ServesLineOver, ShowsObject, ShowsPage, ShowsSession}
+pub use Rattle.vezhnake.specs.TypedCalls.{SavesSession, ServesBatch, ServesEachOver, ServesFront, ServesLineOver, ServesOne, ShowsObject, ShowsPage}
+pub use Rattle.vezhnake.specs.TypedCalls.{ShowsSession}
 pub use Rattle.vezhnake.specs.declared.host_kernel.HostKernel.{HostKernel}
 pub use Rattle.vezhnake.specs.declared.raw_command.RawCommand.{RawCommand}
 pub use Rattle.vezhnake.specs.declared.raw_object.RawObject.{RawObject}

@@ -3,8 +3,8 @@ use Rattle.vezhnake.proofs.Names.{ℕ, List, Option, Ok, Err, Result, Vec, Globa
 use Rattle.vezhnake.proofs.Names.{nat_tests, length-map, nat_lt, Served, Command, RunFault, CallsFault, HostKernel, RawCommand, RawObject, RawReply, Session}
 use Rattle.vezhnake.proofs.Names.{Status, command_of, save_stages, shown_object, shown_words, EndsAt, numbers_of, kept_status, status_for, [], RunsKernel}
 use Rattle.vezhnake.proofs.Names.{CollectsCalls, CopiesOut, RunsSession, StepsSession, SavesSession, ServesBatch, ServesEachOver, ServesFront, ServesLineOver}
-use Rattle.vezhnake.proofs.Names.{ShowsObject, ShowsPage, ShowsSession}
-use Rattle.std.proofs.Common.{◌≡◌}
+use Rattle.vezhnake.proofs.Names.{ShowsObject, ShowsPage, ShowsSession, ServesOne, refl, None}
+use Rattle.std.proofs.Common.{◌≡◌, ◌∷◌}
 use Rattle.model.specs.declared.command.Command.TheVariants as command
 use Rattle.script.specs.declared.fault.RunFault.TheVariants as run
 use Rattle.vezhnake.specs.declared.session.CallsFault.TheVariants as lost
@@ -93,7 +93,46 @@ module _ (old new : Session) (kernel : HostKernel) (same : new.kernel ≡ kernel
       batch_kept lost.CallsLost collects result is =
           subst (ServesBatch old new raws before after n) (sym is) (front (map command_of raws) serves (Err lost.CallsLost) collects, ends)
 
-  -- ---- showing an object
+  -- ---- one command
+
+  module _ (raw : RawCommand) (before after : RawReply) (answers : new.answer ≡ old.answer) where
+    ends_behind : EndsAt false (map command_of (raw ∷ [])) (after ∷ []) 1
+    ends_behind = record { most = omega arith; goes_on = λ on k below. absurd (omega (arith, below)); ends = inl refl }
+
+    one_of : ServesEachOver old.kernel kernel (command_of raw ∷ []) (after ∷ []) → (kept : Result (Unit {0}) CallsFault) →
+        CollectsCalls old new kept → ServesOne old new raw before after (kept_status kept)
+    one_of serves (Ok done) collects =
+        (1, (front (before ∷ []) (after ∷ []) 1 refl answers (map command_of (raw ∷ [])) serves (Ok done) collects, refl))
+    one_of serves (Err lost.NoMemory) collects =
+        (1, (front (before ∷ []) (after ∷ []) 1 refl answers (map command_of (raw ∷ [])) serves (Err lost.NoMemory) collects, ends_behind))
+    one_of serves (Err lost.CallsLost) collects =
+        (1, (front (before ∷ []) (after ∷ []) 1 refl answers (map command_of (raw ∷ [])) serves (Err lost.CallsLost) collects, ends_behind))
+
+    pub one_served : ServesEachOver old.kernel kernel (command_of raw ∷ []) (after ∷ []) → (kept : Result (Unit {0}) CallsFault) →
+        CollectsCalls old new kept → (result : Status) → result ≡ kept_status kept → ServesOne old new raw before after result
+    one_served serves kept collects result is = subst (ServesOne old new raw before after) (sym is) (one_of serves kept collects)
+
+  -- the numbers encode no command
+  module _ (raw : RawCommand) (reply : RawReply) (answers : new.answer ≡ old.answer) (none : command_of raw ≡ None)
+      (serves : ServesEachOver old.kernel kernel [] []) where
+    ends_before : EndsAt false (map command_of (raw ∷ [])) (reply ∷ []) 0
+    ends_before = record { most = omega arith; goes_on = λ on k below. absurd (omega (arith, below)); ends = inl none }
+
+    none_of : (kept : Result (Unit {0}) CallsFault) → CollectsCalls old new kept
+        → ServesFront old new (map command_of (raw ∷ [])) (reply ∷ []) (reply ∷ []) 0 kept
+    none_of = front (reply ∷ []) (reply ∷ []) 0 refl answers (map command_of (raw ∷ [])) serves
+
+    pub one_bad : CollectsCalls old new (Ok tt) → ServesOne old new raw reply reply status.BadCommand
+    one_bad collects = (0, (none_of (Ok tt) collects, omega arith, none))
+
+    pub one_kept : (why : CallsFault) → CollectsCalls old new (Err why) → (result : Status) → result ≡ status_for why →
+        ServesOne old new raw reply reply result
+    one_kept lost.NoMemory collects result is =
+        subst (ServesOne old new raw reply reply) (sym is) (0, (none_of (Err lost.NoMemory) collects, ends_before))
+    one_kept lost.CallsLost collects result is =
+        subst (ServesOne old new raw reply reply) (sym is) (0, (none_of (Err lost.CallsLost) collects, ends_before))
+
+  -- ---- shows
 
   module _ (number : ℕ) (reply : RawReply) (served : Served) (serves : ServesLineOver old.kernel kernel (command.Show number) served)
       (numbers : reply ≡ numbers_of served) (answers : new.answer ≡ old.answer) (kept : Result (Unit {0}) CallsFault)

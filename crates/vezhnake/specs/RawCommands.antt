@@ -38,10 +38,21 @@ command_of r =
     if r.kind == 11 then Some command.Restart else
     if r.kind == 12 then Some command.Cut else None
 
--- a stage of a save in numbers: its kind, and the greatest count of objects, so that a stage with a count does all
+-- the numbers of a command of this kind, without registers
+abbrev pub numbered : ℕ → ℕ → ℕ → ℕ → RawCommand
+numbered kind number first second = record
+    { kind = kind; register = 0; sent = replicate 4 0; number = number; words = first ∷ second ∷ 0 ∷ 0 ∷ [] }
+
+-- the word at an address of a process, loaded; a word stored there
+abbrev pub load_of : ℕ → ℕ → RawCommand
+load_of process address = numbered 3 process address 0
+
+abbrev pub store_of : ℕ → ℕ → ℕ → RawCommand
+store_of process address value = numbered 4 process address value
+
+-- the numbers of a command of this kind for all objects
 abbrev pub stage_of : ℕ → RawCommand
-stage_of kind =
-    record { kind = kind; register = 0; sent = replicate 4 0; number = 2 ^ 64 - 1; words = replicate 4 0 }
+stage_of kind = numbered kind (2 ^ 64 - 1) 0 0
 
 -- the stages of a save; the first one brings home what an earlier save left in the log
 abbrev pub save_stages : List (Option Command)

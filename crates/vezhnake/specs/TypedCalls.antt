@@ -1,7 +1,7 @@
--- What the calls with numbers (commands, saves, shows) do to a session.
-use Rattle.vezhnake.specs.Names.{ℕ, true, false, List, map, take, drop, length, Option, None, slice_index_or, Result}
-use Rattle.vezhnake.specs.Names.{Ok, Err, Served, Command}
-use Rattle.std.specs.Prelude.{◌≡◌, ◌<◌}
+-- What typed calls do to a session.
+use Rattle.vezhnake.specs.Names.{ℕ, true, false, List, [], map, take, drop, length, Option, None, slice_index_or}
+use Rattle.vezhnake.specs.Names.{Result, Ok, Err, Served, Command}
+use Rattle.std.specs.Prelude.{◌≡◌, ◌<◌, ◌∷◌}
 use Rattle.model.specs.declared.command.Command.TheVariants as command
 use Rattle.object_cache.specs.StoreState as objects
 use Rattle.vezhnake.specs.declared.host_kernel.HostKernel.{HostKernel}
@@ -66,7 +66,12 @@ ServesBatch old new raws before after served status.SmallBuffer =
     (new ≡ old) × (after ≡ before) × (served ≡ 0) × (length before < length raws)
 ServesBatch old new raws before after served _ = ⊥
 
--- the stages of a save were served, up to the first that was refused; or there are too few replies, and none was
+-- one command was served as a batch of one
+abbrev pub ServesOne : Session → Session → RawCommand → RawReply → RawReply → Status → Type 0
+ServesOne old new raw before after result =
+    (served : ℕ) × ServesBatch old new (raw ∷ []) (before ∷ []) (after ∷ []) served result
+
+-- the stages of a save were served, up to the first that was refused; or there are too few replies
 abbrev pub SavesSession : Session → Session → List RawReply → List RawReply → ℕ → Status → Type 0
 SavesSession old new before after served status.Done =
     ServesFront old new save_stages before after served (Ok tt) × EndsAt true save_stages after served

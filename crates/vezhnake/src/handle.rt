@@ -1,6 +1,6 @@
 // The handle of a session, which a C program holds.
 ghost use Rattle.std.specs.Prelude.{◌≡◌, ◌↔◌, true, Some, None, IsSome, option_map};
-ghost use Rattle.vezhnake.specs.TypedCalls.{SavesSession, ServesBatch, ShowsObject, ShowsPage};
+ghost use Rattle.vezhnake.specs.TypedCalls.{SavesSession, ServesBatch, ServesOne, ShowsObject, ShowsPage};
 ghost use Rattle.vezhnake.specs.Sessions.{ClosesHandle, CopiesAnswer, OnSession, OpensHandle, StepsSession, TakesCalls};
 
 use crate::pointer::SessionPointer;
@@ -29,16 +29,14 @@ impl Drop for Handle {
 }
 
 impl Handle {
-    // Drops the session of the handle, if there is one, and puts this one into the handle.
+    // Puts a session into a handle that has none.
+    #[inline(always)]
     fn put(&mut self, session: Box<Session>)
+        requires { self.old.pointer.session ≡ None }
         ensures { self.new.pointer.session ≡ Some session.value }
     {
-        let alloc = self.alloc;
-        *self = Handle {
-            pointer: SessionPointer::new(session),
-            alloc,
-            is_open: true,
-        };
+        self.pointer = SessionPointer::new(session);
+        self.is_open = true;
     }
 
     // Returns the session of the handle, if there is one.
@@ -58,6 +56,7 @@ impl Handle {
     }
 
     // Returns the session of the handle, if there is one, and closes the handle.
+    #[inline(always)]
     fn take(&mut self) -> Option<Box<Session>>
         ensures taken { self.old.pointer.session ≡ option_map (λ session. session.value) result }
         ensures left { self.new.pointer.session ≡ None }
@@ -168,7 +167,22 @@ impl Handle {
         status
     }
 
-    /// Saves the present state, as `Session::save` does. Returns `NotOpen` if the handle isn't open.
+    /// Carries out a command, as `Session::serve_one` does. Returns `NotOpen` if the handle is not open.
+    #[inline(always)]
+    #[tactic(auto, using(crate::proofs::Handles::on_none, crate::proofs::Handles::on_some))]
+    pub fn serve_one(&mut self, command: &RawCommand, reply: &mut RawReply) -> Status
+        ensures { OnSession self.old.pointer.session self.new.pointer.session result (reply.new ≡ reply.old)
+            (λ old new. ServesOne old new command.now reply.old reply.new result) }
+    {
+        let Some(mut session) = self.take() else {
+            return Status::NotOpen;
+        };
+        let status = session.serve_one(command, reply);
+        self.put(session);
+        status
+    }
+
+    /// Saves the present state, as `Session::save` does. Returns `NotOpen` if the handle is not open.
     #[tactic(auto, using(crate::proofs::Handles::on_none, crate::proofs::Handles::on_some))]
     pub fn save(&mut self, replies: &mut [RawReply], served: &mut usize) -> Status
         ensures { OnSession self.old.pointer.session self.new.pointer.session result

@@ -1,6 +1,6 @@
 // A kernel over the host's storage.
 ghost use Rattle.std.specs.Prelude.{◌≡◌, ◌≢◌, ◌⊎◌, ◌<◌, ◌≤◌, ◌%◌, true, false, drop, length, IfErr, IfOk, IfNone};
-ghost use Rattle.std.specs.Prelude.{IfSome, IsErr, Err, map, take};
+ghost use Rattle.std.specs.Prelude.{IfSome, IsErr, Err, None, map, take, [], ◌∷◌};
 ghost use Rattle.kernel.specs.Opening.{IsSetAt, Opens};
 ghost use Rattle.vezhnake.specs.Hosting.{IsFresh, RunsText, host_disk};
 ghost use Rattle.vezhnake.specs.Sessions.{IsCapacity, OpensKernel, RefusesFrom, RunsKernel, calls_in, kept_from};
@@ -12,7 +12,7 @@ ghost use Rattle.vezhnake.specs.TypedCalls.{ServesEachOver, ServesLineOver};
 use crate::raw_command::RawCommand;
 use crate::raw_reply::RawReply;
 use crate::recorder::Recorder;
-use crate::serving::{serve, serve_each};
+use crate::serving::{serve, serve_each, serve_one};
 use crate::status::Status;
 use crate::text_script::TextScript;
 use checkpoint::ObjectStore;
@@ -162,6 +162,19 @@ impl HostKernel {
         match self {
             HostKernel::Plain(kernel) => serve(kernel, command),
             HostKernel::Bounded(kernel) => serve(kernel, command),
+        }
+    }
+
+    /// Carries out a command, as `serving::serve_one` does.
+    #[inline(always)]
+    pub fn serve_one(&mut self, raw: &RawCommand) -> Option<RawReply>
+        ensures served { IfSome result (λ reply. ServesEachOver self.old self.new (command_of raw.now ∷ [])
+            (reply ∷ [])) }
+        ensures none { IfNone result ((command_of raw.now ≡ None) × ServesEachOver self.old self.new [] []) }
+    {
+        match self {
+            HostKernel::Plain(kernel) => serve_one(kernel, raw),
+            HostKernel::Bounded(kernel) => serve_one(kernel, raw),
         }
     }
 

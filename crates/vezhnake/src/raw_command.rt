@@ -1,7 +1,8 @@
 // Commands given as numbers.
 ghost use Rattle.std.specs.Prelude.{◌≡◌, map};
 ghost use Rattle.vezhnake.specs.RawCommands.{save_stages};
-ghost use Rattle.vezhnake.specs.RawCommands.{command_of, invocation_of, registers_of, stage_of};
+ghost use Rattle.vezhnake.specs.RawCommands.{command_of, invocation_of, load_of, numbered, registers_of, stage_of};
+ghost use Rattle.vezhnake.specs.RawCommands.{store_of};
 
 use model::{Command, Invocation, Operation, Register};
 
@@ -23,6 +24,7 @@ pub struct RawCommand {
 }
 
 // Returns the registers with these numbers, or `None` if one is out of range.
+#[inline(always)]
 fn registers_of(numbers: [u8; 4]) -> Option<[Register; 4]>
     ensures { result ≡ registers_of numbers }
 {
@@ -35,6 +37,7 @@ fn registers_of(numbers: [u8; 4]) -> Option<[Register; 4]>
 }
 
 // Returns an invocation with the fields of a command, or `None` if a register is out of range.
+#[inline(always)]
 fn invocation_of(operation: Operation, raw: &RawCommand) -> Option<Command>
     ensures { result ≡ invocation_of operation raw.now }
 {
@@ -51,6 +54,7 @@ fn invocation_of(operation: Operation, raw: &RawCommand) -> Option<Command>
 
 impl RawCommand {
     /// Returns the command that these numbers encode, or `None` if the kind or a register is out of range.
+    #[inline(always)]
     pub fn command(&self) -> Option<Command>
         ensures { result ≡ command_of self.now }
     {
@@ -80,19 +84,43 @@ impl RawCommand {
             _ => None,
         }
     }
+
+    /// Returns the numbers of the command that loads the word at an address of a process.
+    #[inline(always)]
+    pub fn load(process: u64, address: u64) -> RawCommand
+        ensures { result ≡ load_of process address }
+    {
+        numbered(3, process, address, 0)
+    }
+
+    /// Returns the numbers of the command that stores a word at an address of a process.
+    #[inline(always)]
+    pub fn store(process: u64, address: u64, value: u64) -> RawCommand
+        ensures { result ≡ store_of process address value }
+    {
+        numbered(4, process, address, value)
+    }
+}
+
+// Returns the numbers of a command without registers.
+#[inline(always)]
+fn numbered(kind: u32, number: u64, first: u64, second: u64) -> RawCommand
+    ensures { result ≡ numbered kind number first second }
+{
+    RawCommand {
+        kind,
+        register: 0,
+        sent: [0; 4],
+        number,
+        words: [first, second, 0, 0],
+    }
 }
 
 // Returns the command of a stage of a save, for all objects.
 fn stage(kind: u32) -> RawCommand
     ensures { result ≡ stage_of kind }
 {
-    RawCommand {
-        kind,
-        register: 0,
-        sent: [0; 4],
-        number: u64::MAX,
-        words: [0; 4],
-    }
+    numbered(kind, u64::MAX, 0, 0)
 }
 
 /// Returns the stages of a save: migrate, checkpoint, stabilize, commit, migrate, each for all objects.

@@ -22,6 +22,7 @@ pub struct RawReply {
 }
 
 // Returns the kind of a refusal, and its number or 0.
+#[inline(always)]
 fn refusal_numbers(refusal: Refusal) -> (u32, u64)
     ensures { result ≡ refusal_numbers refusal }
 {
@@ -44,6 +45,7 @@ fn refusal_numbers(refusal: Refusal) -> (u32, u64)
 }
 
 // Returns the number of a result code, or 2^32 - 1 if there is none.
+#[inline(always)]
 fn code_in(code: Option<ResultCode>) -> u32
     ensures { result ≡ code_in code }
 {
@@ -54,6 +56,7 @@ fn code_in(code: Option<ResultCode>) -> u32
 }
 
 // Returns the kind of an answer, and its numbers or 0.
+#[inline(always)]
 fn answer_numbers(answer: &Answer) -> (u32, u64, u64)
     ensures { result ≡ answer_numbers answer.now }
 {
@@ -78,7 +81,8 @@ fn answer_numbers(answer: &Answer) -> (u32, u64, u64)
 }
 
 impl RawReply {
-    /// Returns an answer and its result code as numbers.
+    /// Returns an answer and the result code beside it in the form of numbers.
+    #[inline(always)]
     pub fn of(answer: &Answer, code: Option<ResultCode>) -> RawReply
         ensures { result ≡ reply_of answer.now code }
     {

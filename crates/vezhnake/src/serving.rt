@@ -1,5 +1,6 @@
 // Carrying out commands over a kernel.
 ghost use Rattle.std.specs.Prelude.{◌≡◌, ◌<◌, ◌≤◌, ◌&&◌, [], ◌∷◌, length, map, take, drop, None, Some, slice_index_or};
+ghost use Rattle.std.specs.Prelude.{IfNone, IfSome};
 ghost use Rattle.vezhnake.specs.Serving.{EndsAt, ServesEach, ServesLine};
 ghost use Rattle.vezhnake.specs.RawCommands.{command_of};
 ghost use Rattle.vezhnake.specs.RawReplies.{is_refused};
@@ -25,7 +26,8 @@ pub fn serve<S: ObjectStore<HostDevice>>(
     kernel.step_with_code(command)
 }
 
-// Carries out a command, and returns its answer as numbers.
+// Carries out a command, and returns its answer in the form of numbers.
+#[inline(always)]
 fn reply_to<S: ObjectStore<HostDevice>>(
     kernel: &mut Kernel<HostDevice, S>,
     command: &Command,
@@ -37,6 +39,7 @@ fn reply_to<S: ObjectStore<HostDevice>>(
 }
 
 // Returns the command at an index, or `None` if the numbers there encode none.
+#[inline(always)]
 fn command_at(commands: &[RawCommand], index: usize) -> Option<Command>
     requires { index < length commands.now }
     ensures { result ≡ slice_index_or (map command_of commands.now) index None }
@@ -51,8 +54,26 @@ fn is_last(stops: bool, reply: &RawReply) -> bool
     stops && reply.is_refused()
 }
 
-/// Carries out commands one after another, up to the first that is invalid, and writes their answers as numbers. If
-/// `stops`, also ends after the first refusal. Returns how many commands it carried out.
+/// Carries out a command, and returns its answer as numbers. Returns `None` if the numbers encode no command.
+#[inline(always)]
+pub fn serve_one<S: ObjectStore<HostDevice>>(
+    kernel: &mut Kernel<HostDevice, S>,
+    raw: &RawCommand,
+) -> Option<RawReply>
+    ensures served { IfSome result (λ reply. ServesEach S.view S.parts kernel.old kernel.new
+        (command_of raw.now ∷ []) (reply ∷ [])) }
+    ensures none { IfNone result ((command_of raw.now ≡ None)
+        × ServesEach S.view S.parts kernel.old kernel.new [] []) }
+{
+    crashes_in_runs_are_survived::<HostDevice, S>();
+    match raw.command() {
+        Some(command) => Some(reply_to(kernel, &command)),
+        None => None,
+    }
+}
+
+/// Carries out commands one after another, up to the first whose numbers encode no command, and writes their answers
+/// as numbers. If `stops`, it also ends after the first refusal. Returns how many commands it carried out.
 pub fn serve_each<S: ObjectStore<HostDevice>>(
     kernel: &mut Kernel<HostDevice, S>,
     commands: &[RawCommand],

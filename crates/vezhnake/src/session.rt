@@ -1,6 +1,6 @@
 // Sessions: an open handle owns one.
 ghost use Rattle.std.specs.Prelude.{◌≡◌, IfOk, IfErr, IfSome, Err};
-ghost use Rattle.vezhnake.specs.TypedCalls.{SavesSession, ServesBatch, ShowsObject, ShowsPage};
+ghost use Rattle.vezhnake.specs.TypedCalls.{SavesSession, ServesBatch, ServesOne, ShowsObject, ShowsPage};
 ghost use Rattle.vezhnake.specs.Sessions.{CollectsCalls, CopiesAnswer, CopiesOut, OpensKernel, OpensSession};
 ghost use Rattle.vezhnake.specs.Sessions.{StepsSession, TakesCalls};
 ghost use Rattle.vezhnake.specs.Statuses.{kept_status};
@@ -100,6 +100,7 @@ impl Session {
     //
     // Returns `NoMemory` if memory for them runs out, and `CallsLost` if the device no longer keeps them. The earlier
     // calls still wait.
+    #[inline(always)]
     #[tactic(auto, using(crate::proofs::Sessions::none_new, crate::proofs::Sessions::waits_after))]
     fn collect(&mut self) -> Result<(), CallsFault>
         ensures calls { CollectsCalls self.old self.new result }
@@ -109,6 +110,17 @@ impl Session {
         if self.kernel.count() == self.collected {
             return Ok(());
         }
+        self.collect_new()
+    }
+
+    // Collects the device calls as `collect` does.
+    #[inline(never)]
+    #[tactic(auto, using(crate::proofs::Sessions::none_new, crate::proofs::Sessions::waits_after))]
+    fn collect_new(&mut self) -> Result<(), CallsFault>
+        ensures calls { CollectsCalls self.old self.new result }
+        ensures kernel { self.new.kernel ≡ self.old.kernel }
+        ensures answer { self.new.answer ≡ self.old.answer }
+    {
         let Some(bytes) = self.kernel.since(self.collected) else {
             return Err(CallsFault::CallsLost);
         };
@@ -194,8 +206,26 @@ impl Session {
         }
     }
 
-    /// Saves the present state: migrates what an earlier save left in the log, then freezes, stabilizes, commits
-    /// and migrates, each as its script line. If one of these five stages is refused, none comes after it.
+    /// Carries out a command, as `serve` carries out a batch of one.
+    ///
+    /// Returns `BadCommand` if its numbers encode no command, and else `NoMemory` and `CallsLost` as `collect` does.
+    #[inline(always)]
+    #[tactic(auto, using(crate::proofs::Saving::one_served, crate::proofs::Saving::one_bad, crate::proofs::Saving::one_kept))]
+    pub fn serve_one(&mut self, command: &RawCommand, reply: &mut RawReply) -> Status
+        ensures { ServesOne self.old self.new command.now reply.old reply.new result }
+    {
+        let Some(answer) = self.kernel.serve_one(command) else {
+            if let Err(fault) = self.collect() {
+                return Status::from(fault);
+            }
+            return Status::BadCommand;
+        };
+        *reply = answer;
+        status_of(self.collect())
+    }
+
+    /// Saves the present state: migrates what an earlier save left, then freezes, stabilizes, commits and migrates,
+    /// each as its script line. If one of these five stages is refused, it is the last one.
     ///
     /// Returns `SmallBuffer` if there are fewer than five replies: no stage was carried out. Returns `NoMemory` and
     /// `CallsLost` as `collect` does.
