@@ -1,7 +1,7 @@
 -- Words that are put one after another.
 use Rattle.std.proofs.Common.{◌≡◌, ◌++◌, ◌∷◌, ◌∙◌, ℕ, List, [], ap, append_assoc, append-nil, subst, sym}
 use Rattle.std.proofs.lemmas.List.{map-append}
-use Rattle.std.proofs.lemmas.List.Elements.{All-head, All-tail}
+use Rattle.std.proofs.lemmas.List.Elements.{All-tail}
 use Rattle.std.specs.Borrow.{Bor}
 use Rattle.std.specs.List.{All}
 use Rattle.std.specs.Str.{IsUtf8}
@@ -24,9 +24,6 @@ one_more old new all ws rest w is pushed so_far =
 pub none_left : (old all ws : List (List ℕ)) → ws ≡ [] → old ++ ws ≡ all → old ≡ all
 none_left old all ws none so_far = sym (append-nil old) ∙ ap (λ (l : List (List ℕ)). old ++ l) (sym none) ∙ so_far
 
--- of words that are texts, the first is one, and so are the others
-pub first_text : (ws rest : List (List ℕ)) (w : List ℕ) → ws ≡ w ∷ rest → All IsUtf8 ws → IsUtf8 w
-first_text ws rest w is texts = All-head IsUtf8 w rest (subst (All IsUtf8) is texts)
-
+-- of words that are texts, the others are texts too
 pub other_texts : (ws rest : List (List ℕ)) (w : List ℕ) → ws ≡ w ∷ rest → All IsUtf8 ws → All IsUtf8 rest
 other_texts ws rest w is texts = All-tail IsUtf8 w rest (subst (All IsUtf8) is texts)

@@ -11,4 +11,4 @@ returns-in-Ok g c =
     c.in-Ok.ensures in
     rw c.of_write.ensures (text_written old new (graph_text c.args.whole.1.items e) (DrawsPart c.args.whole.1.items c.args.focus d old new)
     (λ a wrote. (e, is, wrote)) (λ front. (e, is, front)) c.draw.result
-    (rw c.deref-2.ensures.value at c.draw.ensures))
+    (rw c.deref-in-Ok.ensures.value at c.draw.ensures))
