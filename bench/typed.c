@@ -13,6 +13,14 @@ static int fail(const char *why) {
     return 1;
 }
 
+/* One typed call, as a program makes it. */
+static uint32_t one(vezhnake_machine *machine, char kind, vezhnake_reply *reply) {
+    if (kind == 'l') return vezhnake_load(machine, 1, 0, reply);
+    if (kind == 's') return vezhnake_store(machine, 1, 8, 5, reply);
+    vezhnake_command call = {VEZHNAKE_CALL, 6, {0, 0, 0, 0}, 1, {2, 0, 1, 0}};
+    return vezhnake_serve_one(machine, &call, reply);
+}
+
 /* The same commands as bench/typed has lines. */
 static vezhnake_command command_of(const char *kind) {
     vezhnake_command call = {VEZHNAKE_CALL, 6, {0, 0, 0, 0}, 1, {2, 0, 1, 0}};
@@ -34,7 +42,7 @@ int main(int words, char **word) {
     vezhnake_reply reply = {0, 0, 0, 0}, *replies = malloc(batch * sizeof *replies);
     for (long i = 0; i < batch; i++) commands[i] = command;
     for (long i = 0; batch == 1 && i < count; i++) {
-        if (vezhnake_one(&machine, command, &reply)) return fail("a call fails");
+        if (one(&machine, *word[2], &reply)) return fail("a call fails");
         refused += reply.kind > VEZHNAKE_VALUE;
     }
     for (long i = 0; batch > 1 && i < count; i += batch) {

@@ -40,12 +40,31 @@ static void try_step(vezhnake_machine *machine) {
     NEED(vezhnake_calls(machine, calls, sizeof calls, &size) == VEZHNAKE_OK && size == 0);
 }
 
+/* A closed handle is refused, and each argument stays as it was. */
 static void try_closed(vezhnake_machine *machine) {
-    size_t size;
+    static const vezhnake_reply none = {7, 7, 7, 7};
+    vezhnake_command command = {VEZHNAKE_LOAD, 0, {0, 0, 0, 0}, 1, {0, 0, 0, 0}};
+    vezhnake_reply replies[VEZHNAKE_SAVE_STAGES] = {none, none, none, none, none};
+    vezhnake_page_words page;
+    vezhnake_object object;
+    size_t size = 7;
+    memset(buffer, 7, 64), memset(calls, 7, 64), memset(&page, 7, sizeof page), memset(&object, 7, sizeof object);
     NEED(vezhnake_close(machine) == VEZHNAKE_NOT_OPEN);
     NEED(step(machine, buffer, sizeof buffer, &size) == VEZHNAKE_NOT_OPEN);
     NEED(vezhnake_answer(machine, buffer, sizeof buffer, &size) == VEZHNAKE_NOT_OPEN);
     NEED(vezhnake_calls(machine, calls, sizeof calls, &size) == VEZHNAKE_NOT_OPEN);
+    NEED(vezhnake_serve(machine, &command, 1, replies, 1, &size) == VEZHNAKE_NOT_OPEN);
+    NEED(vezhnake_serve_one(machine, &command, replies) == VEZHNAKE_NOT_OPEN);
+    NEED(vezhnake_load(machine, 1, 0, replies) == VEZHNAKE_NOT_OPEN);
+    NEED(vezhnake_store(machine, 1, 0, 5, replies) == VEZHNAKE_NOT_OPEN);
+    NEED(vezhnake_save(machine, replies, VEZHNAKE_SAVE_STAGES, &size) == VEZHNAKE_NOT_OPEN);
+    NEED(vezhnake_page(machine, 16, &page, replies) == VEZHNAKE_NOT_OPEN);
+    NEED(vezhnake_show(machine, 16, &object, replies) == VEZHNAKE_NOT_OPEN);
+    NEED(size == 7 && !machine->is_open && !machine->session);
+    for (int i = 0; i < 64; i++) NEED(buffer[i] == 7 && calls[i] == 7);
+    for (size_t i = 0; i < VEZHNAKE_SAVE_STAGES; i++) NEED(!memcmp(&replies[i], &none, sizeof none));
+    for (size_t i = 0; i < sizeof page; i++) NEED(((uint8_t *)&page)[i] == 7);
+    for (size_t i = 0; i < sizeof object; i++) NEED(((uint8_t *)&object)[i] == 7);
 }
 
 static void try_refusals(vezhnake_machine *machine) {

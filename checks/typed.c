@@ -1,5 +1,5 @@
 /* Runs the lines of a script by typed calls, for checks/library: prints their answers as `eros run` does, and leaves the image as it does.
- * Invocations that follow one another are one batch. A line that is no command is a text.
+ * Commands that follow one another are one batch, but each third line is a call of its own. A line that is no command is a text.
  * usage: PROGRAM IMAGE CACHE < SCRIPT */
 #include "vezhnake.h"
 
@@ -90,6 +90,36 @@ static void serve(vezhnake_command *commands, size_t count) {
     for (size_t i = 0; i < count; i++) print_reply(replies + i);
 }
 
+static uint32_t serve_by_name(const vezhnake_command *it, vezhnake_reply *reply) {
+    switch (it->kind) {
+    case VEZHNAKE_LOAD: return vezhnake_load(&machine, it->number, it->words[0], reply);
+    case VEZHNAKE_STORE: return vezhnake_store(&machine, it->number, it->words[0], it->words[1], reply);
+    case VEZHNAKE_EVICT: return vezhnake_evict(&machine, it->number, reply);
+    case VEZHNAKE_CHECKPOINT: return vezhnake_checkpoint(&machine, reply);
+    case VEZHNAKE_STABILIZE: return vezhnake_stabilize(&machine, it->number, reply);
+    case VEZHNAKE_COMMIT: return vezhnake_commit(&machine, reply);
+    case VEZHNAKE_MIGRATE: return vezhnake_migrate(&machine, it->number, reply);
+    case VEZHNAKE_JOURNAL: return vezhnake_journal(&machine, it->number, reply);
+    case VEZHNAKE_RESTART: return vezhnake_restart(&machine, reply);
+    case VEZHNAKE_CUT: return vezhnake_one(&machine, *it, reply);
+    default: return vezhnake_serve_one(&machine, it, reply);
+    }
+}
+
+/* Serves one command, and prints its answer. Then serves what is no command: that changes nothing. */
+static void serve_one(const vezhnake_command *command) {
+    vezhnake_command none = *command;
+    vezhnake_reply reply, last;
+    NEED(serve_by_name(command, &reply) == VEZHNAKE_OK);
+    carry_out();
+    print_reply(&reply);
+    none.kind = command->words[0] % 2 ? 13 : VEZHNAKE_SEND;
+    none.reg = 32;
+    last = reply;
+    NEED(vezhnake_serve_one(&machine, &none, &reply) == VEZHNAKE_BAD_COMMAND && !memcmp(&reply, &last, sizeof reply));
+    carry_out();
+}
+
 /* Runs a line as a text, and checks a `show` of an object against its struct. */
 static void step(const char *line) {
     static char text[1 << 20];
@@ -117,10 +147,16 @@ int main(int words, char **word) {
     vezhnake_command commands[MOST + 1];
     size_t count = 0;
     char line[300];
-    while (fgets(line, sizeof line, stdin)) {
+    for (int number = 0; fgets(line, sizeof line, stdin); number++) {
         line[strcspn(line, "\n")] = 0;
-        if (is_command(line, commands + count)) {
+        if (is_command(line, commands + count) && number % 3) {
             if (++count == MOST) serve(commands, count), count = 0;
+            continue;
+        }
+        if (is_command(line, commands + count)) {
+            vezhnake_command single = commands[count];
+            serve(commands, count), count = 0;
+            serve_one(&single);
             continue;
         }
         serve(commands, count), count = 0;

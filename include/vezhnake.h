@@ -201,26 +201,22 @@ typedef struct vezhnake_object {
 /* Shows an object. If there is one, sets *object; otherwise *object is unchanged. The reply is as for vezhnake_page. */
 uint32_t vezhnake_show(vezhnake_machine *handle, uint64_t number, vezhnake_object *object, vezhnake_reply *reply);
 
-/* Serves one command. */
+/* Serves one command. After VEZHNAKE_BAD_COMMAND it was not served, and *reply is unchanged. */
+uint32_t vezhnake_serve_one(vezhnake_machine *handle, const vezhnake_command *command, vezhnake_reply *reply);
+
 static inline uint32_t vezhnake_one(vezhnake_machine *handle, vezhnake_command command, vezhnake_reply *reply) {
-    size_t served;
-    return vezhnake_serve(handle, &command, 1, reply, 1, &served);
+    return vezhnake_serve_one(handle, &command, reply);
 }
 
 /* One command, by its kind and the numbers that it has. */
 static inline uint32_t vezhnake_numbered(vezhnake_machine *handle, uint32_t kind, uint64_t number, uint64_t first,
                                          uint64_t second, vezhnake_reply *reply) {
     vezhnake_command command = {kind, 0, {0, 0, 0, 0}, number, {first, second, 0, 0}};
-    return vezhnake_one(handle, command, reply);
+    return vezhnake_serve_one(handle, &command, reply);
 }
 
-static inline uint32_t vezhnake_load(vezhnake_machine *handle, uint64_t process, uint64_t address, vezhnake_reply *reply) {
-    return vezhnake_numbered(handle, VEZHNAKE_LOAD, process, address, 0, reply);
-}
-static inline uint32_t vezhnake_store(vezhnake_machine *handle, uint64_t process, uint64_t address, uint64_t value,
-                                      vezhnake_reply *reply) {
-    return vezhnake_numbered(handle, VEZHNAKE_STORE, process, address, value, reply);
-}
+uint32_t vezhnake_load(vezhnake_machine *handle, uint64_t process, uint64_t address, vezhnake_reply *reply);
+uint32_t vezhnake_store(vezhnake_machine *handle, uint64_t process, uint64_t address, uint64_t value, vezhnake_reply *reply);
 static inline uint32_t vezhnake_evict(vezhnake_machine *handle, uint64_t object, vezhnake_reply *reply) {
     return vezhnake_numbered(handle, VEZHNAKE_EVICT, object, 0, 0, reply);
 }

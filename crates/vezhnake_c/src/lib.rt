@@ -5,10 +5,11 @@
 ghost use Rattle.std.specs.Prelude.{◌≡◌};
 ghost use Rattle.vezhnake.specs.declared.status.Status.{Status};
 ghost use Rattle.vezhnake.specs.Handles.{session_of};
+ghost use Rattle.vezhnake.specs.RawCommands.{load_of, store_of};
 ghost use Rattle.vezhnake.specs.Sessions.{ClosesHandle, CopiesAnswer, OnSession, OpensHandle, RunsBatch, StepsSession};
 ghost use Rattle.vezhnake.specs.Sessions.{TakesCalls};
 ghost use Rattle.vezhnake.specs.Statuses.{number_of};
-ghost use Rattle.vezhnake.specs.TypedCalls.{SavesSession, ServesBatch, ShowsObject, ShowsPage};
+ghost use Rattle.vezhnake.specs.TypedCalls.{SavesSession, ServesBatch, ServesOne, ShowsObject, ShowsPage};
 ghost use Rattle.vezhnake_images.specs.BuiltBytes.{BuildsBytes};
 ghost use Rattle.vezhnake_images.specs.ImageStatuses.{image_number};
 ghost use Rattle.vezhnake_images.specs.ReadBytes.{ChecksBytes, DescribesBytes, ExplainsBytes, ExplainsText};
@@ -86,8 +87,56 @@ pub extern "C" fn vezhnake_serve(
     handle.serve(commands, replies, served).number()
 }
 
-/// Saves the present state: migrates what an earlier save left in the log, then freezes, stabilizes, commits
-/// and migrates.
+/// Carries out a command as the script line with the same meaning, and writes its answer as numbers.
+#[unsafe(no_mangle)]
+pub extern "C" fn vezhnake_serve_one(
+    handle: &mut Handle,
+    command: &RawCommand,
+    reply: &mut RawReply,
+) -> u32
+    ensures { (status : Status) × (result ≡ number_of status)
+        × OnSession (session_of handle.old) (session_of handle.new) status (reply.new ≡ reply.old)
+        (λ old new. ServesOne old new command.now reply.old reply.new status) }
+{
+    handle.serve_one(command, reply).number()
+}
+
+/// Loads the word at an address of a process.
+#[unsafe(no_mangle)]
+pub extern "C" fn vezhnake_load(
+    handle: &mut Handle,
+    process: u64,
+    address: u64,
+    reply: &mut RawReply,
+) -> u32
+    ensures { (status : Status) × (result ≡ number_of status)
+        × OnSession (session_of handle.old) (session_of handle.new) status (reply.new ≡ reply.old)
+        (λ old new. ServesOne old new (load_of process address) reply.old reply.new status) }
+{
+    handle
+        .serve_one(&RawCommand::load(process, address), reply)
+        .number()
+}
+
+/// Stores a word at an address of a process.
+#[unsafe(no_mangle)]
+pub extern "C" fn vezhnake_store(
+    handle: &mut Handle,
+    process: u64,
+    address: u64,
+    value: u64,
+    reply: &mut RawReply,
+) -> u32
+    ensures { (status : Status) × (result ≡ number_of status)
+        × OnSession (session_of handle.old) (session_of handle.new) status (reply.new ≡ reply.old)
+        (λ old new. ServesOne old new (store_of process address value) reply.old reply.new status) }
+{
+    handle
+        .serve_one(&RawCommand::store(process, address, value), reply)
+        .number()
+}
+
+/// Saves the present state: migrates what an earlier save left, then freezes, stabilizes, commits and migrates.
 #[unsafe(no_mangle)]
 pub extern "C" fn vezhnake_save(
     handle: &mut Handle,

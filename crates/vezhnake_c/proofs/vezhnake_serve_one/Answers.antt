@@ -1,0 +1,4 @@
+use Rattle.vezhnake_c.proofs.vezhnake_serve_one.Goals as goal
+
+pub returns : goal.returns
+returns c = (c.serve_one.result, c.number.ensures, c.serve_one.ensures)
