@@ -284,7 +284,6 @@ const DESCRIBE: &[Argument<'static>] = &[
         "R",
         "Describes an image with R slots in each half of the log",
     ),
-    Argument::Names,
     CAUSE,
 ];
 

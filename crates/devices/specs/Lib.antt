@@ -16,4 +16,3 @@ pub mod SectorCopy
 pub mod Sound
 pub mod SoundLaws
 pub mod Steps
-pub mod ReadOnly

@@ -3,7 +3,6 @@ ghost use Rattle.std.specs.Prelude.{None, ◌≡◌, ◌≤◌, ◌+◌, ◌%◌
 ghost use Rattle.device.specs.Calls.{Agrees, Elsewhere, sectors_of, AreSectors, Narrows, Tears, Only, Counts};
 ghost use Rattle.device.specs.Moments.{Elapses};
 
-use crate::read_only::SharedDevice;
 use collections::Tally;
 use device::{Device, Failed};
 
@@ -116,7 +115,6 @@ impl<D: Device> Device for Fuse<D> {
         ensures cause { Counts (fused D.disk self.old) (fused D.disk self.new) result }
     {
         // If `pass` fails, nothing is written.
-        // A write that isn't passed on writes nothing.
         self.pass()?;
         self.inner.write(at, from)
     }
@@ -158,11 +156,4 @@ impl<D: Device> Device for Fuse<D> {
     ghost left_whole = { λ f t c. D.left_whole f.inner t c };
 
     ghost few_sectors = { λ f. D.few_sectors f.inner };
-}
-
-/// The fuse doesn't count it.
-impl<D: SharedDevice> SharedDevice for Fuse<D> {
-    fn look(&self, at: u64, into: &mut [u8]) {
-        self.inner.look(at, into);
-    }
 }

@@ -1,5 +1,3 @@
 pub mod Tables
 pub mod Suffixes
 pub mod Named
-pub mod TypedNames
-pub mod Pieces

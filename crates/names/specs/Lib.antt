@@ -3,4 +3,3 @@ pub mod Texts
 pub mod Entries
 pub mod Refused
 pub mod Output
-pub mod Numbered

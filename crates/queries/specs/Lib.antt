@@ -7,5 +7,3 @@ pub mod Images
 pub mod Info
 pub mod Laws
 pub mod Reaching
-pub mod Naming
-pub mod Queries

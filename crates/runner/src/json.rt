@@ -1,7 +1,6 @@
 // Answers and faults as JSON.
 use crate::cause::{Refusal, line_in};
-use crate::explaining::explain;
-use crate::{End, Stdio};
+use crate::{End, Stdio, explain};
 use command_line::Job;
 use jobs::Fault;
 use json_lines::{Format, string_object};
