@@ -115,6 +115,7 @@ impl<D: Device> Device for Fuse<D> {
         ensures cause { Counts (fused D.disk self.old) (fused D.disk self.new) result }
     {
         // If `pass` fails, nothing is written.
+        // A write that isn't passed on writes nothing.
         self.pass()?;
         self.inner.write(at, from)
     }
