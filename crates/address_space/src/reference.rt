@@ -74,7 +74,7 @@ pub fn store<F: PresentFrames>(
     }
 }
 
-// Returns the page that a reference of a process reaches.
+// Returns the page that a load or a store of a process reaches.
 fn reach<F: Frames>(
     frames: &mut F,
     process: u64,

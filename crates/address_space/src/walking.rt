@@ -14,7 +14,7 @@ use capability::{Access, Capability, Frames, objects};
 use device::Failed;
 use model::{MemoryFault, SLOTS, WORDS};
 
-/// The page that a reference to memory reaches.
+/// The page that a load or a store reaches.
 #[derive(Clone, Copy)]
 pub struct Reached {
     /// The number of the page.

@@ -98,7 +98,7 @@ module _ (l : LogState) (o : OrderState) (are : IsLogOf l o) where
       m ≡ record { uses = l.uses ++ n ∷ []; count = l.count; most = l.most } → IsLogOf m o
   logged m n here is = rw is (record { listed = listed_end l.uses o.numbers n are.listed here; count = are.count; some = are.some })
 
-  -- facts about an order with a log, by the value that it has
+  -- facts about an order with a log, which together represent s
   module _ {s : OrderState} (view : used_all l.uses o ≡ s) where
     pub most_is : o.most ≡ s.most
     most_is = ap (λ (q : OrderState). q.most) view
@@ -118,7 +118,7 @@ module _ (l : LogState) (o : OrderState) (are : IsLogOf l o) where
     pub known_before : AreSpread o → (n : ℕ) → is_member s.numbers n ≡ true → n < l.count
     known_before spread n here = omega (arith, listed_below o spread n (member_is n ∙ here), are.count)
 
-    -- removing a number that has no use in the log from the order
+    -- a number that has no use in the log is removed from the order
     module _ (n : ℕ) (none : is_member l.uses n ≡ false) (p : OrderState)
         (is : p ≡ record { numbers = without n o.numbers; places = set o.places n None; most = o.most }) where
       pub removed_log : IsLogOf l p
@@ -133,7 +133,7 @@ module _ (l : LogState) (o : OrderState) (are : IsLogOf l o) where
           (ap (λ (ns : List ℕ). let q : OrderState = record { numbers = ns; places = set o.places n None; most = o.most } in q)
           (sym (without_in_turn n l.uses o.numbers none)))
 
-    -- adding a number that has no place to the order
+    -- a number that has no place is added to the order
     module _ (n : ℕ) (absent : place_at s.places n ≡ None) (spread : AreSpread o) (p : OrderState) (place : ℕ)
         (is : p ≡ record { numbers = n ∷ o.numbers; places = set o.places n (Some place); most = o.most }) where
       unused : is_member l.uses n ≡ false

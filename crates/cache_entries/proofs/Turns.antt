@@ -110,7 +110,7 @@ used_again n ns o later =
     ap (λ (xs : List ℕ). let p : OrderState = record { numbers = xs; places = o.places; most = o.most } in p)
     (used_later n ns (n ∷ without n o.numbers) o.numbers later (without_here n n (without n o.numbers) refl))
 
--- using a log from its i-th use on is using that one, and then the rest
+-- the uses of a log from index i on are the use at i, and then the rest
 pub settles : (uses : List ℕ) (i : ℕ) (o : OrderState) → i < length uses →
     used_all (drop i uses) o ≡ used_all (drop (i + 1) uses) (used_last (get_or uses i 0) o)
 settles uses i o below = at_drop_more (λ (us : List ℕ). used_all us o) uses i 0 below

@@ -1,4 +1,4 @@
--- The hash of an object's number.
+-- The hash of a place of a cache entry.
 use Rattle.std.specs.Prelude.{◌==◌, if◌then◌else◌, ℕ, ◌*◌, ◌%◌, ◌^◌, List, length, bit_xor}
 use Rattle.std.specs.Int.{w64, from_le_bytes}
 use Rattle.cache_entries.specs.declared.number_hasher.NumberHasher.{NumberHasher}

@@ -48,7 +48,7 @@ impl Model for Bodies {
     ghost invariant = { λ b. AreBodies b.kinds.items b.pages b.nodes };
 }
 
-// Returns `most` free kinds. Fails only if memory runs out.
+// Returns `most` kinds, all `Free`. Fails only if memory runs out.
 fn free_kinds(alloc: Global, most: usize) -> Result<Vec<Kind>, AllocError>
     ensures { IfOk result (λ kinds. kinds.items ≡ replicate most Kind.Free) }
 {
@@ -113,7 +113,7 @@ fn is_page(kind: &Kind) -> bool
     }
 }
 
-// Changes the root of a process. No other body changes.
+// Changes the kind if it is a root; else changes nothing.
 #[inline(always)]
 fn change_kind(kind: &mut Kind, change: RootChange)
     ensures { kind.new ≡ kind_with_root (changed_root change) kind.old }

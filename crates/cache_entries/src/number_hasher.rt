@@ -1,4 +1,4 @@
-// The hasher of places.
+// The hasher of places of cache entries.
 ghost use Rattle.std.specs.Prelude.{◌≡◌};
 ghost use Rattle.cache_entries.specs.NumberHasher.{number_in};
 
@@ -8,7 +8,7 @@ use std::hash::Hasher;
 const MULTIPLIER: u64 = 0x9e37_79b9_7f4a_7c15;
 
 /// Hashes 8 bytes, as one number, by a multiplication (Fibonacci hashing). Places are few and consecutive, so
-/// this spreads them well. Any other bytes are hashed by their number.
+/// this spreads them well. Of other than 8 bytes it hashes only how many they are.
 #[derive(Clone, Copy)]
 pub struct NumberHasher {
     hash: u64,

@@ -107,7 +107,7 @@ module _ (p : Parts) (n : ℕ) (h : ObjectHeader) (c : Content Cap) (inside : n 
       λ k d within. let is = current_same p.headers n h same (slice_index_or (caps_in (held_at (slice_set p.contents n c) m)) k d).what in
       rw is (held k d within))
 
--- only a content has changed
+-- facts if only a content has changed
 module _ (p : Parts) (n : ℕ) (c : Content Cap) (known : n < length p.headers) (inside : n < length p.contents) where
   pub held_objects : objects_in (with_held p n c) ≡ with_content (objects_in p) n (map_content (conveyed p.headers) c)
   unfolding with_content

@@ -1,4 +1,4 @@
--- Frames that may be kept at an age may be kept after each change, at the same or the next age.
+-- Frames that may be kept at an age (they have encodings at it) may be kept after each change, at the same or the next age.
 use Rattle.capability.proofs.Names.{nat_tests, rules, ℕ, List, length, slice_index_or, slice_set, refl, sym, ap, subst, arith, IsTrue, get_or_past, length-set}
 use Rattle.capability.proofs.Names.{All-replicate, All-set, All-weaker, Cap, Capability, Frame, ObjectHeader, Geometry, Content, blank_frame, blank_header}
 use Rattle.capability.proofs.Names.{called, claimed, frame_at, header_at, held_at, owned_by, void_held, AreKeepable, AreKeptSlots, AreKeptWords, Follows}

@@ -1,4 +1,4 @@
--- The set of touched numbers that is empty.
+-- The empty set of touched numbers.
 use Rattle.capability.proofs.Names.{ℕ, false, replicate, zero, suc, refl, arith, cond, touched_count, untouched, sum_by-cons, Geometry}
 use Rattle.std.proofs.Common.{◌≡◌, ◌+◌}
 

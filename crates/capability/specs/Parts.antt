@@ -96,8 +96,8 @@ pub record KeepsRest {S : Type 0} (parts : S → Parts) (Fetched Announced : S �
   pub announced : (n : ℕ) → Announced old n → Announced new n
   pub continues : Continues old new
 
--- An edit of contents. `after` has the objects afterwards; the frames may still be kept at each age with `may`. The
--- parameters are the ghost members of a store of present frames.
+-- An edit of contents. `after` has the objects afterwards; the frames may still be kept at each age for which `may`
+-- holds. The parameters are the ghost members of a store of present frames.
 pub record Edits {S : Type 0} (parts : S → Parts) (Fetched Announced : S → ℕ → Type 0) (Continues : S → S → Type 0)
     (old new : S) (after : List Object) (may : ℕ → Type 0) : Type 0 where
   pub objects : objects_in (parts new) ≡ after

@@ -1,4 +1,4 @@
-// The frames of objects in memory, to be read only.
+// The frames of objects in memory, which can't be changed.
 ghost use Rattle.std.specs.Prelude.{◌≡◌, length, IfOk};
 ghost use Rattle.model.specs.Sound.{object_count};
 ghost use Rattle.capability.specs.Plain.{IsThere, parts_of};
@@ -9,7 +9,7 @@ use device::Failed;
 use model::{Cap, Content, ContentRef, Geometry, ObjectHeader};
 use std::marker::Model;
 
-/// All objects in memory, by number, to be read only.
+/// All objects in memory, by number. They can't be changed.
 #[derive(Drop)]
 pub struct Plain {
     geometry: Geometry,

@@ -3,7 +3,7 @@ pub use Rattle.capability.specs.Parts.{Parts, frames_of}
 pub use Rattle.device.specs.Calls.{Agrees, Narrows, Only}
 pub use Rattle.device.specs.Disk.{Disk, Image}
 pub use Rattle.device.specs.Moments.{LeavesOnly, Peeks}
-pub use Rattle.layout.specs.Image.{Encodes, IsBadBy, SavedState}
+pub use Rattle.layout.specs.Denoted.{Encodes, IsBadBy, SavedState}
 pub use Rattle.layout.specs.declared.open_fault.OpenFault.{OpenFault}
 pub use Rattle.model.specs.Frame.{frame_at, header_at, held_at}
 pub use Rattle.model.specs.Keepable.{AreKeepable}

@@ -3,7 +3,7 @@ use Rattle.checkpoint.specs.Names.{ℕ, ⊤, Image, Disk, Agrees, Narrows, Peeks
 use Rattle.std.specs.Prelude.{◌≡◌, ◌<◌}
 use Rattle.layout.specs.declared.open_fault.OpenFault.TheVariants as refusal
 
--- why an image is refused: if it isn't a failure or lack of memory, the reason is the least that holds
+-- why an image is refused: the device failed, memory ran out, or this is the least reason that holds
 abbrev pub IsBadFor : Image → ℕ → OpenFault → Type 0
 IsBadFor image size refusal.Failed = ⊤
 IsBadFor image size refusal.NoMemory = ⊤

@@ -31,11 +31,11 @@ Holds size c saved = (s : SavedState) × Encodes c size s × (kept_of s ≡ save
 abbrev pub LeavesSaved : Disk → Disk → SavedFrames → Type 0
 LeavesSaved old new saved = LeavesOnly old new (λ c. Holds old.sectors c saved)
 
--- a crash at any moment since `old` leaves the saved frames, or the next ones
+-- a crash at any moment since `old` leaves the saved frames, or the next saved frames
 abbrev pub LeavesEither : Disk → Disk → SavedFrames → SavedFrames → Type 0
 LeavesEither old new saved next = LeavesOnly old new (λ c. Holds old.sectors c saved ⊎ Holds old.sectors c next)
 
--- a crash at any moment since `old` leaves the saved frames or, if there are next ones, these
+-- a crash at any moment since `old` leaves the saved frames or, if there are any, the next saved frames
 abbrev pub LeavesOneOf : Disk → Disk → SavedFrames → Option SavedFrames → Type 0
 LeavesOneOf old new saved None = LeavesSaved old new saved
 LeavesOneOf old new saved (Some next) = LeavesEither old new saved next

@@ -7,9 +7,11 @@ use Rattle.device.specs.Disk.{Disk, Image}
 use Rattle.device.specs.Moments.{LeavesOnly}
 use Rattle.device.proofs.Moments.{leaves_weaker}
 use Rattle.layout.specs.Header.{header_bytes}
-use Rattle.layout.specs.Image.{HasNoHeader, committed_bytes}
-use Rattle.layout.specs.Image.{option_at}
-use Rattle.layout.specs.Superblock.{IsPlan, MayBegin, Plan, half_extent}
+use Rattle.layout.specs.Committed.{Commits, CommitsIf, CommitsUnsealed, HasNoSums, committed_bytes, committed_slot, option_at}
+use Rattle.layout.specs.Gate.{gate_bytes}
+use Rattle.layout.specs.Superblock.{IsPlan, Plan}
+use Rattle.layout.specs.declared.gate.Gate.TheVariants.{Open}
+use Rattle.layout.specs.sealed.Gate.{numbered_gate_bytes}
 use Rattle.layout.specs.Version.{directory_length, row}
 use Rattle.layout.specs.declared.sealed.header.SealedHeader.{SealedHeader}
 use Rattle.layout.specs.declared.version.Version.{Version}
@@ -17,18 +19,17 @@ use Rattle.layout.specs.declared.version.Version.TheVariants.{One, Two, Three}
 use Rattle.layout.specs.sealed.Header.{header_numbers}
 use Rattle.layout.specs.sealed.Opening.{Commits as CommitsSealed, gate_sector as sealed_gate}
 use Rattle.layout.specs.sealed.Sector.{AreWords}
-use Rattle.layout.proofs.Halves.{half_at, half_lies, many}
+use Rattle.layout.proofs.Halves.{half_lies}
 use Rattle.layout.proofs.Versions.{fewer_entries}
-use Rattle.ckpt_log.specs.AnyVersion.{Commits, CommitsIf, CommitsOne, CommitsUnsealed}
-use Rattle.ckpt_log.specs.AnyVersion.{HasNew, HasNoSums, IsOld, IsOldOrNew, KeepsOrHasNone, Precedes, SparesRest}
-use Rattle.ckpt_log.specs.AnyVersion.{StaysCommitted, WasKeptOrHasNone, gate_at, gate_place, header_at, header_row}
+use Rattle.ckpt_log.specs.AnyVersion.{CommitsOne, HasNew, IsOld, IsOldOrNew, KeepsOrHasNone, Precedes, SparesRest}
+use Rattle.ckpt_log.specs.AnyVersion.{StaysCommitted, WasKeptOrHasNone, gate_at, gate_place, gate_row, header_at, header_row}
 use Rattle.ckpt_log.specs.Closing as unsealed_closing
 use Rattle.ckpt_log.specs.Commit as unsealed
 use Rattle.ckpt_log.specs.sealed.Closing as sealed_closing
 use Rattle.ckpt_log.specs.sealed.Directory.{TouchesAt}
 use Rattle.ckpt_log.specs.sealed.Publish as sealed
 use Rattle.ckpt_log.proofs.Commits.{sequence_of}
-use Rattle.ckpt_log.proofs.SealedStates.{sealed_length}
+use Rattle.ckpt_log.proofs.Places.{half_behind, sealed_length}
 
 -- ---- the numbers of a version
 
@@ -37,20 +38,19 @@ sealed_is One is = absurd (cc is)
 sealed_is Two is = absurd (cc is)
 sealed_is Three is = refl
 
+pub plain_sequence : (v : Version) → (row v).sealed ≡ false → (row v).first_sequence ≡ 0
+plain_sequence One is = refl
+plain_sequence Two is = refl
+plain_sequence Three is = absurd (cc is)
+
 pub plain_first : (v : Version) → (row v).sealed ≡ false → (row v).first_home ≡ 5
 plain_first One is = refl
 plain_first Two is = refl
 plain_first Three is = absurd (cc is)
 
-begins : (p : Plan) → IsPlan p → (row p.version).first_home ≤ p.half_0
-begins p fits =
-    let may = fits.begin (length p.ranges + 0) (record { sector = 0; length = 0 }) (omega (arith, many p)) in
-    let here : MayBegin p.version (half_extent p.version p.geometry p.half_0) = subst (MayBegin p.version) (half_at p 0) may in
-    here.0
-
 pub first_home_inside : (p : Plan) → IsPlan p → (row p.version).first_home ≤ p.total
 first_home_inside p fits =
-    let first = begins p fits in
+    let first = half_behind p 0 fits in
     let lies = half_lies p 0 fits in
     omega (arith, first, lies.1)
 
@@ -98,6 +98,11 @@ module _ (v : Version) (is : (row v).sealed ≡ true) where
       leaves_weaker {old = old} {new = new} {P = λ c. sealed.IsOldOrNew h old c} (λ c. IsOldOrNew v h old c)
       (λ c. ⊎_elim (λ has. inl (old_from h old c has)) (λ has. inr (new_from h old.seen c has))) run
 
+  pub gate_from : (h : SealedHeader) (image : Image) → image (sealed.gate_at h) ≡ numbered_gate_bytes h.header.sequence →
+      image (gate_at v h) ≡ gate_row (row v).sealed h
+  gate_from h image opened =
+      ap (λ (i : ℕ). image i) (gate_place_is h) ∙ opened ∙ ap (λ (b : Bool). gate_row b h) (sym is)
+
   -- closing
   spares_gates : (old new : Image) → ((i : ℕ) → ((k : ℕ) → k < 3 → i ≡ sealed_gate k → ⊥) → new i ≡ old i) →
       (i : ℕ) → ((k : ℕ) → k < (row v).header_slots → i ≡ gate_place v k → ⊥) → new i ≡ old i
@@ -123,14 +128,14 @@ module _ (v : Version) (is : (row v).sealed ≡ true) where
   pub touches_from : (at place n : ℕ) (old new : Disk) → at ≡ place → TouchesAt at ((n + 29) / 30) old new →
       TouchesAt place (directory_length v n) old new
   touches_from at place n old new e touches =
-      subst (λ (k : ℕ). TouchesAt place k old new) (sym (sealed_length v n (sealed_is v is)))
+      subst (λ (k : ℕ). TouchesAt place k old new) (sym (sealed_length v n is))
       (subst (λ (i : ℕ). TouchesAt i ((n + 29) / 30) old new) e touches)
 
   pub inside_by : (at n most total sectors : ℕ) → n ≤ most → at + directory_length v most ≤ total → total ≤ sectors →
       at + (n + 29) / 30 ≤ sectors
   inside_by at n most total sectors few inside le =
       let fewer = fewer_entries v n most few in
-      let all = sealed_length v n (sealed_is v is) in
+      let all = sealed_length v n is in
       omega (arith, few, inside, le, fewer, all)
 
 -- ---- without seals
@@ -195,6 +200,12 @@ module _ (v : Version) (is : (row v).sealed ≡ false) where
     committed = plain_from v is new h (record { spelt = has.committed; sums = sums; fits = fits });
   }
 
+  pub plain_gate : (h : SealedHeader) (image : Image) → image (unsealed.gate_sector h.header) ≡ gate_bytes Open →
+      image (gate_at v h) ≡ gate_row (row v).sealed h
+  plain_gate h image opened =
+      let place : unsealed.header_sector h.header + 1 ≡ unsealed.gate_sector h.header = omega arith in
+      ap (λ (i : ℕ). image i) (plain_gate_place v h is ∙ place) ∙ opened ∙ ap (λ (b : Bool). gate_row b h) (sym is)
+
   plain_old : (h : SealedHeader) (disk : Disk) (c : Image) → unsealed.IsOld h.header disk c → IsOld v h disk c
   plain_old h disk c has = record {
     could_be = (has.could_be.0, has.could_be.1, plain_spares h has.could_be.0 c has.could_be.2);
@@ -210,12 +221,12 @@ module _ (v : Version) (is : (row v).sealed ≡ false) where
       (λ c. ⊎_elim (λ has. inl (plain_old h old c has)) (λ has. inr (plain_new h old.seen c sums fits has))) run
 
   -- closing
-  no_header : (image : Image) (h : SealedHeader) → HasNoHeader image → CommitsUnsealed image h → ⊥
+  no_header : (image : Image) (h : SealedHeader) → (committed_slot image ≡ None) → CommitsUnsealed image h → ⊥
   no_header image h none has =
       let lost : None ≡ Some (header_bytes h.header) = sym (ap (option_at image) none) ∙ has.spelt in
       cc
 
-  kept_or_none : (old new : Image) → (committed_bytes new ≡ committed_bytes old) ⊎ HasNoHeader new → StaysCommitted v new old
+  kept_or_none : (old new : Image) → (committed_bytes new ≡ committed_bytes old) ⊎ (committed_slot new ≡ None) → StaysCommitted v new old
   kept_or_none old new how h has =
       elim how [
         | inl same ↦ plain_stays v is new old (sym same) h has

@@ -1,5 +1,5 @@
 -- While the gates of both headers are closed, the lesser header's first, the committed header stays committed or there is none.
-use Rattle.ckpt_log.proofs.Names.{nat_tests, ℕ, false, refl, subst, sym, agrees_is, inl, arith, IsLesser, HeaderSlot, other_slot, gate_at, is_open, HasNoHeader}
+use Rattle.ckpt_log.proofs.Names.{nat_tests, ℕ, false, refl, subst, sym, agrees_is, inl, arith, IsLesser, HeaderSlot, other_slot, gate_at, is_open, committed_slot, None}
 use Rattle.ckpt_log.proofs.Names.{Image, Disk, LeavesOnly, Peeks, leaves_on, leaves_weaker, Agrees, Elsewhere, AreClosed, KeepsOrHasNone, WasKeptOrHasNone}
 use Rattle.std.proofs.Common.{◌≡◌}
 use Rattle.ckpt_log.proofs.Runs.{IsClosing}
@@ -19,7 +19,7 @@ closing_second slot {old} {mid} {c} lesser first shut is = grind (arith, nat_tes
 pub untouched : {image : Image} → KeepsOrHasNone image image
 untouched = record { elsewhere = λ i _ _. refl; committed = inl refl }
 
-pub none_committed : (image : Image) → AreClosed image → HasNoHeader image
+pub none_committed : (image : Image) → AreClosed image → committed_slot image ≡ None
 none_committed image shut = grind (arith, nat_tests)
 
 pub keeps_same : {old new : Image} → Agrees new old → KeepsOrHasNone old new

@@ -2,8 +2,8 @@
 use Rattle.ckpt_log.proofs.Names.{nat_tests, ℕ, zero, suc, Bool, true, false, Option, Some, List, refl, ap, arith, and_parts, eqb-true}
 use Rattle.ckpt_log.proofs.Names.{is_open, committed_of, committed_slot, committed_bytes, option_at, does_count, sequence_in, Image, Elsewhere}
 use Rattle.ckpt_log.proofs.Names.{w64, from_le_bytes, from_le_bytes-to_le_bytes_8, CheckpointHeader, Closed, Open, number, number_from, gate_bytes}
-use Rattle.ckpt_log.proofs.Names.{header_bytes, IsHeader, six, Agrees, elsewhere_on, HeaderSlot, slot_number, header_at, gate_at, header_sector, gate_sector}
-use Rattle.ckpt_log.proofs.Names.{closed_gate, Precedes, KeepsHeader, HasNew, IsOldOrNew, one_more}
+use Rattle.ckpt_log.proofs.Names.{header_bytes, six, Agrees, elsewhere_on, HeaderSlot, slot_number, header_at, gate_at, header_sector, gate_sector}
+use Rattle.ckpt_log.proofs.Names.{closed_gate, Precedes, KeepsHeader, HasNew, IsOldOrNew}
 use Rattle.std.proofs.Common.{◌≡◌, ◌<◌, ◌≤◌, ◌+◌, ◌*◌, ◌%◌, ◌∙◌, ◌^◌, ◌++◌}
 use Rattle.std.specs.Prelude.{if◌then◌else◌, ◌==◌}
 
@@ -150,15 +150,6 @@ either_elsewhere {h} {old} {new} h0 = grind (arith, nat_tests)
 pub opened_new : {h : CheckpointHeader} {old new : Image} → h.sequence < 2 ^ 64 → Precedes old h → old (header_sector h) ≡ header_bytes h
     → Elsewhere (gate_sector h) 1 old new → new (gate_sector h) ≡ gate_bytes Open → HasNew h old new
 opened_new {h} {old} {new} fits next written e gate = open_new fits next written e (ap is_open gate)
-
--- a valid header's next sequence number fits 64 bits
-pub next_fits : {room : ℕ} {h : CheckpointHeader} → IsHeader room h → h.sequence + 1 < 2 ^ 64
-next_fits {h} is = let more = one_more (h.entries == 0) in omega (arith, is.sequence, is.age, more)
-
--- the committed header precedes one with the next sequence number
-pub precedes : (image : Image) (h next : CheckpointHeader) → committed_bytes image ≡ Some (header_bytes h) → h.sequence < 2 ^ 64 →
-    h.sequence + 1 ≡ next.sequence → Precedes image next
-precedes image h next is fits after = (header_bytes h, is, ap (λ (n : ℕ). n + 1) (sequence_of h fits) ∙ after)
 
 -- ---- one change after another
 

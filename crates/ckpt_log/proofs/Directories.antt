@@ -2,7 +2,7 @@
 use Rattle.ckpt_log.proofs.Names.{nat_tests, ℕ, List, [], length, take, drop, replicate, refl, arith, drop-replicate, take-replicate, Image, Entry}
 use Rattle.ckpt_log.proofs.Names.{directory_bytes, IsDirectory, Plan, directory_in, sectors_from, Frame, IsFrameOf, frame_bytes, Geometry, one_directory}
 use Rattle.ckpt_log.proofs.Names.{directory_fits, one_frame, OpenFault, Failed, NoMemory, Bad, IsRefused, IsBadDirectory, SlotsAreReadBack}
-use Rattle.ckpt_log.proofs.Names.{DirectoriesAreReadBack, take-append_seam, CheckpointHeader, HasHeader, HasCommitted, HasNoCommitted, directory_length}
+use Rattle.ckpt_log.proofs.Names.{DirectoriesAreReadBack, directory_length}
 use Rattle.ckpt_log.proofs.Names.{no_sectors, Version, ap, sym}
 use Rattle.std.proofs.Common.{◌∙◌, ◌≡◌, ◌-◌, ◌*◌, ◌≤◌, ◌∷◌, ◌++◌}
 
@@ -59,15 +59,3 @@ directory_not_refused {es} (Bad reason) is bad = absurd (bad.1 es is refl)
 
 pub directories_read_back : DirectoriesAreReadBack
 directories_read_back = grind (arith, nat_tests, one_directory, directory_fits, directory_not_refused)
-
--- ---- finding the committed header and its directory, or why there is none
-
-pub bad_directory : {image seen : Image} {p : Plan} {h : CheckpointHeader} {n : ℕ} (e : OpenFault) → seen ≡ image → n ≡ h.entries →
-    HasHeader image p h → IsBadDirectory p.geometry (directory_in seen p h.generation n) e → HasNoCommitted image p e
-bad_directory {image} {seen} {p} {h} {n} e same all has bad = grind (arith, nat_tests)
-
-pub has_committed : {image seen : Image} {p : Plan} {h : CheckpointHeader} {n : ℕ} {named : List Entry} (rest : List Entry) → seen ≡ image →
-    n ≡ h.entries → length named ≡ n →
-    HasHeader image p h → IsDirectory p.geometry named → directory_in seen p h.generation n ≡ directory_bytes named →
-    HasCommitted image p h (named ++ rest)
-has_committed {image} {seen} {p} {h} {n} {named} rest same all size has is spelt = grind (arith, nat_tests, take-append_seam)

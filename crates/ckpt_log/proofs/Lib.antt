@@ -15,5 +15,5 @@ pub mod SealedPieces
 pub mod SealedDirectories
 pub mod SealedChecks
 pub mod SealedWritten
-pub mod SealedStates
+pub mod CommittedHeaders
 pub mod AnyVersions

@@ -20,8 +20,11 @@ pub use Rattle.layout.specs.Gate.{gate_bytes, is_open}
 pub use Rattle.layout.specs.Header.{IsHeader}
 unfoldable pub use Rattle.layout.specs.Header.{header_bytes}
 pub use Rattle.layout.specs.Homes.{place_length, shape_of}
-pub use Rattle.layout.specs.Image.{Encodes, HasHeader, HasNoHeader, SavedState, committed_bytes, committed_of, committed_slot, directory_in, directory_sector}
-pub use Rattle.layout.specs.Image.{does_count, frame_sector, frame_slot_in, half_sector, option_at, sector_or, sequence_in, slot_sector}
+pub use Rattle.layout.specs.Image.{directory_in, directory_sector}
+pub use Rattle.layout.specs.Committed.{Commits, CommitsIf, CommitsUnsealed, committed_bytes, committed_of, committed_slot}
+pub use Rattle.layout.specs.Denoted.{AreEntriesIf, Encodes, HasDirectory, SavedState}
+pub use Rattle.layout.specs.Image.{frame_sector, frame_slot_in, half_sector, sector_or, slot_sector}
+pub use Rattle.layout.specs.Committed.{does_count, option_at, sequence_in}
 unfoldable pub use Rattle.layout.specs.Image.{sectors_from}
 pub use Rattle.layout.specs.Superblock.{IsPlan, Plan}
 unfoldable pub use Rattle.layout.specs.Version.{directory_length}
@@ -31,11 +34,16 @@ pub use Rattle.layout.specs.declared.header.CheckpointHeader.{CheckpointHeader}
 pub use Rattle.layout.specs.declared.open_fault.OpenFault.{OpenFault}
 pub use Rattle.layout.specs.declared.open_fault.OpenFault.TheVariants.{Bad, Failed, NoMemory}
 pub use Rattle.layout.specs.declared.version.Version.{Version}
+pub use Rattle.layout.specs.declared.sealed.header.SealedHeader.{SealedHeader}
+pub use Rattle.layout.specs.Version.{row}
+pub use Rattle.layout.specs.sealed.Units.{HasUnits}
+pub use Rattle.seal.specs.declared.sums.Sums.{Sums}
 pub use Rattle.model.specs.Frame.{frame_at}
 pub use Rattle.model.specs.declared.frame.Frame.{Frame}
 pub use Rattle.model.specs.declared.geometry.Geometry.{Geometry}
 pub use Rattle.std.proofs.Common.{Bool, List, Option, Some, [], ap, arith, drop, false, inl, length, length-take-le, refl, replicate, rules, subst, suc, sym}
-pub use Rattle.std.proofs.Common.{take, true, zero, ℕ}
+pub use Rattle.std.proofs.Common.{None, get_or, nat_lt, take, true, zero, ℕ}
+pub use Rattle.std.specs.List.{flat_map, range_with_len}
 pub use Rattle.std.proofs.Math.Seq.{take-append_seam}
 pub use Rattle.std.proofs.lemmas.Bool.{and_from, and_parts, eq-eqb, eqb-true}
 pub use Rattle.std.proofs.lemmas.Bool.Decides.{nat_tests}
@@ -51,9 +59,9 @@ pub use Rattle.ckpt_log.specs.CommitLaws.{FramesAreBehind, HomesAreBehind, IsRea
 pub use Rattle.ckpt_log.specs.HeaderLaws.{HeadersSpareDirectories, HeadersSpareFrames, HeadersSpareSectors, HeadersSpareSlots, NextFollows}
 pub use Rattle.ckpt_log.specs.HeaderLaws.{SequencesAreReported}
 pub use Rattle.ckpt_log.specs.HeaderSlot.{gate_at, header_at, other_slot, slot_number}
-pub use Rattle.ckpt_log.specs.Log.{HasCommitted, HasNoCommitted}
+pub use Rattle.ckpt_log.specs.AnyVersion.{SparesRest, header_place}
 pub use Rattle.ckpt_log.specs.Places.{DirectoriesAreInside, FramesAreInSlots, HalvesAreApart, HalvesAreWithin, SlotsAreApart, SlotsAreInside}
 pub use Rattle.ckpt_log.specs.Places.{SlotsSpareDirectories}
-pub use Rattle.ckpt_log.specs.SavedSectors.{SameDirectory, SameFrames, SameFrom, SameHeader, SameSaved}
+pub use Rattle.ckpt_log.specs.SavedSectors.{SameBlocks, SameDirectory, SameFrames, SameFrom, SameHeader, SameOpening, SameSaved, SameUnits, SameWhereRead}
 pub use Rattle.ckpt_log.specs.Slot.{DirectoriesAreReadBack, IsBadDirectory, SlotsAreReadBack}
 pub use Rattle.ckpt_log.specs.declared.header_slot.HeaderSlot.{HeaderSlot}

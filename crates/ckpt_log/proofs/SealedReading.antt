@@ -16,7 +16,7 @@ use Rattle.layout.specs.declared.bad_image.BadImage.TheVariants as bad
 use Rattle.layout.specs.declared.open_fault.OpenFault.TheVariants as fault
 use Rattle.layout.specs.declared.sealed.header.SealedHeader.{SealedHeader}
 use Rattle.layout.specs.sealed.Gate.{HasNumber}
-use Rattle.layout.specs.sealed.Header.{IsWithinLimits}
+use Rattle.layout.specs.Header.{IsHeader}
 use Rattle.layout.proofs.NumberedGates.{one_number as one_gate_number}
 use Rattle.ckpt_log.specs.declared.sealed.opening.HeaderSlot.{HeaderSlot}
 use Rattle.ckpt_log.specs.sealed.Closing.{GoesFirst, IsOrder, IsOrderOf}
@@ -173,11 +173,11 @@ refused_by xs room NoPair is = is
 refused_by xs room NextGate is = inl is
 
 pub beyond_by : (xs : List HeaderSlot) (room : ℕ) (h : SealedHeader) (within : Bool) → IsChosen xs h →
-    (IsTrue within ↔ IsWithinLimits room h.header) → within ≡ false → HasNoneBy xs room bad.BadHeader
+    (IsTrue within ↔ IsHeader 2 room h.header) → within ≡ false → HasNoneBy xs room bad.BadHeader
 beyond_by xs room h within chosen means no_more = inr (h, chosen, λ fits. false≢true (sym no_more ∙ means.1 fits))
 
 pub header_by : (image : Image) (xs : List HeaderSlot) (room : ℕ) (h : SealedHeader) → AreRead image xs → IsChosen xs h →
-    IsWithinLimits room h.header → HasHeader image room h
+    IsHeader 2 room h.header → HasHeader image room h
 header_by image xs room h read chosen fits = record { committed = chosen_commits image xs h read chosen; fits = fits }
 
 -- ---- the order of closing

@@ -1,25 +1,21 @@
--- The log in any version: which header is committed, what a publish and a closing leave, and directories.
-use Rattle.std.specs.Prelude.{◌≡◌, ◌⊎◌, ℕ, ◌+◌, ◌*◌, ◌%◌, ◌^◌, ◌<◌, ◌≤◌, ◌==◌, if◌then◌else◌, Bool, true, false, Some}
-use Rattle.std.specs.Prelude.{List, length, take, ⊤}
+-- The log in any version: what a publish and a closing leave, and what is read of a header and its directory.
+use Rattle.std.specs.Prelude.{◌≡◌, ◌⊎◌, ℕ, ◌+◌, ◌*◌, ◌%◌, ◌<◌, Bool, true, false, List, take, ⊤}
 use Rattle.device.specs.Disk.{Disk, Image}
-use Rattle.layout.specs.Directory.{IsDirectory, directory_bytes}
-use Rattle.layout.specs.Header.{header_bytes}
-use Rattle.layout.specs.Image.{committed_bytes, directory_in, directory_sector}
+use Rattle.layout.specs.Committed.{Commits, HasNoSums}
+use Rattle.layout.specs.Denoted.{HasBadDirectory, HasBadHeader, HasDirectory, HasHeader, HasNoHeader}
+use Rattle.layout.specs.Gate.{gate_bytes}
+use Rattle.layout.specs.Header.{header_bytes, IsHeader as IsWithin}
 use Rattle.layout.specs.Superblock.{Plan}
 use Rattle.layout.specs.Version.{row}
 use Rattle.layout.specs.declared.bad_image.BadImage.TheVariants.{BadDirectory, BadHeader, NoHeader}
 use Rattle.layout.specs.declared.directory.Entry.{Entry}
+use Rattle.layout.specs.declared.gate.Gate.TheVariants.{Open}
 use Rattle.layout.specs.declared.open_fault.OpenFault.{OpenFault}
-use Rattle.layout.specs.declared.open_fault.OpenFault.TheVariants.{Bad, Failed}
+use Rattle.layout.specs.declared.open_fault.OpenFault.TheVariants.{Bad, Failed, NoMemory}
 use Rattle.layout.specs.declared.sealed.header.SealedHeader.{SealedHeader}
 use Rattle.layout.specs.declared.version.Version.{Version}
-use Rattle.layout.specs.sealed.Directory.{AreEntries, sums_of_entries}
-use Rattle.layout.specs.sealed.Header.{header_numbers, sealed_header_bytes}
-use Rattle.layout.specs.sealed.Image.{HasBadSealedDirectory, HasBadSealedHeader, HasNoPair, HasSealedHeader}
-use Rattle.layout.specs.sealed.Opening.{Commits as CommitsSealed}
-use Rattle.layout.specs.sealed.Sector.{AreWords}
-use Rattle.seal.specs.declared.sums.Sums.{Sums}
-use Rattle.ckpt_log.specs.Log.{HasNoCommitted}
+use Rattle.layout.specs.sealed.Gate.{numbered_gate_bytes}
+use Rattle.layout.specs.sealed.Header.{sealed_header_bytes}
 
 -- ---- headers
 
@@ -40,42 +36,19 @@ header_at v h = header_place v (slot_of v h)
 abbrev pub gate_at : Version → SealedHeader → ℕ
 gate_at v h = gate_place v (slot_of v h)
 
-abbrev pub no_sums : Sums
-no_sums = record { a = 0; b = 0; c = 0 }
-
--- a header of a version without seals: root and directory sums are zeros
-pub record HasNoSums (h : SealedHeader) : Type 0 where
-  pub root : h.root ≡ no_sums
-  pub directory : h.directory ≡ no_sums
-
 -- what a header needs on a device whose log half has `room` slots
 pub record IsHeader (v : Version) (room : ℕ) (h : SealedHeader) : Type 0 where
-  pub entries : h.header.entries ≤ room
-  pub age : h.header.age ≤ 2 ^ 62
-  pub generation : h.header.generation ≤ 2 * h.header.age
-  pub sequence : h.header.sequence ≤ 2 * h.header.age + (row v).first_sequence
-      + (if h.header.entries == 0 then 1 else 0)
-  pub entries_fit : h.header.entries < 2 ^ 64
+  pub fits : IsWithin (row v).first_sequence room h.header
   pub unsealed : (row v).sealed ≡ false → HasNoSums h
 
--- the sector of a header, with a seal or without
+-- the sector of a header, with a seal or without; the sector of its open gate, with its number or without
 abbrev pub header_row : Bool → SealedHeader → List ℕ
 header_row true h = sealed_header_bytes h
 header_row false h = header_bytes h.header
 
--- the committed header of an image without seals
-pub record CommitsUnsealed (image : Image) (h : SealedHeader) : Type 0 where
-  pub spelt : committed_bytes image ≡ Some (header_bytes h.header)
-  pub sums : HasNoSums h
-  pub fits : AreWords (header_numbers h)
-
-abbrev pub CommitsIf : Bool → Image → SealedHeader → Type 0
-CommitsIf true image h = CommitsSealed image h
-CommitsIf false image h = CommitsUnsealed image h
-
--- the committed header of an image is h
-abbrev pub Commits : Version → Image → SealedHeader → Type 0
-Commits v image h = CommitsIf (row v).sealed image h
+abbrev pub gate_row : Bool → SealedHeader → List ℕ
+gate_row true h = numbered_gate_bytes h.header.sequence
+gate_row false h = gate_bytes Open
 
 -- the header that is committed in `old` is committed in `new`
 abbrev pub StaysCommitted : Version → Image → Image → Type 0
@@ -125,49 +98,27 @@ pub record KeepsOrHasNone (v : Version) (old new : Image) : Type 0 where
 abbrev pub WasKeptOrHasNone : Version → Disk → Image → Type 0
 WasKeptOrHasNone v disk c = (d : Image) × disk.may_leave d × KeepsOrHasNone v d c
 
--- ---- directories
-
-abbrev pub AreEntriesIf : Bool → Image → Plan → ℕ → List Entry → Type 0
-AreEntriesIf true image p generation es = AreEntries image (directory_sector p generation) es
-AreEntriesIf false image p generation es = directory_in image p generation (length es) ≡ directory_bytes es
-
--- the directory of a generation has these entries
-abbrev pub AreEntriesOf : Image → Plan → ℕ → List Entry → Type 0
-AreEntriesOf image p generation es = AreEntriesIf (row p.version).sealed image p generation es
-
--- the directory sums of entries, or zeros without seals
-abbrev pub sums_if : Bool → List Entry → Sums
-sums_if true es = sums_of_entries es
-sums_if false es = no_sums
-
--- the directory that a header names
-pub record HasDirectory (image : Image) (p : Plan) (h : SealedHeader) (es : List Entry) : Type 0 where
-  pub count : length es ≡ h.header.entries
-  pub fits : IsDirectory p.geometry es
-  pub spelt : AreEntriesOf image p h.header.generation es
-  pub sums : sums_if (row p.version).sealed es ≡ h.directory
-
 -- ---- the committed header with its directory
 
 -- h is the committed header, and its directory is the front of these entries
 pub record HasCommitted (image : Image) (p : Plan) (h : SealedHeader) (entries : List Entry) : Type 0 where
-  pub committed : Commits p.version image h
-  pub fits : IsHeader p.version p.geometry.log h
+  pub header : HasHeader image p h
   pub directory : HasDirectory image p h (take h.header.entries entries)
 
--- why a sealed image has no committed header with a directory; nothing is said if the device failed
-abbrev pub HasNoneSealed : Image → Plan → OpenFault → Type 0
-HasNoneSealed image p Failed = ⊤
-HasNoneSealed image p (Bad NoHeader) = HasNoPair image
-HasNoneSealed image p (Bad BadHeader) = HasBadSealedHeader image p
-HasNoneSealed image p (Bad BadDirectory) =
-    (h : SealedHeader) × HasSealedHeader image p h × HasBadSealedDirectory image p h
-HasNoneSealed image p _ = ⊥
+-- why an image has no committed header; nothing is said if the device failed
+abbrev pub HasNoCommitted : Image → Plan → OpenFault → Type 0
+HasNoCommitted image p Failed = ⊤
+HasNoCommitted image p (Bad NoHeader) = HasNoHeader image p
+HasNoCommitted image p (Bad BadHeader) = (HasNoHeader image p → ⊥) × HasBadHeader image p
+HasNoCommitted image p _ = ⊥
 
-abbrev pub HasNoneIf : Bool → Image → Plan → OpenFault → Type 0
-HasNoneIf true image p e = HasNoneSealed image p e
-HasNoneIf false image p e = HasNoCommitted image p e
+-- why the directory of a header isn't read; nothing is said if the device failed
+abbrev pub HasNoDirectory : Image → Plan → SealedHeader → OpenFault → Type 0
+HasNoDirectory image p h Failed = ⊤
+HasNoDirectory image p h NoMemory = ⊥
+HasNoDirectory image p h (Bad reason) = (reason ≡ BadDirectory) × HasBadDirectory image p h
 
 -- the least reason why an image has no committed header with a directory
 abbrev pub HasNone : Image → Plan → OpenFault → Type 0
-HasNone image p e = HasNoneIf (row p.version).sealed image p e
+HasNone image p (Bad BadDirectory) = (h : SealedHeader) × HasHeader image p h × HasBadDirectory image p h
+HasNone image p e = HasNoCommitted image p e

@@ -1,5 +1,5 @@
 -- What a crash leaves while the gates of both headers are closed, so that no header is committed.
-use Rattle.ckpt_log.specs.Names.{ℕ, false, is_open, HasNoHeader, committed_bytes, sequence_in, Image, Disk}
+use Rattle.ckpt_log.specs.Names.{ℕ, None, false, is_open, committed_bytes, committed_slot, sequence_in, Image, Disk}
 use Rattle.std.specs.Prelude.{◌≡◌, ◌⊎◌, ◌≤◌}
 use Rattle.ckpt_log.specs.declared.header_slot.HeaderSlot.{HeaderSlot}
 use Rattle.ckpt_log.specs.declared.header_slot.HeaderSlot.TheVariants.{First, Second}
@@ -21,13 +21,13 @@ pub record KeepsImage (old new : Image) : Type 0 where
 -- only gates differ, and the committed header is the same, or there is none
 pub record KeepsOrHasNone (old new : Image) : Type 0 where
   pub elsewhere : SparesRest old new
-  pub committed : (committed_bytes new ≡ committed_bytes old) ⊎ HasNoHeader new
+  pub committed : (committed_bytes new ≡ committed_bytes old) ⊎ (committed_slot new ≡ None)
 
 -- c differs only in gates from an image that a crash now may leave; it has the same committed header, or none
 abbrev pub WasKeptOrHasNone : Disk → Image → Type 0
 WasKeptOrHasNone disk c = (d : Image) × disk.may_leave d × KeepsOrHasNone d c
 
--- the header in this slot has the lesser sequence number, or an equal one
+-- of the two headers, that in this slot has the lesser sequence number, or both are equal
 abbrev pub IsLesser : Image → HeaderSlot → Type 0
 IsLesser image First = sequence_in (image 1) ≤ sequence_in (image 3)
 IsLesser image Second = sequence_in (image 3) ≤ sequence_in (image 1)

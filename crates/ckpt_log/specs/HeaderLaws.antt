@@ -1,8 +1,9 @@
 -- Which numbers a header's bytes have, and what a change of a header slot keeps.
-use Rattle.ckpt_log.specs.Names.{ℕ, List, Entry, CheckpointHeader, header_bytes, IsHeader, Plan, IsPlan, sequence_in}
-use Rattle.ckpt_log.specs.Names.{bytes_at, frame_in, frame_sector, slot_sector, directory_in, Image, Elsewhere}
+use Rattle.ckpt_log.specs.Names.{ℕ, List, Entry, CheckpointHeader, SealedHeader, Version, row, header_bytes, Plan, IsPlan}
+use Rattle.ckpt_log.specs.Names.{sequence_in, bytes_at, frame_in, frame_sector, slot_sector, directory_sector, Image, Commits}
+use Rattle.ckpt_log.specs.Names.{directory_length}
 use Rattle.std.specs.Prelude.{◌≡◌, ◌+◌, ◌^◌, ◌<◌, ◌≤◌}
-use Rattle.ckpt_log.specs.Commit.{header_sector, Commits, Precedes}
+use Rattle.ckpt_log.specs.AnyVersion.{Precedes, SparesRest}
 use Rattle.ckpt_log.specs.SavedSectors.{SameFrom}
 
 -- the sequence number is read back from a header's bytes
@@ -11,28 +12,28 @@ SequencesAreReported = (h : CheckpointHeader) → h.sequence < 2 ^ 64 → sequen
 
 -- the committed header precedes the header with the next sequence number
 abbrev pub NextFollows : Type 0
-NextFollows = (image : Image) (room : ℕ) (h next : CheckpointHeader) → IsHeader room h → Commits image h →
-    h.sequence + 1 ≡ next.sequence → Precedes image next
+NextFollows = (v : Version) (image : Image) (h next : SealedHeader) → Commits v image h →
+    h.header.sequence + 1 ≡ next.header.sequence → Precedes v image next
 
--- a change of a header slot keeps the superblock, and all sectors from 5 on
+-- a change of a header slot keeps the superblock, and all sectors after the header slots
 abbrev pub HeadersSpareSectors : Type 0
-HeadersSpareSectors = (old new : Image) (h : CheckpointHeader) (at n : ℕ) → 5 ≤ at →
-    Elsewhere (header_sector h) 2 old new → (new 0 ≡ old 0) × SameFrom at n old new
+HeadersSpareSectors = (v : Version) (old new : Image) (h : SealedHeader) (at n : ℕ) → (row v).first_home ≤ at →
+    SparesRest v h old new → (new 0 ≡ old 0) × SameFrom at n old new
 
 -- a change of a header slot keeps the frames that lie after the headers
 abbrev pub HeadersSpareFrames : Type 0
-HeadersSpareFrames = (old new : Image) (h : CheckpointHeader) (p : Plan) (generation : ℕ) (es : List Entry) (object : ℕ)
-    → 5 ≤ frame_sector p generation es object → Elsewhere (header_sector h) 2 old new
+HeadersSpareFrames = (old new : Image) (h : SealedHeader) (p : Plan) (generation : ℕ) (es : List Entry) (object : ℕ)
+    → (row p.version).first_home ≤ frame_sector p generation es object → SparesRest p.version h old new
     → frame_in new p generation es object ≡ frame_in old p generation es object
 
 -- a change of a header slot keeps the frames in log slots
 abbrev pub HeadersSpareSlots : Type 0
-HeadersSpareSlots = (old new : Image) (h : CheckpointHeader) (p : Plan) (generation slot object : ℕ) → IsPlan p →
-    Elsewhere (header_sector h) 2 old new
+HeadersSpareSlots = (old new : Image) (h : SealedHeader) (p : Plan) (generation slot object : ℕ) → IsPlan p →
+    SparesRest p.version h old new
     → bytes_at new (slot_sector p generation slot) p object ≡ bytes_at old (slot_sector p generation slot) p object
 
--- a change of a header slot keeps the directories
+-- a change of a header slot keeps the sectors of directories
 abbrev pub HeadersSpareDirectories : Type 0
-HeadersSpareDirectories = (old new : Image) (h : CheckpointHeader) (p : Plan) (generation n : ℕ) → IsPlan p →
-    Elsewhere (header_sector h) 2 old new
-    → directory_in new p generation n ≡ directory_in old p generation n
+HeadersSpareDirectories = (old new : Image) (h : SealedHeader) (p : Plan) (generation n : ℕ) → IsPlan p →
+    SparesRest p.version h old new
+    → SameFrom (directory_sector p generation) (directory_length p.version n) old new

@@ -1,12 +1,12 @@
 pub mod Names
 pub mod Closing
 pub mod Commit
-pub mod CommitLaws
-pub mod HeaderLaws
 pub mod HeaderSlot
 pub mod Log
+pub mod sealed
+pub mod AnyVersion
+pub mod CommitLaws
+pub mod HeaderLaws
 pub mod Places
 pub mod SavedSectors
 pub mod Slot
-pub mod sealed
-pub mod AnyVersion

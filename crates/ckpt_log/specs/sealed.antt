@@ -4,5 +4,3 @@ pub mod Publish
 pub mod Closing
 pub mod Directory
 pub mod Units
-pub mod SavedSectors
-pub mod CommitLaws

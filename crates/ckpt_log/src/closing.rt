@@ -55,7 +55,7 @@ fn close_in_turn<D: Device>(device: &mut D, slot: HeaderSlot) -> Result<(), Fail
 /// last, and a closed gate isn't written.
 ///
 /// It allocates nothing. Returns `Failed` exactly if the device failed.
-pub fn close_gates<D: Device>(device: &mut D) -> Result<(), Failed>
+pub(crate) fn close_gates<D: Device>(device: &mut D) -> Result<(), Failed>
     requires inside { 5 ≤ (D.disk device.old).sectors }
 
     ensures closed { OnOk result (AreClosed (D.disk device.new).seen) }

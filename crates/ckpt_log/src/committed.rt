@@ -1,18 +1,18 @@
-// The committed header and its directory.
+// The committed header of versions 1 and 2.
 ghost use Rattle.std.specs.Prelude.{◌≡◌, ◌≤◌, length, option_map, IfOk, IfErr, OnOk};
-ghost use Rattle.layout.specs.Image.{does_count, committed_of, HasHeader};
+ghost use Rattle.layout.specs.Committed.{does_count, committed_of};
 ghost use Rattle.device.specs.Calls.{Counts};
 ghost use Rattle.layout.specs.Calls.{ReadsOnly};
 ghost use Rattle.layout.specs.Fault.{CountsOpen};
 ghost use Rattle.ckpt_log.specs.HeaderSlot.{slot_number, header_at, gate_at};
-ghost use Rattle.ckpt_log.specs.Log.{chosen, IsHeaderIn, IsRefusedBy, HasNone, HasCommitted, HasNoCommitted};
+ghost use Rattle.ckpt_log.specs.Log.{chosen, HasNoPlainHeader, HasPlainHeader, IsHeaderIn, IsRefusedBy};
 
 use crate::header_slot::HeaderSlot;
 use crate::log::Log;
 use crate::sector::read_sector;
 use device::{Device, Failed, SECTOR_SIZE};
 use layout::{
-    BadImage, CheckpointHeader, Entry, Gate, OpenFault, decode_gate, decode_header, sequence_in,
+    BadImage, CheckpointHeader, Gate, OpenFault, decode_gate, decode_header, sequence_in,
 };
 
 // Reads the header of a slot into `into`. Returns whether the header counts: its gate is open, and its sequence
@@ -66,11 +66,15 @@ fn choose(
 }
 
 impl<'a> Log<'a> {
-    // Returns the committed header. Fails as `find_committed` does.
-    fn find_header<D: Device>(&self, device: &mut D) -> Result<CheckpointHeader, OpenFault>
+    // Returns the committed header of versions 1 and 2. Returns `Failed` exactly if the device failed, `NoHeader` if no
+    // header counts, and `BadHeader` if the committed header is malformed, even if the other counts too.
+    pub(crate) fn find_header<D: Device>(
+        &self,
+        device: &mut D,
+    ) -> Result<CheckpointHeader, OpenFault>
         requires inside { self.now.total ≤ (D.disk device.old).sectors }
-        ensures found { IfOk result (λ h. HasHeader (D.disk device.old).seen self.now h) }
-        ensures refused { IfErr result (λ e. HasNone (D.disk device.old).seen self.now e) }
+        ensures found { IfOk result (λ h. HasPlainHeader (D.disk device.old).seen self.now.geometry.log h) }
+        ensures refused { IfErr result (λ e. HasNoPlainHeader (D.disk device.old).seen self.now.geometry.log e) }
         ensures reads { ReadsOnly (D.disk device.old) (D.disk device.new) }
         ensures cause { CountsOpen (D.disk device.old) (D.disk device.new) result }
     {
@@ -86,35 +90,5 @@ impl<'a> Log<'a> {
             sequence_in(&second),
         );
         Ok(choose(slot, &first, &second, room)?)
-    }
-
-    /// Returns the committed header, and puts its directory into the first entries of `directory`. It doesn't
-    /// allocate or write.
-    ///
-    /// Returns `Failed` exactly if the device failed, else:
-    ///
-    /// - `NoHeader` if no header counts
-    /// - `BadHeader` if the committed header is malformed, even if the other counts too
-    /// - `BadDirectory` if its directory is malformed
-    ///
-    /// After an error `directory` may hold any entries.
-    pub fn find_committed<D: Device>(
-        &self,
-        device: &mut D,
-        directory: &mut [Entry],
-    ) -> Result<CheckpointHeader, OpenFault>
-        requires room { self.now.geometry.log ≤ length directory.old }
-        requires inside { self.now.total ≤ (D.disk device.old).sectors }
-        ensures found { IfOk result (λ h.
-            HasCommitted (D.disk device.old).seen self.now h directory.new) }
-        ensures refused { IfErr result (λ e. HasNoCommitted (D.disk device.old).seen self.now e) }
-        ensures length { length directory.new ≡ length directory.old }
-        ensures reads { ReadsOnly (D.disk device.old) (D.disk device.new) }
-        ensures cause { CountsOpen (D.disk device.old) (D.disk device.new) result }
-    {
-        let header = self.find_header(device)?;
-        let named = &mut directory[..header.entries as usize];
-        self.read_directory(device, header.generation, named)?;
-        Ok(header)
     }
 }

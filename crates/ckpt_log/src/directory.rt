@@ -77,7 +77,7 @@ impl<'a> Log<'a> {
     ///
     /// It allocates nothing. If there are no entries it doesn't call the device. Returns `Failed` exactly if the
     /// device failed; then the sectors of the directory may hold any bytes.
-    pub fn write_directory<D: Device>(
+    pub(crate) fn write_directory<D: Device>(
         &self,
         device: &mut D,
         generation: u64,
@@ -112,7 +112,7 @@ impl<'a> Log<'a> {
     ///
     /// Returns `Failed` exactly if the device failed, and `BadDirectory` exactly if the sectors encode no directory
     /// of this length. After either, `into` may hold any entries.
-    pub fn read_directory<D: Device>(
+    pub(crate) fn read_directory<D: Device>(
         &self,
         device: &mut D,
         generation: u64,

@@ -4,17 +4,18 @@ ghost use Rattle.ckpt_log.specs.HeaderLaws.{SequencesAreReported, NextFollows, H
 ghost use Rattle.ckpt_log.specs.HeaderLaws.{HeadersSpareSlots, HeadersSpareDirectories};
 ghost use Rattle.ckpt_log.specs.Places.{SlotsAreInside, FramesAreInSlots, DirectoriesAreInside, HalvesAreWithin};
 ghost use Rattle.ckpt_log.specs.Places.{HalvesAreApart, SlotsAreApart, SlotsSpareDirectories};
-ghost use Rattle.ckpt_log.specs.SavedSectors.{SameHeader, SameDirectory, SameFrames, SameSaved};
+ghost use Rattle.ckpt_log.specs.SavedSectors.{SameHeader, SameDirectory, SameFrames, SameSaved, SameUnits};
 ghost use Rattle.ckpt_log.specs.Slot.{SlotsAreReadBack, DirectoriesAreReadBack};
 
-/// The saved state depends only on the header slots and gates, the directory of the committed header, and the
-/// frames of objects. Images that agree in these have the same header, directory and frames. So no write of
-/// another sector changes the saved state, even with a crash. The function does nothing: its contract is the
-/// law.
+/// The saved state depends only on superblock, header slots and gates, the directory of the committed header, and the
+/// block of each object: a page's frame, or a whole cluster, in the log or at home. Images that agree in these have the
+/// same header, directory, frames and, in version 3, sealed units. So no write of another sector changes the saved
+/// state, even with a crash. The function does nothing: its contract is the law.
 pub fn saved_is_read_from_its_sectors()
     ensures header { SameHeader }
     ensures directory { SameDirectory }
     ensures frames { SameFrames }
+    ensures units { SameUnits }
     ensures saved { SameSaved }
 {}
 
@@ -39,10 +40,9 @@ pub fn what_is_written_is_read()
     ensures directories { DirectoriesAreReadBack }
 {}
 
-/// The sequence number is read back from a header's bytes, so `publish` may follow the committed header with
+/// The sequence number is read back from a header's bytes, so `commit` may follow the committed header with
 /// the next number. A write of a header slot changes neither the superblock nor the frames and directories
 /// after the headers. The function does nothing: its contract is the law.
-#[tactic(auto, using(crate::proofs::Places::header_laws))]
 pub fn headers_spare_the_rest()
     ensures sequences { SequencesAreReported }
     ensures next { NextFollows }
@@ -52,7 +52,7 @@ pub fn headers_spare_the_rest()
     ensures directories { HeadersSpareDirectories }
 {}
 
-/// The saved states after a crash during `Log::publish`. If the crash leaves the old header, the image has the state
+/// The saved states after a crash during `Log::commit`. If the crash leaves the old header, the image has the state
 /// saved before. If it leaves the new header, the image has the state written for it. The function does nothing: its
 /// contract is the law.
 pub fn a_commit_leaves_either_state()

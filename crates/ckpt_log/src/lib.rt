@@ -1,5 +1,5 @@
-//! The log of checkpoints. `Log::publish` commits a header: a crash at any moment leaves the old
-//! header committed, or the new one.
+//! The log of checkpoints. `Log::commit` commits a header: a crash at any moment leaves the old header committed, or the
+//! new one.
 #![tactic(auto)]
 
 mod any_version;
@@ -15,7 +15,6 @@ mod sector;
 mod slots;
 
 pub use any_version::close_gates_of;
-pub use closing::close_gates;
 pub use header_slot::HeaderSlot;
 pub use laws::{
     a_commit_leaves_either_state, headers_spare_the_rest, keep_halves_apart,

@@ -112,8 +112,12 @@ impl<'a> Log<'a> {
     ///
     /// It writes only the slot of the new header: first the gate with 0 and zeros, if it is open; then the header;
     /// then the gate with 1 and zeros. Each write is durable before the next.
-    pub fn publish<D: Device>(&self, device: &mut D, header: CheckpointHeader) -> Result<(), Failed>
-        requires spelt { IsHeader self.now.geometry.log header }
+    pub(crate) fn publish<D: Device>(
+        &self,
+        device: &mut D,
+        header: CheckpointHeader,
+    ) -> Result<(), Failed>
+        requires spelt { IsHeader 0 self.now.geometry.log header }
         requires inside { 5 ≤ (D.disk device.old).sectors }
         requires one { CommitsOne (D.disk device.old) }
         requires next { Precedes (D.disk device.old).seen header }

@@ -11,14 +11,10 @@ mod root;
 mod sector;
 mod units;
 
-pub use closing::close_gates;
-pub use committed::read_committed;
-pub use directory::{read_directory, write_directory};
-pub use laws::{
-    a_sealed_commit_leaves_either_state, sealed_directories_are_read_back,
-    sealed_saved_is_read_from_its_sectors,
-};
-pub use publishing::publish;
-pub(crate) use publishing::slot_of;
+pub(crate) use closing::close_gates;
+pub(crate) use committed::read_committed;
+pub(crate) use directory::{read_directory, write_directory};
+pub use laws::sealed_directories_are_read_back;
+pub(crate) use publishing::{publish, slot_of};
 pub use root::{add_last, empty_root, replace_seal};
 pub use units::{read_cluster, read_page, write_cluster, write_page};

@@ -9,6 +9,7 @@ ghost use Rattle.layout.specs.Calls.{ReadsOnly, WritesAt};
 ghost use Rattle.layout.specs.Shape.{HasZerosBeside};
 ghost use Rattle.layout.specs.Fault.{CountsOpen};
 ghost use Rattle.layout.specs.Frames.{IsObject, IsRefused};
+ghost use Rattle.layout.specs.sealed.Summed.{IfSummed};
 ghost use Rattle.model.specs.Frame.{content_behind};
 
 use crate::log::Log;
@@ -70,6 +71,9 @@ impl<'a> Log<'a> {
         ensures beside { OnOk result (HasZerosBeside (shape_of self.now number)
             (sectors_from (D.disk device.new).seen (slot_sector self.now generation slot)
             (place_length self.now number))) }
+        ensures summed { OnOk result (IfSummed (shape_of self.now number)
+            (sectors_from (D.disk device.new).seen (slot_sector self.now generation slot)
+            (place_length self.now number))) }
         ensures writes { WritesAt (slot_sector self.now generation slot)
             (place_length self.now number) (D.disk device.old) (D.disk device.new) }
         ensures cause { Counts (D.disk device.old) (D.disk device.new) result }
@@ -79,8 +83,8 @@ impl<'a> Log<'a> {
         write_frame(device, at, shape, self.geometry(), number, header, content)
     }
 
-    /// Writes the frame of a page with these words into a slot of the half of a generation. All other sectors
-    /// keep their bytes, and what a crash may leave in them doesn't change.
+    /// Writes the frame of a page with these words into a slot of the half of a generation, with sums if its shape has
+    /// them. All other sectors keep their bytes, and what a crash may leave in them doesn't change.
     ///
     /// Returns `Failed` exactly if the device failed; then the 9 sectors may hold any bytes.
     pub fn write_page<D: Device>(
@@ -88,20 +92,26 @@ impl<'a> Log<'a> {
         device: &mut D,
         generation: u64,
         slot: u64,
+        number: u64,
         header: ObjectHeader,
         words: &[u64],
     ) -> Result<(), Failed>
         requires slot { slot < self.now.geometry.log }
+        requires page { self.now.geometry.nodes ≤ number }
         requires words { length words.now ≡ 512 }
         requires inside { self.now.total ≤ (D.disk device.old).sectors }
-        ensures written { OnOk result (sectors_from (D.disk device.new).seen
-            (slot_sector self.now generation slot) 9
+        ensures written { OnOk result (bytes_at (D.disk device.new).seen
+            (slot_sector self.now generation slot) self.now number
             ≡ page_frame_bytes (record { header = header; content = content.Page words.now })) }
+        ensures summed { OnOk result (IfSummed (shape_of self.now number)
+            (sectors_from (D.disk device.new).seen (slot_sector self.now generation slot)
+            (place_length self.now number))) }
         ensures writes { WritesAt (slot_sector self.now generation slot) 9
             (D.disk device.old) (D.disk device.new) }
         ensures cause { Counts (D.disk device.old) (D.disk device.new) result }
     {
         let at = self.slot_sector(generation, slot);
-        write_page(device, at, header, words)
+        let shape = self.shape(number);
+        write_page(device, at, shape, header, words)
     }
 }

@@ -22,7 +22,7 @@ digit_one b = grind (arith, nat_tests)
 digit_of_bit : (d : ℕ) → d < 2 → digit (nat_eq d 1) ≡ d
 digit_of_bit d small = grind (arith, nat_tests)
 
--- for each n, the digit of whether n isn't 0 is the lesser of 1 and n
+-- min 1 n is 1 if n isn't 0, else 0
 digit_some : (n : ℕ) → digit (not (nat_eq n 0)) ≡ min 1 n
 digit_some n = grind (arith, nat_tests, eqb-suc-zero)
 

@@ -102,7 +102,7 @@ rules_of sub.Reach = file_rule (codes "IMAGE") ∷ processes_rule ∷ flag_rule 
 rules_of sub.Upgrade = file_rule (codes "OLD") ∷ file_rule (codes "NEW") ∷ cause_rule ∷ []
 rules_of sub.Copy = file_rule (codes "IMAGE") ∷ file_rule (codes "NEW") ∷ cause_rule ∷ []
 rules_of sub.Describe = file_rule (codes "IMAGE") ∷ number_rule (codes "nodes") ∷ number_rule (codes "pages")
-    ∷ number_rule (codes "log") ∷ cause_rule ∷ []
+    ∷ number_rule (codes "log") ∷ names_rule ∷ cause_rule ∷ []
 rules_of sub.Draw = file_rule (codes "IMAGE") ∷ number_rule (codes "from") ∷ flag_rule (codes "reads")
     ∷ number_rule (codes "to") ∷ names_rule ∷ cause_rule ∷ []
 

@@ -55,7 +55,7 @@ fn text_error(alloc: Global) -> Result<Error, AllocError>
 impl JobFault {
     ghost use Rattle.command_line.specs.Refusals.{IsReportedAs};
 
-    /// Returns the fault if one of the words isn't text: bad words, or `NoMemory` if memory ran out.
+    /// Returns the fault of a command line with a word that isn't text: `BadWords`, or `NoMemory` if memory ran out.
     pub fn not_text(alloc: Global) -> JobFault
         ensures { IsReportedAs InvalidValue result }
     {

@@ -284,6 +284,7 @@ const DESCRIBE: &[Argument<'static>] = &[
         "R",
         "Describes an image with R slots in each half of the log",
     ),
+    Argument::Names,
     CAUSE,
 ];
 

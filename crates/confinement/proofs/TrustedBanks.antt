@@ -1,4 +1,5 @@
--- An order on a bank of a closed set stays within the set.
+-- An order on a bank of a closed set stays within the set. A capability stays inside a set if it
+-- names a member, is weak, names no object, or starts a trusted process.
 use Rattle.confinement.proofs.Names.{nat_tests, inl, inr, ℕ, nat_eq, true, false, List, [], length, refl, sym, ap, subst, arith, IsTrue, slice_index_or}
 use Rattle.confinement.proofs.Names.{range_with_len, false≢true, cases_eq, or_cases, or_right, eqb-true, eqb-false, Capability, Void, Bank, Geometry, Content}
 use Rattle.confinement.proofs.Names.{Object, Arguments, BankOrder, ResultCode, chain, is_under, allocated, are_free, bank_allocated, free_nodes, free_pages}
@@ -141,7 +142,7 @@ module _ (g : Geometry) (z : Zone) (os : List Object) (h : IsNow g os) (k : Encl
   freed_stays b (n ∷ ns) within = chosen (OutcomeStays z os) (owner_at os n == b) _ _ (λ _. (gone_stays (n ∷ ns) within, inl (inl tt)))
       (λ _. refused_stays code.NotFromThisBank)
 
-  -- if a capability stays inside, the objects that it frees are members
+  -- if a capability stays inside a set (`Stays`), the objects that a bank frees by it are members
   freed_inside : (c : Capability) → NamesItsKind os c → Stays z c → (n : ℕ) → is_member (freed_by os c) n ≡ true → IsTrue (z.members n)
   freed_inside c names within n member = grind (arith, nat_tests)
 

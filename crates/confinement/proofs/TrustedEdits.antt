@@ -1,4 +1,5 @@
--- Changes of objects that keep everything outside a set.
+-- Changes of objects that keep everything outside a set. A capability stays inside a set if it
+-- names a member, is weak, names no object, or starts a trusted process.
 use Rattle.confinement.proofs.Names.{arith, nat_tests, inl, ℕ, suc, Bool, true, false, Option, None, Some, List, [], map, refl, sym, ap, subst, IsTrue}
 use Rattle.confinement.proofs.Names.{slice_index_or, Capability, Void, Content, Object, Root, State, named, free, is_bank, is_free, is_root, map_content}
 use Rattle.confinement.proofs.Names.{root_in, slots_in, with_slot_in, with_word_in, consume, is_member, names_member, rescind, resumes, void_where, without}

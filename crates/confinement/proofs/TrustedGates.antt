@@ -1,4 +1,5 @@
--- An invocation by a member of a closed set stays within the set.
+-- An invocation by a member of a closed set stays within the set. A capability stays inside a set
+-- if it names a member, is weak, names no object, or starts a trusted process.
 use Rattle.confinement.proofs.Names.{arith, nat_tests, inl, inr, ℕ, zero, suc, Some, List, [], map, refl, IsTrue, slice_index, slice_index_or, slice_set}
 use Rattle.confinement.proofs.Names.{and_parts, Capability, Void, Resume, Invocation, Message, Operation, Call, Geometry, Object, Root, State, Running, Effect}
 use Rattle.confinement.proofs.Names.{after_gate, after_order, deliver, invoke, on_kernel_object, ordered, replied, reply_of, sent_by, sent_to_gate}

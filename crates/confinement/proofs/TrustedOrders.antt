@@ -1,4 +1,5 @@
--- An order on an object of a closed set stays within the set.
+-- An order on an object of a closed set stays within the set. A capability stays inside a set if it
+-- names a member, is weak, names no object, or starts a trusted process.
 use Rattle.confinement.proofs.Names.{nat_tests, inl, refl, ℕ, false, not, List, arith, IsTrue, nat_lt, Access, Capability, Void, Number, Page, Node}
 use Rattle.confinement.proofs.Names.{Space, Process, Bank, Discrim, Geometry, Object, State, Available, Running, Arguments, NodeOrder, PageOrder, ProcessOrder}
 use Rattle.confinement.proofs.Names.{on_bank, bank_order, fetched, is_space, node_order, on_node, on_page, on_process, order, page_order, process_order, stored}

@@ -1,4 +1,6 @@
--- Runs by members of a closed set: each step stays within the set with the free numbers.
+-- Runs by members of a closed set: each step stays within the set with the free numbers. A
+-- capability stays inside a set if it names a member, is weak, names no object, or starts a trusted
+-- process.
 use Rattle.confinement.proofs.Names.{nat_tests, inl, inr, ℕ, suc, Bool, true, false, Option, None, Some, Result, Ok, Err, List, [], map, refl, sym, ap, subst}
 use Rattle.confinement.proofs.Names.{arith, IsTrue, nat_lt, bit_or, slice_index_or, and_parts, ltb-true, All-head, All-tail, le_or_l, le_or_r, Access, Answer}
 use Rattle.confinement.proofs.Names.{MemoryFault, ReadOnly, Refusal, Capability, Void, Page, Space, Command, Invocation, Geometry, Line, Content, Object}
@@ -59,7 +61,7 @@ kept_inside g os age inside n new sound k = (
 
 -- ---- the page that a store reaches
 
--- `found` is the page `next` that was reached from a slot, with the restrictions `a` added
+-- `found` is the page that the rest of the walk reached, with the restrictions `a` added
 record IsBelow (a : Access) (rest : Result (ℕ × Access) MemoryFault) (found : ℕ × Access) : Type 0 where
   next : ℕ × Access
   is : rest ≡ Ok next
@@ -88,7 +90,7 @@ along_inside z os h (Space o k a) (slot ∷ slots) found stays e full =
     subst (λ n. IsTrue (z.members n)) (sym b.same) (along_inside z os h c slots b.next stays_there b.is full_there)
 along_inside z os h c slots found stays e full = cc
 
--- if a tested step of a walk found a page, its continuation found it
+-- if a walk that begins with a test found a page, the walk after the test found it
 if_found : (b : Bool) (r : Result (ℕ × Access) MemoryFault) (why : MemoryFault) (found : ℕ × Access) →
     (if b then r else Err why) ≡ Ok found → r ≡ Ok found
 if_found b r why found e = grind (arith, nat_tests)

@@ -1,5 +1,5 @@
--- Closed sets with the processes that members may start, and the numbers that may receive messages. `StaysWithin`: a change that keeps
--- everything else.
+-- Closed sets with the processes that members may start, and with ports: numbers whose objects may receive messages. `StaysWithin`: a
+-- change that keeps everything else.
 use Rattle.confinement.proofs.Names.{ℕ, Bool, true, false, List, IsTrue, Capability, Object, is_free, is_process, annex_at, content_at, object_at, IsKept}
 use Rattle.confinement.proofs.Names.{IsClosedBut, StaysBut}
 use Rattle.std.proofs.Common.{◌≡◌, ◌⊎◌}
@@ -12,7 +12,7 @@ pub record Zone : Type 0 where
 abbrev pub Stays : Zone → Capability → Type 0
 Stays z c = StaysBut z.trusted z.members c
 
--- an object that members may change: a member, or one that may receive messages
+-- an object that members may change: a member or a port
 abbrev pub MayChange : Zone → ℕ → Type 0
 MayChange z n = IsTrue (z.members n) ⊎ IsTrue (z.ports n)
 

@@ -62,7 +62,7 @@ IsStretch g trusted s inside x = IsRun g (Up s) x.turns (Up x.last) × elim x.by
   | false ↦ IsSound g x.last.now × IsClosedBut trusted x.last.now.objects (members_after s inside x)
 ]
 
--- each of these stretches is one, from where the one before it ends
+-- each item is a stretch (`IsStretch`) that begins where the one before it ends
 abbrev pub AreStretches : Geometry → (ℕ → Bool) → Running → (ℕ → Bool) → List Stretch → Type 0
 AreStretches g trusted s inside [] = Unit {0}
 AreStretches g trusted s inside (x ∷ xs) =

@@ -9,15 +9,15 @@ pub fn invocation_is_confined()
     ensures { InvocationIsConfinedBut }
 {}
 
-/// The same bound holds over any run of invocations, loads and stores by members, and by processes that members make
-/// from free numbers. A run may begin whenever the set is closed but for trusted processes. So others may act between
-/// two runs if they leave the set closed.
+/// The bound of `invocation_is_confined` holds over any run of invocations, loads and stores by members, and by
+/// processes that members make from free numbers. A run may begin whenever the set is closed but for trusted
+/// processes. So others may act between two runs if they leave the set closed.
 pub fn run_is_confined()
     ensures { RunIsConfinedBut }
 {}
 
-/// The same bound holds over a run in which others take turns too. After their turns the world must be sound, and the
-/// set, without freed members, must be closed but for trusted processes.
+/// The bound of `run_is_confined` holds over a run in which others take turns too. After their turns the world must
+/// be sound, and the set, without freed members, must be closed but for trusted processes.
 pub fn turns_are_confined()
     ensures { TurnsAreConfinedBut }
 {}

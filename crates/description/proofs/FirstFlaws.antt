@@ -59,13 +59,13 @@ stranger_in which ms place is = (is.0, unknown (keys_of which) ms place.flaw is.
     unknown keys ns (Item key i) is = absurd is
 
 module _ (which : TableName) (key : Key) (ms : Members) (before : FitsBefore (keys_of which) ms key) where
-  -- if the value at a key is of another type, and all before is good, that is the first flaw
+  -- if the value at a key is of another type, and the keys before it are good, that is the first flaw
   pub value_in : {A : Type 0} (P : A → Type 0) → is_list key ≡ false → (FitsAt key ms → (x : A) × P x) → (place : ShapePlace) →
       IsMisfit which key P place → IsIn which ms place
   value_in P single fits place is =
       rw is.0 (refl, (before, λ fit. let x = fits fit in is.1 x.0 x.1, λ list. absurd (true≢false (sym list ∙ single))))
 
-  -- if the list at a key is bad, and all before is good, that is the first flaw
+  -- if the list at a key is bad, and the keys before it are good, that is the first flaw
   list_flaw : {A : Type 0} (P : Data → A → Type 0) (So : Data → Type 0) → IsTrue (is_list key) →
       (FitsAt key ms → HasList P (key_name key) ms) → ((d : Data) → (x : A) × P d x → IsItem key d) →
       ((d : Data) → So d → IsFormless key d) → (d : Data) → get_member (key_name key) ms ≡ Some d → (flaw : Flaw) →

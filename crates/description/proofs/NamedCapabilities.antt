@@ -122,7 +122,7 @@ first_turned : {A : Type 0} (P Q B C : A → Type 0) → ((x : A) → P x → Q 
     IsFirst P B xs i → IsFirst Q C xs i
 first_turned P Q B C good bad xs i first = (all_turned P Q good (take i xs) first.0, some_turned B C bad (slice_get xs i) first.1)
 
--- if a capability lacks P, there is a capability that does
+-- `LacksIt` says that there is a capability, and that it lacks P
 lacked : (P : Capability → Type 0) (o : Option Capability) → LacksIt P o → (c : Capability) × (o ≡ Some c) × (P c → ⊥)
 lacked P None lacks = absurd lacks
 lacked P (Some c) lacks = (c, refl, lacks)
@@ -154,7 +154,7 @@ some_both : {A : Type 0} (R : Type 0) (P Q : A → Type 0) → ((x : A) → P x 
 some_both R P Q split None is = absurd is
 some_both R P Q split (Some x) is = split x is
 
--- the first process with a capability that lacks P has its first one at this place
+-- of the first process that holds capabilities without P, the first such capability is at this place
 pub process_lacks : (P : Capability → Type 0) (d : Description) (k : ℕ) (at : Held) →
     IsFirst (AllOfProcess P) (λ p. OneOfProcess P k p at) d.processes.items k → FirstLacks P d at
 unfolding OneOfProcess
@@ -205,7 +205,7 @@ module _ (P Q : Capability → Type 0) (good : (c : Capability) → P c → Q c)
         (λ n. in_turned n.slots.items) (λ n. one_turned n.slots.items i) d.nodes.items k first.1,
   )
 
--- the first capability that names no number of its kind breaks the rule for capabilities
+-- the first capability that names no number for its kind of object breaks the rule for capabilities
 pub kind_broken : (d : Description) (at : Held) → HasNumbers d → FirstLacks (IsTarget d.geometry) d at → BreaksTarget d at
 kind_broken d at numbers first =
     let lacks = lacks_at (IsTarget d.geometry) d at first in

@@ -1,4 +1,4 @@
--- In described frames every count is 0, and the number of each object is one of its kind.
+-- In described frames every count is 0, and each object has a number for its kind.
 use Rattle.description.proofs.Names.{nat_tests, arith, inl, inr, ℕ, List, refl, sym, ap, subst, get_or-map, Cap, Capability, Frame, ObjectHeader, Geometry}
 use Rattle.description.proofs.Names.{Content, blank_frame, current_count, frame_at, header_at, headers, role_of, IsOfKind, object_count, Description}
 use Rattle.description.proofs.Names.{NamesItsRole, HasNumbers, IsDescribed, first_frame, Entry, number_of, IsTarget}
@@ -6,7 +6,7 @@ use Rattle.std.proofs.Common.{◌≡◌, ◌≢◌, ◌<◌, ◌≤◌, ◌∙�
 use Rattle.model.specs.declared.object.Role.TheVariants as role
 use Rattle.description.proofs.Entries.{HasRange, IsFrameOf, described_cases, in_range}
 
--- the frame of an object that was never rescinded, at a number of its kind
+-- the frame of an object that was never rescinded, at a number for its kind
 pub record IsFirst (g : Geometry) (n : ℕ) (f : Frame) : Type 0 where
   pub role : f.header.role ≡ role_of f.content
   pub allocations : f.header.allocations ≡ 0

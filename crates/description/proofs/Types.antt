@@ -40,7 +40,7 @@ pub text_number : (d : Data) (r : Option Capability) (found : Option ℕ) → as
 text_number d r None none said is other = other_text d r none said other
 text_number d r (Some n) none said is other = wide_text d n is.0 (subst (IsCapability d) is.1 said)
 
--- an integer that encodes a number of 64 bits encodes it as an integer
+-- if an integer of TOML encodes a number of 64 bits, it is that number
 is_text : (d : Data) (n : ℕ) → is_some (as_integer d) ≡ true → IsWideNumber d n → IsNumber d n
 unfolding IsWideNumber
 is_text d n some either = search arith

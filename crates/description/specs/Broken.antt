@@ -91,7 +91,7 @@ number_at d (named.Annex k) = option_map (λ p. p.annex) (slice_get d.processes.
 number_at d (named.Node k) = option_map (λ n. n.number) (slice_get d.nodes.items k)
 number_at d (named.Page k) = option_map (λ p. p.number) (slice_get d.pages.items k)
 
--- the place of an object's number in the list of all: banks, roots, annexes, nodes, pages
+-- the place of an object's number in the list of all numbers: banks, roots, annexes, nodes, pages
 abbrev pub place_of : Description → Named → ℕ
 place_of d (named.Bank k) = k
 place_of d (named.Root k) = length d.banks.items + k

@@ -1,4 +1,4 @@
--- The frames that a description names, and the rules that it must keep to name some.
+-- The frames that a description names, and the rules that it must keep to name any.
 use Rattle.description.specs.Names.{ℕ, List, [], map, length, Option, None, Some, slice_get, unwrap_or, All, Contains}
 use Rattle.description.specs.Names.{Cap, Capability, Void, Frame, Content, State, IsWellFormed, frame_at, blank_frame}
 use Rattle.description.specs.Names.{role_of, IsSpace, object_count, fresh_cap, AreNamed}

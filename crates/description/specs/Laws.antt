@@ -67,7 +67,7 @@ abbrev pub OneFault : Type 0
 OneFault = (d : Description) (sectors : ℕ) (fault other : BuildFault) → IsFirstBroken d sectors fault →
     IsFirstBroken d sectors other → fault ≡ other
 
--- if no rule is broken, none is the first
+-- if no rule is broken, none is the first that is broken
 abbrev pub NoFault : Type 0
 NoFault = (d : Description) (sectors : ℕ) (fault : BuildFault) → IsAccepted d sectors → IsFirstBroken d sectors fault →
     ⊥

@@ -32,7 +32,7 @@ abbrev pub Reads : {A : Type 0} → (A → Type 0) → (ShapePlace → Type 0) �
 Reads P At (Ok x) = P x
 Reads P At (Err e) = Misses At e
 
--- no x that the value at this key may encode has P; the place is that key
+-- The place is this key, whose value encodes nothing: P, the property of what it would encode, holds of no x.
 abbrev pub IsMisfit : {A : Type 0} → TableName → Key → (A → Type 0) → ShapePlace → Type 0
 IsMisfit {A = A} which key P place = (place ≡ misfit which key) × ((x : A) → P x → ⊥)
 

@@ -27,8 +27,8 @@ IsCapability d None = (text : List ℕ) × (d ≡ string text) ×
 abbrev pub IsNumber : Data → ℕ → Type 0
 IsNumber d n = (n < 2 ^ 63) × (d ≡ integer (pos n))
 
--- the value is this number of 64 bits, such as a word or a limit: an integer, or from 2^63 on the text of a number
--- capability
+-- the value is this number of 64 bits, such as a word or a limit: if it is below 2^63 an integer, else the text of
+-- a number capability
 unfoldable pub IsWideNumber : Data → ℕ → Type 0
 IsWideNumber d n = IsNumber d n ⊎ ((2 ^ 63 ≤ n) × IsCapability d (Some (Number n)))
 

@@ -94,7 +94,8 @@ IsItem NodeSlots d = (s : SlotEntry) × IsSlot d s
 IsItem PageWords d = (w : WordEntry) × IsWord d w
 IsItem _ d = ⊥
 
--- the value hasn't the form of an item of this list: no table in a list of objects, no valid item in any other list
+-- the value lacks the form of an item of this list: it is no table, in a list of objects, or no valid item, in
+-- another list
 abbrev pub IsFormless : Key → Data → Type 0
 IsFormless Banks d = (ms : Members) → d ≡ table ms → ⊥
 IsFormless Processes d = (ms : Members) → d ≡ table ms → ⊥
@@ -126,7 +127,7 @@ abbrev pub FitAll : Members → List Key → Type 0
 FitAll ms [] = Unit {0}
 FitAll ms (key ∷ keys) = FitsAt key ms × FitAll ms keys
 
--- the table has no keys but these, and the values at those before this one fit
+-- the table has no keys but `keys`, and the values at those before `key` fit
 abbrev pub FitsBefore : List Key → Members → Key → Type 0
 FitsBefore keys ms key = IsTrue (has_only (map key_name keys) ms) ×
     (n : ℕ) × (slice_get keys n ≡ Some key) × FitAll ms (take n keys)

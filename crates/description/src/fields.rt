@@ -14,7 +14,7 @@ use model::{Capability, SLOTS, WORDS};
 // Keys of start capabilities have 16 bits, so they are below this.
 const KEYS: u64 = 1 << 16;
 
-/// Whether the text was that of a well-formed capability.
+/// Whether there is a capability, and it is well formed. `None` stands for a text that isn't a capability's.
 pub fn is_capability(capability: Option<Capability>) -> bool
     ensures { IsTrue result ↔ IsSomeCapability capability }
 {
@@ -24,7 +24,7 @@ pub fn is_capability(capability: Option<Capability>) -> bool
     }
 }
 
-// Whether the text was that of a well-formed capability that may be an address space.
+// Whether there is a capability, and it is well formed and may be an address space.
 fn is_space(space: Option<Capability>) -> bool
     ensures { IsTrue result ↔ IsSpaceEntry space }
 {
@@ -48,7 +48,7 @@ fn first_text(slots: &[SlotEntry]) -> Option<usize>
     None
 }
 
-// Returns the first flaw of a list of slots, or `None`. Their indexes are from `first` to 31.
+// Returns the first flaw of a list of slots, or `None`. An index must be from `first` to 31.
 #[tactic(auto, unfolding(crate::specs::FieldFlaws::BreaksSlots))]
 fn bad_slots(first: u64, slots: &[SlotEntry]) -> Option<SlotFlaw>
     ensures { MatchOption result (AreSlots first slots.now) (λ flaw. BreaksSlots first slots.now flaw) }

@@ -122,8 +122,9 @@ fn greater(one: u64, other: u64) -> u64
     if one < other { other } else { one }
 }
 
-/// Returns two places with the same number, or `None` if all numbers differ. The second is the first place
-/// whose number occurred before, and the first is where. A list that rises, as most do, is read only once.
+/// Returns two places with the same number, or `None` if all numbers differ. The second place is the first
+/// whose number occurred before; the first place is where it occurred. A list that rises, as most do, is read
+/// only once.
 pub(crate) fn find_twice<N: Numbers>(numbers: N) -> Option<(usize, usize)>
     ensures { MatchOption result (AreDistinct (N.numbers numbers))
         (λ p. IsFirstTwice (N.numbers numbers) p.0 p.1) }

@@ -20,7 +20,7 @@ pub trait Naming {
         ensures { IsTrue result ↔ Passes self.now capability };
 }
 
-/// The test whether a capability's number is one of its kind.
+/// The test whether the number that a capability names is one for its kind of object.
 #[derive(Drop)]
 pub(crate) struct OfItsKind {
     geometry: Geometry,

@@ -5,7 +5,7 @@ ghost use Rattle.description_explainer.specs.Places.{fault_of, rule_fault};
 use description::{BuildFault, Description, Held, Limit, Misnumbered, Part, ShapePlace};
 use recovery::Unbanked;
 
-/// The rule that a description breaks, and its first place. The rule for its form is in `Place`.
+/// A rule that a description breaks, and the first place that breaks it. The rule about a table's form is in `Place`.
 #[derive(Clone, Copy)]
 pub enum Rule {
     Limit(Limit),
@@ -30,7 +30,7 @@ impl Rule {
     }
 }
 
-/// The first broken rule of a table, and its first place.
+/// The first rule that a table breaks, and the first place that breaks it.
 #[derive(Drop)]
 pub enum Place<'a> {
     /// The table isn't that of a description: its first flaw.

@@ -39,7 +39,7 @@ pub(crate) fn list_of(name: TableName) -> Option<(&'static str, usize)>
     }
 }
 
-// Writes the table before one of its keys.
+// Writes the name of a table, as it stands before one of the table's keys.
 fn put_table(text: &mut String, name: TableName) -> Result<(), AllocError>
     ensures { OnOk result (string_bytes text.new ≡ string_bytes text.old ++ table_text name) }
 {

@@ -20,7 +20,7 @@ behind xs ys at i size =
     let place : 512 * (at + i) ≡ length xs + 512 * i = omega (arith, size) in
     ap (λ (n : ℕ). take 512 (drop n (xs ++ ys))) place ∙ ap (λ (rest : List ℕ). take 512 rest) (drop-append-add xs ys (512 * i))
 
--- after a write of whole sectors over a part of the list
+-- facts after a write of whole sectors over a part of the list
 module _ (bytes from : List ℕ) (at n : ℕ) (size : length from ≡ 512 * n) (inside : 512 * (at + n) ≤ length bytes) where
   put_before : (i : ℕ) → i < at → image_of (put_mid (512 * at) (512 * n) bytes from) i ≡ image_of bytes i
   put_before i lt =
@@ -38,7 +38,7 @@ module _ (bytes from : List ℕ) (at n : ℕ) (size : length from ≡ 512 * n) (
       let length_front : length (take (512 * at) bytes) ≡ 512 * at = length-take-le (512 * at) bytes (omega (arith, inside)) in
       sym (behind (take (512 * at) bytes) _ at i length_front ∙ front from _ i (omega (arith, size, lt)))
 
--- the same, with lengths and positions as the code computes them
+-- facts after a write, with lengths and positions as the code computes them
 module _ (bytes from now : List ℕ) (at a k : ℕ) (same : now ≡ from) (a_is : a ≡ 512 * at) (k_is : k ≡ length from)
     (whole : length from % 512 ≡ 0)
     (inside : 512 * (at + sectors_of from) ≤ length bytes) where

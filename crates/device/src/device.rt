@@ -89,7 +89,7 @@ pub trait Device: Drop {
     ghost only_now: { (device : Self) (c : Image) → (disk device).left_since (disk device).moment c
         → (disk device).may_leave c };
 
-    /// A crash leaves whole sectors, as many as there are.
+    /// A crash leaves whole sectors, as many as the device has.
     ghost left_whole: { (device : Self) (t : ℕ) (c : Image) → (disk device).left_since t c
         → IsWhole (disk device).sectors c };
 

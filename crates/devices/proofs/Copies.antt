@@ -32,7 +32,7 @@ module _ (sectors : ℕ) (copy first : List ℕ) (events : List Event) (sound : 
   abbrev old : State
   old = now_of first events
 
-  -- after a write
+  -- facts after a write
   module _ (put from : List ℕ) (at : ℕ) (is : more ≡ events ++ writes_of at (sectors_of from) from) where
     written : (i : ℕ) → i < sectors_of from → image_of from i ≡ (now_of first more).present (at + i)
     written = Disks.write_written sectors (image_of first) events more at from is
@@ -73,7 +73,7 @@ module _ (sectors : ℕ) (copy first : List ℕ) (events : List Event) (sound : 
         (disk_of sectors (image_of again) more risen)
     write_elapses failures risen = rw again_is (Disks.write_time sectors (image_of first) events more at from is failures risen)
 
-  -- after a sync that succeeded
+  -- facts after a sync that succeeded
   module _ (is : more ≡ events ++ synced ∷ []) where
     now_synced : now_of first more ≡ after old synced
     now_synced = ap (λ (es : List Event). now_of first es) is ∙ replay-one (at_first (image_of first)) events synced
@@ -96,7 +96,7 @@ module _ (sectors : ℕ) (copy first : List ℕ) (events : List Event) (sound : 
     narrows_ok failures risen = rw again_is (Disks.sync_crash sectors (image_of first) events more is
         (unwritten_same (image_of first) events) failures risen)
 
-  -- after a sync that failed
+  -- facts after a sync that failed
   module _ (is : more ≡ events) where
     copy_err : IsCopy sectors copy again more
     copy_err = rw (again_is, is) sound
@@ -129,7 +129,7 @@ module _ (sectors : ℕ) (copy first : List ℕ) (events : List Event) (sound : 
   synced_elapses (Ok x) failures risen ok err = rw (again_is, ok) (elapses_one sectors (image_of first) events synced failures risen)
   synced_elapses (Err e) failures risen ok err = rw (again_is, err) (elapses_still sectors (image_of first) events failures risen)
 
-  -- after a power cut
+  -- facts after a power cut
   module _ (is : more ≡ events ++ cut Keep ∷ []) where
     pub cut_elapses : (failures risen : ℕ) → Elapses (disk_of sectors (image_of first) events failures)
         (disk_of sectors (image_of again) more risen)

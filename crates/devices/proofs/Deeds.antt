@@ -83,7 +83,7 @@ takes_nothing byte a bytes = ([], bytes, refl, adds_none a)
 pub takes_still : (byte : ℕ) (a b : Option (List Call)) (bytes : List ℕ) → b ≡ a → TakesFront byte a b bytes
 takes_still byte a b bytes same = subst (λ (o : Option (List Call)). TakesFront byte a o bytes) (sym same) (takes_nothing byte a bytes)
 
--- one more deed adds its calls, its events and its failures
+-- one more operation (`Deed`) adds its calls, its events and its failures
 tells_known : (events : List Event) (failures : ℕ) (old new : Option (List Call)) (d : Deed) → Tells events failures old →
     Adds old new (calls_of d) → Tells (events ++ events_by d) (failures + failures_by d) new
 tells_known events failures None None d tells adds = tt

@@ -36,7 +36,7 @@ module _ (sectors : ℕ) (first : Image) (past : List Event) where
       (append_assoc past (writes_of at n bytes) (e ∷ []))
       (elapses_on (elapses_writes at n bytes failures failures) last grows)
 
-  -- after a write
+  -- facts after a write
   module _ (more : List Event) (at : ℕ) (bytes : List ℕ) (is : more ≡ past ++ writes_of at (sectors_of bytes) bytes) where
     state_written : replay (at_first first) more ≡ replay state (writes_of at (sectors_of bytes) bytes)
     state_written = ap (λ (l : List Event). replay (at_first first) l) is ∙ replay-append (at_first first) past
@@ -80,7 +80,7 @@ module _ (sectors : ℕ) (first : Image) (past : List Event) where
     untorn_outside : (c : Image) (i : ℕ) → IsOutside i → untorn c i ≡ c i
     untorn_outside c i out = ⊎_elim (untorn_before c i) (untorn_after c i) out
 
-    -- if the write doesn't touch a sector, and the sector wasn't unsynced, it isn't unsynced afterwards
+    -- a synced sector that the write doesn't touch stays synced
     outside_unsynced : (i : ℕ) → IsOutside i → state.unsynced i ≡ false → (replay (at_first first) more).unsynced i ≡ false
     outside_unsynced i out none = grind (arith, nat_tests, names-entries_of, state_written, written-unsynced)
 
@@ -100,7 +100,7 @@ module _ (sectors : ℕ) (first : Image) (past : List Event) where
       record { before = λ i lt. sym (untorn_before c i lt); after = λ i le. sym (untorn_after c i le) },
     )
 
-  -- after a sync
+  -- facts after a sync
   module _ (more : List Event) (is : more ≡ past ++ synced ∷ []) where
     state_synced : replay (at_first first) more ≡ after state synced
     state_synced = ap (λ (l : List Event). replay (at_first first) l) is ∙ replay-one (at_first first) past synced
@@ -123,7 +123,7 @@ module _ (sectors : ℕ) (first : Image) (past : List Event) where
         subst (λ (l : List Event). Elapses (disk_of sectors first past failures) (disk_of sectors first l risen)) (sym is)
         (elapses_one sectors first past synced failures risen)
 
-  -- after a power cut
+  -- facts after a power cut
   module _ (more : List Event) (outcome : Outcome) (is : EndsCut outcome past more) where
     cut_quiet : IsQuiet more
     cut_quiet = ⊎_elim (λ mark. inr (past, outcome, mark)) (λ (same, quiet). subst IsQuiet (sym same) quiet) is
@@ -142,7 +142,7 @@ module _ (sectors : ℕ) (first : Image) (past : List Event) where
         → (risen : ℕ) → Only (replay (at_first first) more).present (disk_of sectors first more risen)
     cut_durable same risen c left i = grind (arith, nat_tests, quiet-unsynced, cut_quiet)
 
--- a power cut doesn't change sectors that aren't unsynced
+-- a power cut doesn't change synced sectors
 left_untouched : (outcome : Outcome) (s : State) → ((i : ℕ) → s.unsynced i ≡ false → s.present i ≡ s.durable i) → (i : ℕ) →
     s.unsynced i ≡ false → left_by outcome s i ≡ s.durable i
 left_untouched outcome s same i none = grind (arith, nat_tests)

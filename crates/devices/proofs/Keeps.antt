@@ -39,7 +39,7 @@ written-unsynced s at (suc n) bytes i =
 
 module _ (sectors : ℕ) (first present durable : List ℕ) (entries : List RecordEntry) (settled : ℕ)
     (sound : IsSoundMirror sectors first present durable entries settled) where
-  -- after a write
+  -- facts after a write
   module _ (put from : List ℕ) (more : List RecordEntry) (at : ℕ) (size : length put ≡ length present) (fits : All (λ b. b < 256) put)
       (inside : at + sectors_of from ≤ sectors)
       (has : AreSectors (image_of put) at from) (elsewhere : Elsewhere at (sectors_of from) (image_of present) (image_of put))
@@ -87,7 +87,7 @@ module _ (sectors : ℕ) (first present durable : List ℕ) (entries : List Reco
           names-entries_of,
         )
 
-  -- after a sync
+  -- facts after a sync
   module _ (copied : List ℕ) (more : List RecordEntry) (size : length copied ≡ length durable) (fits : All (λ b. b < 256) copied)
       (has : Patches (names (drop settled entries)) (image_of present) (image_of durable) (image_of copied))
       (is : more ≡ entries ++ record { action = Synced; cut = None } ∷ []) where
@@ -105,7 +105,7 @@ module _ (sectors : ℕ) (first present durable : List ℕ) (entries : List Reco
     pub sound_synced : IsSoundMirror sectors first present copied more (length more)
     sound_synced = grind (arith, nat_tests, now_synced, copied_is, nothing_left)
 
-  -- after a power cut
+  -- facts after a power cut
   module _ (kept copied : List ℕ) (more : List RecordEntry) (outcome : Outcome) (kept_size : length kept ≡ length present)
       (copied_size : length copied ≡ length durable)
       (kept_fits : All (λ b. b < 256) kept) (copied_fits : All (λ b. b < 256) copied) (same : Agrees (image_of copied) (image_of kept))

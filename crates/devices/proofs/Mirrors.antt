@@ -5,7 +5,7 @@ use Rattle.std.proofs.Common.{◌≡◌, ◌∷◌, ◌++◌}
 use Rattle.devices.proofs.Disks as Disks
 
 module _ (old new : Mirror) (first_is : new.first ≡ old.first) (sectors_is : new.sectors ≡ old.sectors) (failures risen : ℕ) where
-  -- after a write
+  -- facts after a write
   module _ (at : ℕ) (bytes : List ℕ) (past_is : past_of new ≡ past_of old ++ writes_of at (sectors_of bytes) bytes) where
     pub mirror_written : AreSectors (disk_of_mirror risen new).seen at bytes
     mirror_written = rw first_is (Disks.write_written old.sectors (image_of old.first.items) (past_of old) (past_of new) at bytes past_is)
@@ -25,7 +25,7 @@ module _ (old new : Mirror) (first_is : new.first ≡ old.first) (sectors_is : n
     mirror_write_time = rw (first_is, sectors_is)
         (Disks.write_time old.sectors (image_of old.first.items) (past_of old) (past_of new) at bytes past_is failures risen)
 
-  -- after a sync
+  -- facts after a sync
   module _ (past_is : past_of new ≡ past_of old ++ synced ∷ []) where
     pub mirror_sync_durable : Only (disk_of_mirror risen new).seen (disk_of_mirror risen new)
     mirror_sync_durable = rw (first_is, sectors_is) (Disks.sync_durable old.sectors (image_of old.first.items) (past_of old) (past_of new)
@@ -44,7 +44,7 @@ module _ (old new : Mirror) (first_is : new.first ≡ old.first) (sectors_is : n
     mirror_sync_time = rw (first_is, sectors_is) (Disks.sync_time old.sectors (image_of old.first.items) (past_of old) (past_of new) past_is
         failures risen)
 
-  -- after a power cut
+  -- facts after a power cut
   module _ (outcome : Outcome) (past_is : EndsCut outcome (past_of old) (past_of new)) where
     pub mirror_cut_durable : Only (disk_of_mirror risen new).seen (disk_of_mirror risen new)
     mirror_cut_durable = Disks.cut_durable new.sectors (image_of new.first.items) (past_of old) (past_of new) outcome past_is

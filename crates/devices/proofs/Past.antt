@@ -69,6 +69,6 @@ written-present_inside s at (suc n) bytes j lt =
     ∙ ap (λ (k : ℕ). image_of bytes k) (sym here))
     (cases_lt j n)
 
--- in a quiet history nothing is unsynced
+-- if nothing has happened yet, or the last event is a power cut, no sector is unsynced
 pub quiet-unsynced : (first : Image) (past : List Event) → IsQuiet past → (i : ℕ) → (replay (at_first first) past).unsynced i ≡ false
 quiet-unsynced first past is i = grind (arith, nat_tests, replay-one)

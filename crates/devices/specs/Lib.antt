@@ -16,3 +16,4 @@ pub mod SectorCopy
 pub mod Sound
 pub mod SoundLaws
 pub mod Steps
+pub mod ReadOnly

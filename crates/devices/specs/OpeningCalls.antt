@@ -148,7 +148,7 @@ abbrev pub Answers : List ℕ → List OpeningCall → List ℕ → Type 0
 Answers first [] now = now ≡ first
 Answers first (call ∷ calls) now = IsTrueOf first call × Answers (bytes_after first call) calls now
 
--- for whatever file these answers are right, the device has that file's whole sectors from the first on
+-- if a file gives these answers, the device has the file's whole sectors, from the first on
 abbrev pub Mirrors : List OpeningCall → Disk → Type 0
 Mirrors calls disk =
     (first now : List ℕ) → Answers first calls now

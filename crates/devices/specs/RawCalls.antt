@@ -28,7 +28,7 @@ abbrev pub taken : ℕ → List (List ℕ) → List Call
 taken byte [] = []
 taken byte (piece ∷ pieces) = took byte piece ∷ taken (byte + length piece) pieces
 
--- the successful calls that a deed makes
+-- the successful calls that an operation makes
 abbrev pub calls_of : Deed → List Call
 calls_of (writes at pieces) = taken (512 * at) pieces
 calls_of (fails_write at pieces rest) = taken (512 * at) pieces
@@ -36,7 +36,7 @@ calls_of syncs = kept ∷ []
 calls_of fails_sync = []
 calls_of cuts = []
 
--- the events of a deed: a write that fails may have written any of its sectors
+-- the events of an operation: a write that fails may have written any of its sectors
 abbrev pub events_by : Deed → List Event
 events_by (writes at pieces) = writes_of at (sectors_of (concat pieces)) (concat pieces)
 events_by (fails_write at pieces rest) = writes_of at (sectors_of (concat pieces ++ rest)) (concat pieces ++ rest)
@@ -44,7 +44,7 @@ events_by syncs = synced ∷ []
 events_by fails_sync = []
 events_by cuts = cut Keep ∷ []
 
--- how many failures a deed counts as
+-- how many failures an operation counts as
 abbrev pub failures_by : Deed → ℕ
 failures_by (writes at pieces) = 0
 failures_by (fails_write at pieces rest) = 1
@@ -61,7 +61,7 @@ abbrev pub TakesFront : ℕ → Option (List Call) → Option (List Call) → Li
 TakesFront byte old new bytes =
     (pieces : List (List ℕ)) × (rest : List ℕ) × (concat pieces ++ rest ≡ bytes) × Adds old new (taken byte pieces)
 
--- the known calls are those of some list of deeds, which has these events and this number of failures
+-- the known calls are those of some list of operations, which has these events and this number of failures
 abbrev pub Tells : List Event → ℕ → Option (List Call) → Type 0
 Tells events failures None = ⊤
 Tells events failures (Some calls) =

@@ -6,6 +6,7 @@ ghost use Rattle.devices.specs.Sound.{IsCopy};
 
 use crate::host_file::HostFile;
 use crate::raw_file::RawFile;
+use crate::read_only::SharedDevice;
 use crate::sector_copy::SectorCopy;
 use crate::sector_file::SectorFile;
 use device::{Device, Failed};
@@ -129,4 +130,11 @@ impl<F: SectorFile> Device for CopiedFile<F> {
     ghost left_whole = { λ d t c left. left.3.whole };
 
     ghost few_sectors = { λ d. d.sound.few };
+}
+
+impl<F: SectorFile> SharedDevice for CopiedFile<F> {
+    fn look(&self, at: u64, into: &mut [u8]) {
+        let first = at as usize;
+        self.copy.get(first, into);
+    }
 }

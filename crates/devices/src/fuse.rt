@@ -3,6 +3,7 @@ ghost use Rattle.std.specs.Prelude.{None, ◌≡◌, ◌≤◌, ◌+◌, ◌%◌
 ghost use Rattle.device.specs.Calls.{Agrees, Elsewhere, sectors_of, AreSectors, Narrows, Tears, Only, Counts};
 ghost use Rattle.device.specs.Moments.{Elapses};
 
+use crate::read_only::SharedDevice;
 use collections::Tally;
 use device::{Device, Failed};
 
@@ -157,4 +158,11 @@ impl<D: Device> Device for Fuse<D> {
     ghost left_whole = { λ f t c. D.left_whole f.inner t c };
 
     ghost few_sectors = { λ f. D.few_sectors f.inner };
+}
+
+/// The fuse doesn't count it.
+impl<D: SharedDevice> SharedDevice for Fuse<D> {
+    fn look(&self, at: u64, into: &mut [u8]) {
+        self.inner.look(at, into);
+    }
 }

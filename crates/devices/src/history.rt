@@ -27,7 +27,7 @@ pub(crate) enum Step<'a> {
     Held { bytes: &'a [u8] },
     /// These sectors are written from `at` on.
     Wrote { at: u64, bytes: &'a [u8] },
-    /// All of it is made durable.
+    /// All that was written is made durable.
     Synced,
     /// The power goes and comes back, and every byte is kept.
     Cut,

@@ -1,7 +1,7 @@
 //! Devices with a record of what was done to them. `Memory` is a device in memory, made with the outcome of
-//! its power cuts. `Fuse` makes any device fail after some calls. A device in a file copies its sectors into
-//! memory when it is opened, except sectors of zeros: reads are answered from the copy, and writes go to the
-//! file and to the copy. Its record is ghost, so it takes no memory.
+//! its power cuts. `Fuse` makes any device fail after some calls. `ReadOnly` reads the sectors of another device.
+//! A device in a file copies its sectors into memory when it is opened, except sectors of zeros: reads are
+//! answered from the copy, and writes go to the file and to the copy. Its record is ghost, so it takes no memory.
 #![tactic(auto)]
 
 mod fault;
@@ -15,6 +15,7 @@ mod new_file;
 mod open;
 mod openable;
 mod raw_file;
+mod read_only;
 mod record;
 mod sector_copy;
 mod sector_file;
@@ -28,6 +29,7 @@ pub use memory::Memory;
 pub use new_file::Unmade;
 pub use openable::{Access, Lock, LockAnswer, Openable};
 pub use raw_file::RawFile;
+pub use read_only::{ReadOnly, SharedDevice};
 pub use record::Outcome;
 pub use sector_copy::SectorCopy;
 pub use sector_file::SectorFile;

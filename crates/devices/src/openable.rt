@@ -128,7 +128,7 @@ fn answer_of(answer: Result<(), TryLockError>) -> LockAnswer
     }
 }
 
-/// Its calls are unknown: what it does is trusted.
+/// The calls of a `File` are unknown: what it does is trusted.
 impl Openable for File {
     ghost opening = { λ _. None };
 

@@ -40,7 +40,7 @@ pub trait RawFile: Drop {
         ensures failed { OnErr result (errors self.new ≡ option_map (more_errors 1 0) (errors self.old)) };
 }
 
-/// Its calls are unknown: what it does is trusted.
+/// The calls of a `File` are unknown: what it does is trusted.
 impl RawFile for File {
     ghost calls = { λ _. None };
 

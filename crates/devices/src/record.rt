@@ -28,7 +28,7 @@ pub(crate) enum Action {
 #[derive(Drop)]
 pub(crate) struct RecordEntry {
     pub(crate) action: Action,
-    // The power cut that came after it and before the next one.
+    // The power cut that came after this entry and before the next, if one did.
     pub(crate) cut: Option<Outcome>,
 }
 

@@ -14,7 +14,7 @@ pub trait SectorFile: Drop {
     /// The bytes when the file was opened.
     ghost first: { Self → List ℕ };
 
-    /// The events since then.
+    /// The events since the file was opened.
     ghost events: { Self → List Event };
 
     /// How many calls have failed.

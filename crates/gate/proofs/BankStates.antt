@@ -11,7 +11,7 @@ use Rattle.gate.proofs.Effects.{frame_before}
 use Rattle.gate.proofs.Standing.{running_process, now_sound}
 use Rattle.gate.proofs.Plans.{enough_held, invoked_held}
 
--- counts that agree with some objects agree with all that have the `SameFrame`
+-- counts that agree with some objects agree with all objects of the same owners, roles, annexes and limits (`SameFrame`)
 pub counted_on : {g : Geometry} {os us : List Object} {s : BanksState} → SameFrame os us → AreCounted g os s → AreCounted g us s
 counted_on {g} {os} {us} {s} f h = grind (arith, nat_tests, tests_at, usage_same)
 
@@ -52,7 +52,7 @@ module _ (old mid : Parts) (s : BanksState) (sound : AreSound old) (counted : Ar
         MayChange mid.geometry (objects_in mid) (drop (writer_count caller.operation) list) plan.change
     before_may i caller plan list planned there = search (arith, nat_tests, before_frame, now_sound)
 
--- a reply keeps the `SameFrame`
+-- a reply keeps owners, roles, annexes and limits (`SameFrame`)
 pub answered_frame : (op : Operation) (us : List Object) (p : ℕ) (replying : Reply) → SameFrame us (answered op p us replying)
 answered_frame Call us p replying = go (is_running_process us p) (λ runs. running_process us p runs)
   where

@@ -65,7 +65,7 @@ effect_by operation p annex o = record {
   written = writers operation p annex ++ o.written;
 }
 
--- the objects before an order have the `SameFrame`, even if a process that returns becomes available first
+-- if a process that returns becomes available before its order, owners, roles, annexes and limits stay (`SameFrame`)
 pub frame_before : (op : Operation) (os : List Object) (p : ℕ) → IsTrue (is_process os p) → SameFrame os (state_before op os p)
 frame_before Return os p is = state_frame os p Available is
 frame_before c os p is = frame_refl os

@@ -112,7 +112,7 @@ by_words : (c : Capability) (w : ℕ) → ((g : Geometry) (us : List Object) (a 
     order g us c w a ≡ order g us c w (with_sent a sent)) → ReadsOnlyWords c w
 by_words c w same g us a b first second = grind (arith, nat_tests)
 
--- the outcome of the order that was found or, if none was, another; two such outcomes are equal if they are for each order
+-- the outcome for the order that was found, or `other` if none was; two such outcomes are equal if they are equal for each order
 abbrev found_or : {R : Type 0} → OrderOutcome → (R → OrderOutcome) → Option R → OrderOutcome
 found_or other on found = elim found [ None ↦ other | Some requested ↦ on requested ]
 
@@ -188,7 +188,7 @@ module _ (os : List Object) (c : Capability) (args : Arguments) (kind : NamesIts
       (root_used (content_at os n) (subst (λ (m : ℕ). is_process os m ≡ true) e (process_there os c kind process for.0)))
   for_target annexes (change.Bank made) for n is = absurd for
 
--- if two lists of objects have the `SameFrame`, the same edits may be made in both
+-- if two lists of objects agree in owners, roles, annexes and limits (`SameFrame`), the same edits may be made in both
 module _ (g : Geometry) (os us : List Object) (frame : SameFrame os us) where
   process_alike : (x : Change) → IsOfProcess os x → IsOfProcess us x
   process_alike x of = grind (arith, nat_tests, tests_at)
@@ -230,7 +230,7 @@ target_all P o all n is = grind (arith, nat_tests)
 all_target : (P : ℕ → Type 0) (o : Option ℕ) → ((n : ℕ) → o ≡ Some n → P n) → All P (option_to_list o)
 all_target P o each k d inside = grind (arith, nat_tests)
 
--- without the numbers that the invocation writes itself, the list has those of the order
+-- after the numbers that the invocation itself writes, the list has those that the order writes
 pub behind_writers : (op : Operation) (p annex : ℕ) (ns : List ℕ) → drop (writer_count op) (writers op p annex ++ ns) ≡ ns
 behind_writers op p annex ns = grind (arith, nat_tests)
 

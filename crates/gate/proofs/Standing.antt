@@ -1,4 +1,5 @@
--- The objects of sound frames: which numbers exist, and which capabilities may be kept. Allocation counts after an invocation.
+-- The objects of sound frames: which numbers exist, and which capabilities may be kept (have an encoding). Allocation counts
+-- after an invocation.
 use Rattle.gate.proofs.Names.{nat_tests, ℕ, true, false, Some, List, [], length, refl, ap, subst, arith, IsTrue, All, Capability, Resume, ObjectHeader, Object}
 use Rattle.gate.proofs.Names.{named, is_annex, is_free, NamesItsKind, content_at, is_process, is_running_process, Parts, frames_of, objects_in, annex_used}
 use Rattle.gate.proofs.Names.{bank_used, known_used, node_used, page_used, root_used, sym, get_or-map, Cap, Frame, Geometry, Content, blank_frame, conveyed}
@@ -136,7 +137,7 @@ requested_annex p sound q a is same = subst (λ (n : ℕ). n < length p.headers)
 pub gate_no_bank : (gate : Gate) (w : ℕ) → IsNoBankOrder (gate_capability gate) w
 gate_no_bank gate w = grind (arith, nat_tests)
 
--- objects with the `SameFrame` have the same free numbers
+-- lists of objects that agree in owners, roles, annexes and limits (`SameFrame`) have the same free numbers
 pub free_in_frame : (p q : Parts) (us : List Object) → objects_in q ≡ us → SameFrame (objects_in p) us → SameFree p q
 free_in_frame p q us objects frame n = grind (arith, nat_tests, tests_at)
 

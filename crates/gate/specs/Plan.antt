@@ -48,8 +48,8 @@ abbrev pub process_named : Capability → Option ℕ
 process_named (Process p) = Some p
 process_named _ = None
 
--- A change that an order on capability c may make: in the object that c names, or in its annex if that is a process;
--- within bounds, and with the capability that was sent.
+-- A change that an order on capability c may make: in the object that c names or, if this is a process, in its
+-- annex; within bounds, and with the capability that was sent.
 abbrev pub IsFor : List Object → Capability → Arguments → Change → Type 0
 IsFor os c args change.Nothing = Unit {0}
 IsFor os c args (change.Word page index word) = (index < 512) × (named c ≡ Some page)

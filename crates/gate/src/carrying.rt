@@ -18,7 +18,7 @@ use capability::{Caller, Change, OrderPlan, PresentFrames, Reply, roots};
 use model::{Capability, Message, Operation, State};
 use space_bank::Banks;
 
-// Returns how many numbers an invocation of a kernel object writes itself.
+// Returns how many numbers an invocation of a kernel object writes, without those that its order writes.
 fn writer_count(operation: Operation) -> usize
     ensures { result ≡ writer_count operation }
 {
@@ -51,7 +51,7 @@ fn set_state_before_order<F: PresentFrames>(store: &mut F, caller: Caller)
     }
 }
 
-// Makes the change of an order, which writes `listed[skip..]`.
+// Makes the change of an order. `listed[skip..]` has the numbers that the order writes.
 fn change<F: PresentFrames>(store: &mut F, banks: &mut Banks, skip: usize, change: Change)
     requires sound { AreSound (F.parts store.old) }
     requires counted { AreCounted (F.parts store.old).geometry

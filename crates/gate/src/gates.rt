@@ -67,8 +67,8 @@ fn message(invocation: &Invocation, sent: [Capability; 4], key: u16) -> Message
     }
 }
 
-// Returns how many of these an invocation through a gate writes: the receiver, its annex, the process that
-// invokes. A send doesn't write the last.
+// Returns how many objects an invocation through a gate writes: the receiver, its annex and, unless it is a
+// send, the process that invokes.
 fn written_count(operation: Operation) -> usize
     ensures within { result ≤ 3 }
     ensures written { (process receiver annex : ℕ)

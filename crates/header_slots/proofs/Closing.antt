@@ -43,7 +43,7 @@ module _ (a x : Slots) (s : ℕ) (was : IsCommitted a s) (headers : HeadersStay 
       let slot : n % 3 ≡ (s - 1) % 3 = omega (arith, e, positive) in
       same_Some n (s - 1) (sym it.header ∙ (headers (n % 3)).0 ∙ ap (λ (k : ℕ). (a k).header) slot ∙ was.pair.neighbour.header)
 
-  -- if no pair includes the third slot, only s can be committed
+  -- if the header in the third slot is no neighbour of s or s - 1, only s can be committed
   only_pair : ((n : ℕ) → Counts x n → n % 3 ≡ (s + 1) % 3 → (n ≡ s + 1 → ⊥) × (n + 1 ≡ s - 1 → ⊥)) → (t : ℕ) → IsCommitted x t → t ≡ s
   only_pair third t is =
       let positive : 0 < t = is.pair.positive in

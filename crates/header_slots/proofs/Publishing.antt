@@ -137,7 +137,7 @@ earlier a b x published is =
       | inr later ↦ inr (inr later)
     ]
 
--- the header that the next publish follows has the bytes of the committed one
+-- the header that the next publish follows is the committed one, so it has the same bytes
 opens_that : (slots : Slots) (t m : ℕ) (b : List ℕ) → Opens slots t b → IsCommitted slots m → Opens slots m b
 opens_that slots t m b opens is = subst (λ (n : ℕ). Opens slots n b) (one_committed slots t m opens.committed is) opens
 

@@ -1,5 +1,5 @@
--- What a crash leaves while the gates of an image are closed, one by one, before another image overwrites it. If
--- header s is committed, the third slot is the one for neither s nor s - 1.
+-- What a crash leaves while the gates of an image are closed, one by one, before another image overwrites it.
+-- There are three slots. If header s is committed, the third slot is the one for neither s nor s - 1.
 use Rattle.std.specs.Prelude.{◌≡◌, ◌⊎◌, ℕ, ◌+◌, ◌%◌, ◌<◌, List, None}
 use Rattle.header_slots.specs.Publish.{OthersStay}
 use Rattle.header_slots.specs.Slots.{Counts, Opens, Slots}
@@ -15,7 +15,7 @@ pub record ClosesGateOf (slot : ℕ) (old new : Slots) : Type 0 where
   pub torn : TearsGateOf slot old new
   pub closed : (new slot).gate ≡ None
 
--- a crash while the gates of three slots are closed in this order, each with a sync of its own
+-- what a crash leaves while the gates of three slots are closed in this order, each with a sync of its own
 abbrev pub LeftByClosing : ℕ → ℕ → ℕ → Slots → Slots → Type 0
 LeftByClosing i j k old new =
     TearsGateOf i old new

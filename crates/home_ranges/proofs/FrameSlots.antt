@@ -1,6 +1,8 @@
 -- The log slots that hold frames, and their directory entries.
 use Rattle.home_ranges.proofs.Names.{ℕ, suc, Bool, Option, Some, None, List, [], length, refl, sym, ap, inl, inr, arith, cases_eq, eq-eqb, ne_eqb, Entry}
-use Rattle.home_ranges.proofs.Names.{entry_at, home_place, slot_in, slot_beside, or_beside, frame_slot_in, Plan, found_slot, same_Some}
+use Rattle.home_ranges.proofs.Names.{entry_at, home_place, slot_in, slot_beside, or_beside, slot_by, frame_slot_in, Plan, found_slot, same_Some}
+use Rattle.home_ranges.proofs.Names.{true, false, row, IsPlan, IsObject, shape_of, All, All-head, All-tail, IsEntry, slot_here, slot_behind}
+use Rattle.home_ranges.proofs.Places.{IsWhole, alone}
 use Rattle.std.proofs.Common.{◌≡◌, ◌<◌, ◌∷◌, ◌∙◌}
 use Rattle.std.specs.Prelude.{if◌then◌else◌}
 
@@ -32,24 +34,56 @@ found_beside p (e ∷ es) n s is = elim (cases_eq (home_place p e.object) (home_
       record { index = suc rest.index; within = omega (arith, rest.within); home_is = rest.home_is; slot_is = rest.slot_is }
 ]
 
--- ---- an object's own slot or, if it has none, the slot of that entry
+-- ---- the slot with an object's frame
 
-frame_slot_by : (p : Plan) (es : List Entry) (n : ℕ) {own : Option ℕ} → slot_in es n ≡ own →
+frame_slot_by : (p : Plan) (es : List Entry) (n : ℕ) {own : Option ℕ} → (row p.version).sealed ≡ false → slot_in es n ≡ own →
     frame_slot_in p es n ≡ or_beside own (slot_beside p es n)
-frame_slot_by p es n is = ap (λ (o : Option ℕ). or_beside o (slot_beside p es n)) is
+frame_slot_by p es n unsealed is = ap (λ (s : Bool). slot_by s p es n) unsealed ∙ ap (λ (o : Option ℕ). or_beside o (slot_beside p es n)) is
 
-pub own_frame_slot : (p : Plan) (es : List Entry) (n : ℕ) {s : ℕ} → slot_in es n ≡ Some s → frame_slot_in p es n ≡ Some s
-own_frame_slot p es n {s} is = frame_slot_by p es n is
+-- in a version without seals this is the object's own slot, if it has one
+pub own_frame_slot : (p : Plan) (es : List Entry) (n : ℕ) {s : ℕ} → (row p.version).sealed ≡ false → slot_in es n ≡ Some s →
+    frame_slot_in p es n ≡ Some s
+own_frame_slot p es n {s} unsealed is = frame_slot_by p es n unsealed is
 
+-- else that of the first entry with the same home
 pub beside_frame_slot : (p : Plan) (es : List Entry) (n : ℕ) → slot_in es n ≡ None → frame_slot_in p es n ≡ slot_beside p es n
-beside_frame_slot p es n is = frame_slot_by p es n is
+beside_frame_slot p es n is = by (row p.version).sealed refl where
+  by : (sealed : Bool) → (row p.version).sealed ≡ sealed → frame_slot_in p es n ≡ slot_beside p es n
+  by true is_sealed = ap (λ (s : Bool). slot_by s p es n) is_sealed
+  by false unsealed = frame_slot_by p es n unsealed is
+
+-- in a version with seals it is always that one
+pub sealed_frame_slot : (p : Plan) (es : List Entry) (n : ℕ) → (row p.version).sealed ≡ true → frame_slot_in p es n ≡ slot_beside p es n
+sealed_frame_slot p es n sealed = ap (λ (s : Bool). slot_by s p es n) sealed
 
 -- a slot that holds the frame of n is that of an entry whose object has the home of n
 pub frame_slot_entry : (p : Plan) (es : List Entry) (n s : ℕ) → frame_slot_in p es n ≡ Some s → HasBeside p es n s
-frame_slot_entry p es n s frame_slot = by (slot_in es n) refl where
-  by : (o : Option ℕ) → slot_in es n ≡ o → HasBeside p es n s
-  by None none = found_beside p es n s (sym (beside_frame_slot p es n none) ∙ frame_slot)
-  by (Some t) own =
+frame_slot_entry p es n s frame_slot = by (row p.version).sealed refl (slot_in es n) refl where
+  by : (sealed : Bool) → (row p.version).sealed ≡ sealed → (o : Option ℕ) → slot_in es n ≡ o → HasBeside p es n s
+  by true is_sealed o own = found_beside p es n s (sym (sealed_frame_slot p es n is_sealed) ∙ frame_slot)
+  by false unsealed None none = found_beside p es n s (sym (beside_frame_slot p es n none) ∙ frame_slot)
+  by false unsealed (Some t) own =
       let entry = found_slot es n t own in
-      let same : t ≡ s = same_Some _ _ (sym (own_frame_slot p es n own) ∙ frame_slot) in
+      let same : t ≡ s = same_Some _ _ (sym (own_frame_slot p es n unsealed own) ∙ frame_slot) in
       record { index = entry.index; within = entry.within; home_is = ap (home_place p) entry.object_is; slot_is = entry.slot_is ∙ same }
+
+-- if a frame fills its block, the first entry with its home is its object's own
+pub beside_alone : (p : Plan) (es : List Entry) (n : ℕ) → IsPlan p → IsObject p.geometry n → IsWhole (shape_of p n) →
+    All (IsEntry p.geometry) es → slot_beside p es n ≡ slot_in es n
+beside_alone p [] n fits is whole each = refl
+beside_alone p (e ∷ es) n fits is whole each = elim (cases_eq e.object n) [
+  | inl same ↦ beside_here p e es n (ap (home_place p) same) ∙ sym (slot_here e es n same)
+  | inr other ↦
+      beside_behind p e es n
+      (λ home. other (alone fits (All-head (IsEntry p.geometry) e es each).object is home whole))
+      ∙ beside_alone p es n fits is whole (All-tail (IsEntry p.geometry) e es each) ∙ sym (slot_behind e es n other)
+]
+
+-- so its frame is in its own slot in each version
+pub alone_frame_slot : (p : Plan) (es : List Entry) (n : ℕ) → IsPlan p → IsObject p.geometry n → IsWhole (shape_of p n) →
+    All (IsEntry p.geometry) es → frame_slot_in p es n ≡ slot_in es n
+alone_frame_slot p es n fits is whole each = by (row p.version).sealed refl (slot_in es n) refl where
+  by : (sealed : Bool) → (row p.version).sealed ≡ sealed → (o : Option ℕ) → slot_in es n ≡ o → frame_slot_in p es n ≡ slot_in es n
+  by true is_sealed o own = sealed_frame_slot p es n is_sealed ∙ beside_alone p es n fits is whole each
+  by false unsealed None none = beside_frame_slot p es n none ∙ beside_alone p es n fits is whole each
+  by false unsealed (Some t) own = own_frame_slot p es n unsealed own ∙ sym own

@@ -3,20 +3,20 @@ pub use Rattle.device.specs.Disk.{Image}
 pub use Rattle.layout.proofs.Extents.{cover_within, range_at}
 pub use Rattle.layout.proofs.Halves.{apart_inside, apart_turned, half_at, itself, many}
 pub use Rattle.layout.proofs.Shapes.{same_shaped}
-pub use Rattle.layout.proofs.SlotsOf.{found_slot}
-pub use Rattle.layout.proofs.Versions.{opened_begin, opened_half}
+pub use Rattle.layout.proofs.SlotsOf.{found_slot, slot_behind, slot_here}
+pub use Rattle.layout.proofs.Versions.{aligned_least, aligned_most, aligned_multiple, first_multiple, half_few, half_multiple, opened_half, sum_multiple}
 unfoldable pub use Rattle.layout.specs.Bytes.{zeros}
-pub use Rattle.layout.specs.Directory.{entry_at}
+pub use Rattle.layout.specs.Directory.{IsEntry, entry_at}
 pub use Rattle.layout.specs.Frames.{IsObject}
 pub use Rattle.layout.specs.Half.{half_of}
 pub use Rattle.layout.specs.Homes.{home_place, place_by, place_in, place_length, range_with, rank_in, shape_of}
-pub use Rattle.layout.specs.Image.{frame_slot_in, or_beside, slot_beside, slot_in}
+pub use Rattle.layout.specs.Image.{frame_slot_in, or_beside, slot_beside, slot_by, slot_in}
 unfoldable pub use Rattle.layout.specs.Image.{sectors_from}
 pub use Rattle.layout.specs.Shape.{AreBeside, IsBlankFrom, node_shape, page_shape, shape_bytes, shape_end, shape_length}
-pub use Rattle.layout.specs.Superblock.{AreApart, Cover, IsApart, IsInside, IsOfOneKind, IsPlan, IsWithin, Plan, extent_at, extents, half_extent, half_start}
+pub use Rattle.layout.specs.Superblock.{AreApart, Cover, IsApart, IsInside, IsOfOneKind, IsPlan, IsWithin, MayBegin, Plan, extent_at, extents, half_extent, half_start}
 pub use Rattle.layout.specs.Superblock.{nodes_length, range_extent}
 unfoldable pub use Rattle.layout.specs.Superblock.{half_length}
-pub use Rattle.layout.specs.Version.{IsOpened, row}
+pub use Rattle.layout.specs.Version.{aligned, row}
 pub use Rattle.layout.specs.declared.directory.Entry.{Entry}
 pub use Rattle.layout.specs.declared.extent.Extent.{Extent}
 pub use Rattle.layout.specs.declared.extent.HomeRange.{HomeRange}
@@ -32,6 +32,7 @@ pub use Rattle.std.proofs.lemmas.Bool.{cases_eq, cases_lt, eq-eqb, false≢true,
 pub use Rattle.std.proofs.lemmas.Bool.Decides.{nat_tests}
 pub use Rattle.std.proofs.lemmas.List.{append-nil, drop-drop, drop-replicate, drop_all, drop_more, get_or-map, get_or_append_left, length-map, length-replicate}
 pub use Rattle.std.proofs.lemmas.List.{length-set, take_all, take_more_set}
+pub use Rattle.std.proofs.lemmas.List.Elements.{All-head, All-tail}
 pub use Rattle.std.proofs.lemmas.Option.{same_Some}
 pub use Rattle.std.proofs.lemmas.Result.{on_ok_weaker}
 pub use Rattle.std.specs.List.{All}

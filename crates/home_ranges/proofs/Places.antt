@@ -6,6 +6,7 @@ use Rattle.home_ranges.proofs.Names.{home_place, rank_in, shape_of, place_length
 use Rattle.home_ranges.proofs.Names.{IsWithin, IsApart, IsInside, extent_at, extents, range_extent, half_extent, half_start, itself, apart_inside, apart_turned}
 use Rattle.home_ranges.proofs.Names.{many, half_at, IsObject, HaveHome, HoldsHome, home_extent, PlacesAreWithin, PlacesAreApart, NumbersAreApart}
 use Rattle.home_ranges.proofs.Names.{PlacesSpareLog, same_Some, range_at}
+use Rattle.layout.specs.Superblock.{MayBegin}
 use Rattle.std.proofs.Common.{◌≡◌, ◌⊎◌, ◌+◌, ◌-◌, ◌*◌, ◌/◌, ◌%◌, ◌<◌, ◌≤◌, ◌∷◌, ◌∙◌}
 use Rattle.std.specs.Prelude.{if◌then◌else◌}
 
@@ -54,7 +55,7 @@ found {p} number fits is = find_in p.geometry 0 p.ranges fits.cover (omega arith
 
 -- the shape of a number's frame, from its range
 abbrev shape_in : Version → Geometry → HomeRange → ℕ → Shape
-shape_in v g r number = if nat_lt number g.nodes then node_shape v ((number - r.first) % (row v).cluster_nodes) else page_shape
+shape_in v g r number = if nat_lt number g.nodes then node_shape v ((number - r.first) % (row v).cluster_nodes) else page_shape v
 
 abbrev extent_of : ℕ → ℕ → Extent
 extent_of sector length = record { sector = sector; length = length }
@@ -106,6 +107,19 @@ places_within p a fits is =
     let inside = home_inside p at.1 in
     let within = range_within fits at.1.within in
     grind (arith, nat_tests)
+
+range_begins : {p : Plan} {i : ℕ} → IsPlan p → i < length p.ranges →
+    MayBegin p.version (range_extent p.version p.geometry (range_at p.ranges i))
+range_begins {p} {i} fits lt = subst (MayBegin p.version) (ranges_extent p lt)
+    (fits.begin i (record { sector = 0; length = 0 }) (omega (arith, many p)))
+
+-- homes lie after the header slots
+pub places_begin : (p : Plan) (a : ℕ) → IsPlan p → IsObject p.geometry a → (row p.version).first_home ≤ home_place p a
+places_begin p a fits is =
+    let at = found a fits is in
+    let inside = home_inside p at.1 in
+    let begins = range_begins fits at.1.within in
+    omega (arith, inside.starts, begins.0)
 
 -- two homes don't overlap, or one range contains both numbers
 either_range : {p : Plan} {a b : ℕ} → IsPlan p → IsObject p.geometry a → IsObject p.geometry b →
@@ -207,7 +221,7 @@ one_range {p} {a} {b} fits is_a is_b same = grind (arith, nat_tests, either_rang
 pub shape_is : (p : Plan) {number i : ℕ} → IsFound p.geometry p.ranges number i →
     shape_of p number ≡ shape_in p.version p.geometry (range_at p.ranges i) number
 shape_is p {number} at = ap (λ (r : Option HomeRange). if nat_lt number p.geometry.nodes then node_shape p.version
-    (rank_in p.version r number) else page_shape) at.found
+    (rank_in p.version r number) else page_shape p.version) at.found
 
 -- numbers that share a home have homes of the same length
 pub one_length : (p : Plan) (a b : ℕ) → IsPlan p → IsObject p.geometry a → IsObject p.geometry b → home_place p a ≡ home_place p b →

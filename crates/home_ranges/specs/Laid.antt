@@ -1,6 +1,6 @@
 -- The layout of an image whose home ranges follow one another.
 use Rattle.home_ranges.specs.Names.{ℕ, List, [], length, map, Geometry, HomeRange, Version, Plan, plan_of, IsGeometry}
-use Rattle.home_ranges.specs.Names.{Cover, range_extent, half_length}
+use Rattle.home_ranges.specs.Names.{Cover, aligned, range_extent, half_length, row}
 use Rattle.std.specs.Prelude.{◌+◌, ◌≤◌, ◌∷◌}
 use Rattle.home_ranges.specs.declared.number_range.NumberRange.{NumberRange}
 
@@ -12,20 +12,22 @@ placed at r = record { first = r.first; count = r.count; sector = at }
 abbrev pub sectors_of : Version → Geometry → NumberRange → ℕ
 sectors_of v g r = (range_extent v g (placed 0 r)).length
 
--- the ranges, one after the other, from sector `at` on
+-- the ranges, one after the other, from sector `at` on; each begins at the first multiple of the version's alignment
+-- behind the one before it
 unfoldable pub laid : Version → Geometry → ℕ → List NumberRange → List HomeRange
 laid v g at [] = []
-laid v g at (r ∷ rs) = placed at r ∷ laid v g (at + sectors_of v g r) rs
+laid v g at (r ∷ rs) = placed at r ∷ laid v g (aligned v (at + sectors_of v g r)) rs
 
--- the sector after the last of these ranges
+-- the first such multiple from the end of the last of these ranges on
 unfoldable pub behind : Version → Geometry → ℕ → List NumberRange → ℕ
 behind v g at [] = at
-behind v g at (r ∷ rs) = behind v g (at + sectors_of v g r) rs
+behind v g at (r ∷ rs) = behind v g (aligned v (at + sectors_of v g r)) rs
 
--- the plan with the ranges from sector 5 on, then the two halves of the log, and nothing else
+-- the plan with the ranges right after the opening structures, then the two halves of the log, and nothing else
 abbrev pub plan_from : Version → Geometry → List NumberRange → Plan
-plan_from v g rs = plan_of v g (laid v g 5 rs) (behind v g 5 rs) (behind v g 5 rs + half_length v g)
-    (behind v g 5 rs + half_length v g + half_length v g)
+plan_from v g rs = plan_of v g (laid v g (row v).first_home rs) (behind v g (row v).first_home rs)
+    (behind v g (row v).first_home rs + half_length v g)
+    (behind v g (row v).first_home rs + half_length v g + half_length v g)
 
 -- a home range without its sector
 abbrev pub numbers_of : HomeRange → NumberRange

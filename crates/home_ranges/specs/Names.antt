@@ -8,7 +8,7 @@ pub use Rattle.layout.specs.Shape.{IsBlankFrom, shape_bytes, shape_end}
 pub use Rattle.layout.specs.Superblock.{Cover, IsApart, IsGeometry, IsPlan, IsWithin, Plan, half_extent, plan_of}
 pub use Rattle.layout.specs.Superblock.{range_extent}
 unfoldable pub use Rattle.layout.specs.Superblock.{half_length}
-pub use Rattle.layout.specs.Version.{row}
+pub use Rattle.layout.specs.Version.{aligned, row}
 pub use Rattle.layout.specs.declared.directory.Entry.{Entry}
 pub use Rattle.layout.specs.declared.extent.Extent.{Extent}
 pub use Rattle.layout.specs.declared.extent.HomeRange.{HomeRange}

@@ -2,21 +2,18 @@
 ghost use Rattle.std.specs.Prelude.{◌≡◌, ◌≤◌, length, map, IsTrue, IfSome, IfNone, ◌↔◌};
 ghost use Rattle.std.specs.List.{All};
 ghost use Rattle.layout.specs.Superblock.{IsPlan};
-ghost use Rattle.layout.specs.Version.{IsOpened};
+ghost use Rattle.layout.specs.Version.{row};
 ghost use Rattle.home_ranges.specs.Laid.{MayBeLaid, behind, laid, laid_again, numbers_of, plan_from};
 
 use crate::number_range::NumberRange;
 use layout::{
-    HomeRange, MAX_LOG, MAX_NODES, MAX_PAGES, MAX_RANGES, Superblock, Version, half_extent,
-    range_extent,
+    HomeRange, MAX_LOG, MAX_NODES, MAX_PAGES, MAX_RANGES, Superblock, Version, aligned,
+    half_extent, range_extent,
 };
 use model::Geometry;
 
 // The greatest number of objects that an image may have.
 const MAX_OBJECTS: u64 = MAX_NODES + MAX_PAGES;
-
-// The sector after the superblock and the headers.
-const FIRST_SECTOR: u64 = 5;
 
 // A range that is not used.
 const UNUSED: HomeRange = HomeRange {
@@ -25,7 +22,8 @@ const UNUSED: HomeRange = HomeRange {
     sector: 0,
 };
 
-// Lays out ranges one after the other from sector 5 on, and returns the sector after the last.
+// Lays out ranges one after the other from the version's first sector for homes on. Returns the first sector after the
+// last where a range or a half may begin.
 #[tactic(auto, using(crate::proofs::Laying::all_laid, crate::proofs::Laying::end_laid))]
 fn lay_ranges(
     version: Version,
@@ -36,11 +34,11 @@ fn lay_ranges(
     requires size { length into.old ≡ length ranges.now }
     requires few { length ranges.now ≤ 8 }
     requires counts { All (λ r. r.count ≤ 8192) ranges.now }
-    ensures laid { into.new ≡ laid version geometry 5 ranges.now }
-    ensures end { result ≡ behind version geometry 5 ranges.now }
+    ensures laid { into.new ≡ laid version geometry (row version).first_home ranges.now }
+    ensures end { result ≡ behind version geometry (row version).first_home ranges.now }
     ensures most { result ≤ 600000 }
 {
-    let mut next = FIRST_SECTOR;
+    let mut next = version.row().first_home;
     for (i, range) in ranges.iter().enumerate() {
         let home = HomeRange {
             first: range.first,
@@ -49,7 +47,7 @@ fn lay_ranges(
         };
         let extent = range_extent(version, geometry, home);
         into[i] = home;
-        next += extent.length;
+        next = aligned(version, next + extent.length);
     }
     next
 }
@@ -61,12 +59,12 @@ fn are_few(ranges: &[NumberRange]) -> bool
     ranges.iter().all(|range| range.count <= MAX_OBJECTS)
 }
 
-/// Lays out an image of this version and geometry. From sector 5 on come the home ranges in their
-/// order, then the two halves of the log. The total is the sector after the second half.
+/// Lays out an image of this version and geometry. After the superblock and the headers come the home ranges in
+/// their order, then the two halves of the log. Each begins at the first multiple of the version's alignment. The total
+/// is the sector after the second half.
 ///
 /// Returns `None` exactly if one of these doesn't hold:
 ///
-/// - Programs open images of this version.
 /// - There are 16 to 4096 nodes, 1 to 4096 pages, and 16 to 4096 slots in a half of the log.
 /// - There are 1 to 8 ranges, which together have each number once, in rising order.
 /// - Each range has a number, and has nodes only or pages only.
@@ -76,7 +74,7 @@ pub fn lay_out(version: Version, geometry: Geometry, ranges: &[NumberRange]) -> 
     ensures laid { IfSome result (λ s. s ≡ plan_from version geometry ranges.now) }
     ensures fits { IfSome result (λ s. IsPlan s) }
     ensures allowed { IfSome result (λ _. MayBeLaid geometry ranges.now) }
-    ensures refused { IfNone result (IsOpened version → MayBeLaid geometry ranges.now → ⊥) }
+    ensures refused { IfNone result (MayBeLaid geometry ranges.now → ⊥) }
 {
     if geometry.log > MAX_LOG as u64 || ranges.len() > MAX_RANGES || !are_few(ranges) {
         return None;
@@ -104,10 +102,8 @@ fn put_numbers(ranges: &[HomeRange], into: &mut [NumberRange])
     }
 }
 
-/// Lays out an image of this version, which programs open, with the objects and the home ranges of another image, as
-/// `lay_out` does.
+/// Lays out an image of this version, with the objects and the home ranges of another image, as `lay_out` does.
 pub fn lay_out_again(version: Version, superblock: &Superblock) -> Superblock
-    requires { IsOpened version }
     ensures laid { result ≡ laid_again version superblock.now }
     ensures fits { IsPlan result }
 {

@@ -3,7 +3,10 @@ use Rattle.image_builder.proofs.Names.{ℕ, List, length, ap, inl, inr, refl, su
 use Rattle.image_builder.proofs.Names.{Agrees, Elsewhere, LeavesOnly, agrees_is, OnlyNow, leaves_weaker, started, Entry, IsDirectory, Encodes, Plan, OpenFault}
 use Rattle.image_builder.proofs.Names.{OnlyReads, kept_of, new_plan, IsLeftWriting, state_of, kept_holds_the_same, none_is_held, IsSoundSaved, NewLayout}
 use Rattle.image_builder.proofs.Names.{UpgradeFault, IsLeftUpgrading, IsNotUpgraded, IsOnlyRead, Upgrades, numbered, upgraded, IfOk, holds_one, EndInZeros}
-use Rattle.layout.specs.Image.{SavedState}
+use Rattle.layout.specs.Denoted.{SavedState}
+use Rattle.layout.specs.declared.header.CheckpointHeader.{CheckpointHeader}
+use Rattle.image_builder.proofs.Names.{IsOpened}
+use Rattle.image_builder.specs.declared.new_layout.NewLayout.TheVariants as layout
 use Rattle.std.proofs.Common.{◌≡◌, ◌<◌, ◌≤◌, ◌∙◌}
 use Rattle.std.specs.Prelude.{◌≢◌}
 use Rattle.layout.specs.declared.open_fault.OpenFault.TheVariants as opening
@@ -20,7 +23,12 @@ module _ (image : Image) (size : ℕ) (s : SavedState) (is : Encodes image size 
   directory_fits = directory_numbered s.plan.geometry s.directory is.directory.fits few is.plan.fits.geometry.most_log
 
   pub directory_count : length (numbered 0 s.directory) ≡ s.header.entries
-  directory_count = length_numbered 0 s.directory ∙ is.directory.count
+  directory_count = length_numbered 0 s.directory ∙ is.directory.count ∙ ap (λ (h : CheckpointHeader). h.entries) is.same
+
+-- programs open the version of the new image
+pub new_opened : (l : NewLayout) (p : Plan) → IsOpened p.version → IsOpened (new_plan l p).version
+new_opened layout.Newest p opened = refl
+new_opened layout.Kept p opened = opened
 
 -- the new image has the same state, at its new places
 pub same_state : (l : NewLayout) (s : SavedState) (p : Plan) (generation entries age : ℕ) (es : List Entry) (fs : List Frame) →

@@ -13,7 +13,7 @@ pub use Rattle.device.specs.Disk.{Disk, Image}
 pub use Rattle.device.specs.Moments.{LeavesOnly}
 pub use Rattle.home_ranges.specs.Laid.{laid_again}
 pub use Rattle.image_writer.specs.Written.{EndInZeros, IsLeftWriting, first_saved, first_state}
-pub use Rattle.layout.specs.Image.{Encodes, SavedState}
+pub use Rattle.layout.specs.Denoted.{Encodes, SavedState}
 pub use Rattle.layout.specs.Superblock.{Plan}
 pub use Rattle.layout.specs.declared.directory.Entry.{Entry}
 pub use Rattle.layout.specs.declared.open_fault.OpenFault.{OpenFault}

@@ -10,7 +10,7 @@ use Rattle.image_builder.specs.declared.new_layout.NewLayout.TheVariants as layo
 use Rattle.image_builder.specs.declared.upgrade_fault.UpgradeFault.{UpgradeFault}
 use Rattle.image_builder.specs.declared.upgrade_fault.UpgradeFault.TheVariants as fault
 
--- the same objects in the same order, with slots `at`, `at` + 1, ..
+-- directory entries for the same objects in the same order, with slots `at`, `at` + 1, ..
 unfoldable pub numbered : ℕ → List Entry → List Entry
 numbered at [] = []
 numbered at (e ∷ es) = record { object = e.object; slot = at } ∷ numbered (at + 1) es
@@ -20,7 +20,7 @@ abbrev pub version_in : NewLayout → Plan → Version
 version_in layout.Newest p = Two
 version_in layout.Kept p = p.version
 
--- where the parts of the new image lie: the old ranges in their order, from sector 5 on
+-- where the parts of the new image lie: the old ranges in their order, after the headers
 abbrev pub new_plan : NewLayout → Plan → Plan
 new_plan l p = laid_again (version_in l p) p
 

@@ -15,8 +15,8 @@ pub enum NewLayout {
 }
 
 impl NewLayout {
-    /// Returns the layout of the new image. It has the objects and home ranges of the old one: the ranges lie from
-    /// sector 5 on in their order, then the two halves of the log.
+    /// Returns the layout of the new image. It has the objects and home ranges of the old one: the ranges lie after
+    /// the headers in their order, then the two halves of the log.
     pub(crate) fn lay_out(self, old: &Superblock) -> Superblock
         ensures { result ≡ new_plan self old.now }
     {

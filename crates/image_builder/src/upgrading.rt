@@ -3,7 +3,7 @@ ghost use Rattle.std.specs.Prelude.{◌≡◌, ◌≢◌, ◌<◌, ◌≤◌, �
 ghost use Rattle.device.specs.Disk.{Image};
 ghost use Rattle.device.specs.Calls.{Elsewhere};
 ghost use Rattle.device.specs.Moments.{LeavesOnly};
-ghost use Rattle.layout.specs.Image.{Encodes, HasPlan};
+ghost use Rattle.layout.specs.Denoted.{Encodes, HasPlan};
 ghost use Rattle.layout.specs.Superblock.{Plan};
 ghost use Rattle.layout.specs.Calls.{ReadsOnly};
 ghost use Rattle.layout.specs.Fault.{CountsOpen};

@@ -78,7 +78,7 @@ module _ (d e : Description) (same : IsRenumbered d e) where
   abbrev at : ℕ → ℕ
   at = moved old new
 
-  -- the renumbered description has the old node numbers
+  -- renumbering changes only page numbers: the node numbers are the old ones
   pub nodes_named : node_numbers e ≡ node_numbers d
   nodes_named =
       rw (

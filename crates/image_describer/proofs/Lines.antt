@@ -23,7 +23,7 @@ spells_number n small = record { text_is = (refl, grind (arith, small)); deep = 
 pub spells_text : (text : List ℕ) → string_text text ≡ quoted text → Spells 0 (quoted text) (string text)
 spells_text text is = record { text_is = sym is; deep = omega arith; valid = refl; pair = refl }
 
--- if the first item of a list needs no header, the list has none
+-- if the first item of a list isn't a table, the list isn't one of tables
 no_tables : (d : Data) (ds : Items) → is_section d ≡ false → are_tables (item d ds) ≡ false
 no_tables d ds pair = grind (arith, nat_tests)
 

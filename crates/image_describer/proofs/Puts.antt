@@ -1,4 +1,4 @@
--- The table after a value is put at a key.
+-- The table after a value is put at a key. A `Node` is a table or value while TOML text is read; `close` makes it data.
 use Rattle.image_describer.proofs.Names.{nat_tests, arith, ℕ, Bool, true, false, List, Option, Some, None, option_map, Ordering, Less, Equal, Greater, nat_cmp}
 use Rattle.image_describer.proofs.Names.{is_eq, refl, sym, ap, IsTrue, slice_cmp, list_any, match_ordering, alike_right, nat_list_cmp_total, Data, get_member}
 use Rattle.image_describer.proofs.Names.{member, Members, no_members, same_key, Nodes, close, close_node, get_node, insert, no_nodes, node, get_node-insert}
@@ -25,7 +25,7 @@ pub record Puts (key : List ℕ) (o : Option Data) (old new : Members) : Type 0 
   pub others : (k : List ℕ) → same_key k key ≡ false → get_member k new ≡ get_member k old
   pub only : (keys : List (List ℕ)) → IsTrue (list_any (same_key key) keys) → IsTrue (has_only keys old) → IsTrue (has_only keys new)
 
--- a table has the value of the node at a key
+-- a table has the value that `close_node` makes of the `Node` at a key
 member_here : (o : Ordering) (d : Option Data) (x : Node) (m : Option Node) → d ≡ option_map close_node m
     → match_ordering o d (Some (close_node x)) d ≡ option_map close_node (if is_eq o then Some x else m)
 member_here Equal d x m is = refl
@@ -35,7 +35,7 @@ pub member_of : (k : List ℕ) (ns : Nodes) → get_member k (close ns) ≡ opti
 member_of k no_nodes = refl
 member_of k (node l x ns) = member_here (slice_cmp nat_cmp k l) (get_member k (close ns)) x (get_node k ns) (member_of k ns)
 
--- if a table has nothing at a key, there is no node
+-- if a closed table has nothing at a key, it had no `Node` there
 none_mapped : (m : Option Node) → option_map close_node m ≡ None → m ≡ None
 none_mapped None is = refl
 none_mapped (Some x) is = absurd cc
@@ -63,7 +63,7 @@ inserted_other j k x no_nodes other = first_other j k (close_node x) no_members 
 inserted_other j k x (node l y ns) other = other_at j (slice_cmp nat_cmp k l) k l x y ns (insert k x ns) refl other
     (inserted_other j k x ns other)
 
--- if all keys are among the known ones before, they are after
+-- if all keys of a table are known, they still are after a `Node` with a known key is inserted
 only_at : (keys : List (List ℕ)) (o : Ordering) (k l : List ℕ) (x y : Node) (ns next : Nodes) → IsTrue (list_any (same_key k) keys)
     → IsTrue (has_only keys (close (node l y ns))) → IsTrue (has_only keys (close next))
     → IsTrue (has_only keys (close (match_ordering o (node k x (node l y ns)) (node l x ns) (node l y next))))
@@ -76,7 +76,7 @@ inserted_only : (keys : List (List ℕ)) (k : List ℕ) (x : Node) (ns : Nodes) 
 inserted_only keys k x no_nodes known all = both_true known refl
 inserted_only keys k x (node l y ns) known all = only_at keys _ k l x y ns _ known all (inserted_only keys k x ns known (right _ _ all))
 
--- inserting a node puts its value
+-- inserting a `Node` puts its value
 pub puts_inserted : (k : List ℕ) (x : Node) (ns : Nodes) → Puts k (Some (close_node x)) (close ns) (close (insert k x ns))
 puts_inserted k x ns = record {
   found = λ none. member_of k (insert k x ns) ∙ ap (option_map close_node) (get_node-insert k x ns);

@@ -146,7 +146,7 @@ module _ (p : Plan) (plan : IsPlan p) (age : ℕ) (fs : List Frame) (d : Descrip
       (All-contains (λ (k : ℕ). (d.geometry.nodes ≤ k) × (k < object_count d.geometry)) _ _ describes.numbers.pages
       (contains_map (λ p. p.number) q _ there)).1
 
-  -- every number of a bank is small enough
+  -- every number of a bank is small enough for a text
   banks_short : All SpellsBank d.banks.items
   banks_short = all_from SpellsBank d.banks.items (λ b there.
       let is = All-contains (λ (c : BankEntry). frame_at (plain_frames os) c.number ≡ first_frame c.owner (content.Bank c.limit))

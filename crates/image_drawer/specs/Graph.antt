@@ -101,7 +101,7 @@ node_box n = box_line n.number (spaced (codes "node" ∷ decimal n.number ∷ []
 unfoldable pub page_box : PageEntry → List ℕ
 page_box p = box_line p.number (spaced (codes "page" ∷ decimal p.number ∷ [])) (codes "note")
 
--- the rectangle of a bank, in DOT a cluster, up to what stands in it; its end; a text in it
+-- the beginning of a bank's rectangle (in DOT a cluster), its end, and a text between these two
 unfoldable pub rectangle_start : ℕ → List ℕ
 rectangle_start b = spaced ((codes "subgraph cluster_" ++ decimal b) ∷ codes "{ label=\"bank" ∷ (decimal b ++ codes "\" ") ∷ [])
 

@@ -41,7 +41,7 @@ abbrev pub OwnersAreOwners : Type 0
 OwnersAreOwners = (g : Geometry) (w : World) (d : Description) → Describes g w d →
     IsOnce (owners d) × ((p : ℕ × ℕ) → Contains (owners d) p ↔ IsOwner w.objects p)
 
--- what stands in the rectangle of a bank stands, with this rectangle, in that of the bank's owner; the rectangle of bank 0 is in none
+-- the rectangle of a bank, with all in it, stands in that of the bank's owner; the rectangle of bank 0 stands in none
 pub record AreNested (os : List Object) : Type 0 where
   pub outermost : (text : List ℕ) → in_rectangles (chain os 0) text ≡ in_rectangle 0 text
   pub nested : (b : ℕ) (text : List ℕ) → IsTrue (is_bank (content_at os b)) → b ≢ 0 →

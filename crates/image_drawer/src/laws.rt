@@ -15,7 +15,7 @@ pub fn owners_are_owners()
     ensures { OwnersAreOwners }
 {}
 
-/// What stands in the rectangle of a bank stands, with this rectangle, in that of the bank's owner, up to bank 0.
+/// The rectangle of a bank, with all in it, stands in that of the bank's owner, and so on up to bank 0.
 pub fn rectangles_nest()
     ensures { RectanglesNest }
 {}

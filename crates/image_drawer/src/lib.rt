@@ -1,4 +1,4 @@
-//! The graph of a description, in DOT. Each object has a box, in the cluster of the bank that owns it. Each
+//! The graph of a description, in DOT. Each object has a box, in the rectangle of the bank that owns it. Each
 //! capability that names an object has an arrow.
 #![tactic(auto)]
 

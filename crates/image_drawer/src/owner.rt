@@ -37,7 +37,7 @@ fn start_rectangle(bank: u64) -> LineText
     line
 }
 
-// Begins the rectangles of a bank and of those above it, `most` in all, the outermost first.
+// Begins the rectangles of a bank and of the banks above it, at most `most` in all, the outermost first.
 fn start_rectangles<W: Output>(
     objects: &[Object],
     bank: u64,
@@ -57,7 +57,7 @@ fn start_rectangles<W: Output>(
     writer.write_fully(start_rectangle(bank).as_bytes())
 }
 
-// Ends the rectangles of a bank and of those above it, `most` in all.
+// Ends the rectangles of a bank and of the banks above it, at most `most` in all.
 fn end_rectangles<W: Output>(
     objects: &[Object],
     bank: u64,

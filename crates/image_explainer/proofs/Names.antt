@@ -11,6 +11,7 @@ pub use Rattle.device.proofs.Images.{agrees_is}
 pub use Rattle.device.proofs.Moments.{CountsNow}
 pub use Rattle.device.specs.Calls.{Agrees, AreSectors}
 pub use Rattle.device.specs.Disk.{Disk, Image}
+pub use Rattle.home_ranges.proofs.FrameSlots.{beside_frame_slot, own_frame_slot, sealed_frame_slot}
 pub use Rattle.kernel.specs.Opening.{IsNoReason}
 pub use Rattle.layout.proofs.Blocks.{block_page}
 pub use Rattle.layout.proofs.Denoted.{frames_not_bad}
@@ -18,7 +19,7 @@ pub use Rattle.layout.proofs.Directories.{directory_fits, entry_read, none_read,
 pub use Rattle.layout.proofs.Halves.{half_lies}
 pub use Rattle.layout.proofs.Images.{same_directory, same_header, same_plan}
 pub use Rattle.layout.proofs.Numbers.{length-number, number_read}
-pub use Rattle.layout.proofs.Superblocks.{length-half, length-ranges}
+pub use Rattle.layout.proofs.Superblocks.{length-half, length-ranges, marked}
 pub use Rattle.layout.proofs.Totals.{total_reported}
 pub use Rattle.layout.proofs.Versions.{fewer_entries}
 unfoldable pub use Rattle.layout.specs.Bytes.{half_number, number, zeros}
@@ -31,14 +32,17 @@ pub use Rattle.layout.specs.Frame.{cap_at}
 pub use Rattle.layout.specs.Header.{IsHeader}
 unfoldable pub use Rattle.layout.specs.Header.{header_bytes}
 pub use Rattle.layout.specs.Homes.{shape_of}
-pub use Rattle.layout.specs.Image.{HasBadDirectory, HasBadHeader, HasDirectory, HasHeader, HasNoHeader, HasPlan, IsBadBy, IsTooSmall, committed_bytes}
-pub use Rattle.layout.specs.Image.{committed_of, committed_slot, directory_in, directory_sector, does_count, frame_in, frame_sector, option_at, sequence_in}
+pub use Rattle.layout.specs.Committed.{committed_bytes}
+pub use Rattle.layout.specs.Denoted.{HasBadDirectory, HasBadHeader, HasDirectory, HasHeader, HasNoHeader, HasPlan, IsBadBy, IsTooSmall}
+pub use Rattle.layout.specs.Image.{directory_in, directory_sector, frame_in, frame_sector}
+pub use Rattle.layout.specs.Committed.{committed_of, committed_slot, does_count, option_at, sequence_in}
 pub use Rattle.layout.specs.Image.{shaped_at, slot_beside, slot_in, slot_sector, total_in}
 unfoldable pub use Rattle.layout.specs.Image.{sectors_from}
 pub use Rattle.layout.specs.Reason.{reason_number}
 pub use Rattle.layout.specs.Shape.{IsShapeFor, shape_bytes}
-pub use Rattle.layout.specs.Superblock.{HasMark, IsPlan, Plan, unused, version_number}
+pub use Rattle.layout.specs.Superblock.{HasEnd, HasMark, IsPlan, Plan, unused, version_number}
 unfoldable pub use Rattle.layout.specs.Superblock.{ranges_bytes, superblock_bytes}
+pub use Rattle.layout.specs.Version.{IsOpened, row}
 unfoldable pub use Rattle.layout.specs.Version.{directory_length}
 pub use Rattle.layout.specs.declared.bad_image.BadImage.{BadImage}
 pub use Rattle.layout.specs.declared.directory.Entry.{Entry}
@@ -79,7 +83,7 @@ pub use Rattle.std.specs.Prelude.{IfNone, IfSome, codes, decimal, ⊤}
 pub use Rattle.image_explainer.specs.Breaking.{BreaksFrames, HasRoot, IsFirstUnmatched, IsMatched, IsMisnamed, IsUnmatched, reason_of}
 pub use Rattle.image_explainer.specs.Explained.{Explains, IsExplainedBy}
 pub use Rattle.image_explainer.specs.Finding.{IsConsistentOr, MatchesOr, annex_noted}
-pub use Rattle.image_explainer.specs.SectorBreaking.{BreaksDirectory, HoldsCap, IsAmong, IsFault, IsFirstEntry}
+pub use Rattle.image_explainer.specs.SectorBreaking.{BreaksDirectory, HasVersion, HoldsCap, IsAmong, IsFault, IsFirstEntry}
 pub use Rattle.image_explainer.specs.SectorFinding.{BreaksSector, FitsOr, HasHeaderIn, HasNoneIn, IsCopy, IsWhole, IsWholeFrame, RefusesHeader, picked, slot_of}
 pub use Rattle.image_explainer.specs.Text.{directory_part_text, frame_part_text, header_part_text, not_counted_text, place_text}
 unfoldable pub use Rattle.image_explainer.specs.Text.{fault_text}

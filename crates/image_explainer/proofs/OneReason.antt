@@ -1,21 +1,27 @@
 -- Bad sectors have exactly one reason.
-use Rattle.image_explainer.proofs.Names.{ℕ, Some, None, List, refl, sym, ap, subst, Image, BadImage, Entry, CheckpointHeader, header_bytes, HasBadDirectory}
-use Rattle.image_explainer.proofs.Names.{HasBadHeader, HasDirectory, HasHeader, HasNoHeader, HasPlan, IsBadBy, option_at, Plan, same_directory, same_header}
+use Rattle.image_explainer.proofs.Names.{ℕ, List, refl, sym, subst, Image, BadImage, Entry, HasBadDirectory}
+use Rattle.image_explainer.proofs.Names.{HasBadHeader, HasDirectory, HasHeader, HasNoHeader, HasPlan, IsBadBy, Plan, same_directory, same_header}
 use Rattle.image_explainer.proofs.Names.{same_plan, IsWhole, IsWholeFrame}
-use Rattle.std.proofs.Common.{◌≡◌, ◌+◌, ◌<◌, ◌∙◌}
+use Rattle.layout.proofs.OneHeader.{none_committed}
+use Rattle.layout.specs.declared.sealed.header.SealedHeader.{SealedHeader}
+use Rattle.std.proofs.lemmas.Bool.{false≢true}
+use Rattle.std.proofs.Common.{inl, inr, ◌≡◌, ◌+◌, ◌<◌, ◌∙◌}
 use Rattle.layout.specs.declared.bad_image.BadImage.TheVariants as bad
 use Rattle.image_explainer.proofs.Marks.{has_mark, not_small}
 
 module _ (size : ℕ) (image : Image) where
-  some_header : (p : Plan) (h : CheckpointHeader) → HasHeader image p h → HasNoHeader image → ⊥
-  some_header p h header none = let never : None ≡ Some (header_bytes h) = sym (ap (option_at image) none) ∙ header.spelt in cc
+  no_both : (p q : Plan) → HasPlan image size p → HasPlan image size q → HasNoHeader image p → HasNoHeader image q
+  no_both p q one other none = subst (HasNoHeader image) (same_plan image size p q one other) none
 
-  good_header : (p q : Plan) (h : CheckpointHeader) → HasPlan image size p → HasPlan image size q → HasHeader image q h →
+  some_header : (p q : Plan) (h : SealedHeader) → HasPlan image size p → HasPlan image size q → HasHeader image q h → HasNoHeader image p →
+      ⊥
+  some_header p q h one other header none = none_committed q.version image h (no_both p q one other none) header.committed
+
+  good_header : (p q : Plan) (h : SealedHeader) → HasPlan image size p → HasPlan image size q → HasHeader image q h →
       HasBadHeader image p → ⊥
-  good_header p q h one other header broken = subst (HasBadHeader image) (same_plan image size p q one other) broken h header.fits
-      header.spelt
+  good_header p q h one other header broken = subst (HasBadHeader image) (same_plan image size p q one other) broken h header
 
-  same_both : (p q : Plan) (g h : CheckpointHeader) → HasPlan image size p → HasPlan image size q → HasHeader image p g →
+  same_both : (p q : Plan) (g h : SealedHeader) → HasPlan image size p → HasPlan image size q → HasHeader image p g →
       HasHeader image q h → HasBadDirectory image p g → HasBadDirectory image q h
   same_both p q g h one other first second broken =
       let plans : p ≡ q = same_plan image size p q one other in
@@ -50,29 +56,29 @@ module _ (size : ℕ) (image : Image) where
   one_reason bad.NoHeader bad.NotASuperblock x y = absurd (y.1 (has_mark size image x.0 x.1))
   one_reason bad.NoHeader bad.BadGeometry x y = absurd (y.2 x.0 x.1.fits x.1.spelt)
   one_reason bad.NoHeader bad.NoHeader x y = refl
-  one_reason bad.NoHeader bad.BadHeader x y = absurd (y.2 x.2)
-  one_reason bad.NoHeader bad.BadDirectory x y = absurd (some_header y.0 y.1 y.3 x.2)
-  one_reason bad.NoHeader bad.BadFrame x y = absurd (some_header y.0 y.1 y.4 x.2)
+  one_reason bad.NoHeader bad.BadHeader x y = absurd (y.2 (no_both x.0 y.0 x.1 y.1 x.2))
+  one_reason bad.NoHeader bad.BadDirectory x y = absurd (some_header x.0 y.0 y.1 x.1 y.2 y.3 x.2)
+  one_reason bad.NoHeader bad.BadFrame x y = absurd (some_header x.0 y.0 y.1 x.1 y.3 y.4 x.2)
   one_reason bad.BadHeader bad.Small x y = absurd (not_small size image x.0 x.1 y)
   one_reason bad.BadHeader bad.NotASuperblock x y = absurd (y.1 (has_mark size image x.0 x.1))
   one_reason bad.BadHeader bad.BadGeometry x y = absurd (y.2 x.0 x.1.fits x.1.spelt)
-  one_reason bad.BadHeader bad.NoHeader x y = absurd (x.2 y.2)
+  one_reason bad.BadHeader bad.NoHeader x y = absurd (x.2 (no_both y.0 x.0 y.1 x.1 y.2))
   one_reason bad.BadHeader bad.BadHeader x y = refl
   one_reason bad.BadHeader bad.BadDirectory x y = absurd (good_header x.0 y.0 y.1 x.1 y.2 y.3 x.3)
   one_reason bad.BadHeader bad.BadFrame x y = absurd (good_header x.0 y.0 y.1 x.1 y.3 y.4 x.3)
   one_reason bad.BadDirectory bad.Small x y = absurd (not_small size image x.0 x.2 y)
   one_reason bad.BadDirectory bad.NotASuperblock x y = absurd (y.1 (has_mark size image x.0 x.2))
   one_reason bad.BadDirectory bad.BadGeometry x y = absurd (y.2 x.0 x.2.fits x.2.spelt)
-  one_reason bad.BadDirectory bad.NoHeader x y = absurd (some_header x.0 x.1 x.3 y.2)
+  one_reason bad.BadDirectory bad.NoHeader x y = absurd (some_header y.0 x.0 x.1 y.1 x.2 x.3 y.2)
   one_reason bad.BadDirectory bad.BadHeader x y = absurd (good_header y.0 x.0 x.1 y.1 x.2 x.3 y.3)
   one_reason bad.BadDirectory bad.BadDirectory x y = refl
-  one_reason bad.BadDirectory bad.BadFrame x y = absurd (same_both x.0 y.0 x.1 y.1 x.2 y.3 x.3 y.4 x.4 y.2 y.5.fits y.5.count y.5.spelt)
+  one_reason bad.BadDirectory bad.BadFrame x y = absurd (same_both x.0 y.0 x.1 y.1 x.2 y.3 x.3 y.4 x.4 y.2 y.5)
   one_reason bad.BadFrame bad.Small x y = absurd (not_small size image x.0 x.3 y)
   one_reason bad.BadFrame bad.NotASuperblock x y = absurd (y.1 (has_mark size image x.0 x.3))
   one_reason bad.BadFrame bad.BadGeometry x y = absurd (y.2 x.0 x.3.fits x.3.spelt)
-  one_reason bad.BadFrame bad.NoHeader x y = absurd (some_header x.0 x.1 x.4 y.2)
+  one_reason bad.BadFrame bad.NoHeader x y = absurd (some_header y.0 x.0 x.1 y.1 x.3 x.4 y.2)
   one_reason bad.BadFrame bad.BadHeader x y = absurd (good_header y.0 x.0 x.1 y.1 x.3 x.4 y.3)
-  one_reason bad.BadFrame bad.BadDirectory x y = absurd (same_both y.0 x.0 y.1 x.1 y.2 x.3 y.3 x.4 y.4 x.2 x.5.fits x.5.count x.5.spelt)
+  one_reason bad.BadFrame bad.BadDirectory x y = absurd (same_both y.0 x.0 y.1 x.1 y.2 x.3 y.3 x.4 y.4 x.2 x.5)
   one_reason bad.BadFrame bad.BadFrame x y = refl
   one_reason bad.BadCapability b x y = absurd x
   one_reason bad.BadProcess b x y = absurd x
@@ -80,10 +86,10 @@ module _ (size : ℕ) (image : Image) where
   one_reason a b x y = absurd y
 
   -- all frames have an encoding
-  abbrev AreWhole : Plan → CheckpointHeader → List Entry → Type 0
-  AreWhole p h es = (n : ℕ) → n < p.geometry.nodes + p.geometry.pages → IsWholeFrame image p h es n
+  abbrev AreWhole : Plan → SealedHeader → List Entry → Type 0
+  AreWhole p h es = (n : ℕ) → n < p.geometry.nodes + p.geometry.pages → IsWholeFrame image p h.header es n
 
-  all_same : (p q : Plan) (g h : CheckpointHeader) (ds es : List Entry) → HasPlan image size p → HasPlan image size q →
+  all_same : (p q : Plan) (g h : SealedHeader) (ds es : List Entry) → HasPlan image size p → HasPlan image size q →
       HasHeader image p g → HasHeader image q h
       → HasDirectory image p g ds → HasDirectory image q h es → AreWhole p g ds → AreWhole q h es
   all_same p q g h ds es one other first second here there whole =
@@ -91,10 +97,10 @@ module _ (size : ℕ) (image : Image) where
       let first_there : HasHeader image q g = subst (λ (x : Plan). HasHeader image x g) plans first in
       let headers : g ≡ h = same_header image q g h first_there second in
       let here_there : HasDirectory image q g ds = subst (λ (x : Plan). HasDirectory image x g ds) plans here in
-      let here_both : HasDirectory image q h ds = subst (λ (x : CheckpointHeader). HasDirectory image q x ds) headers here_there in
+      let here_both : HasDirectory image q h ds = subst (λ (x : SealedHeader). HasDirectory image q x ds) headers here_there in
       let directories : ds ≡ es = same_directory image q h ds es here_both there in
       let whole_there : AreWhole q g ds = subst (λ (x : Plan). AreWhole x g ds) plans whole in
-      let whole_both : AreWhole q h ds = subst (λ (x : CheckpointHeader). AreWhole q x ds) headers whole_there in
+      let whole_both : AreWhole q h ds = subst (λ (x : SealedHeader). AreWhole q x ds) headers whole_there in
       subst (λ (x : List Entry). AreWhole q h x) directories whole_both
 
   -- if an image has no flaw, no reason applies to it
@@ -102,11 +108,13 @@ module _ (size : ℕ) (image : Image) where
   whole_not_bad bad.Small w x = not_small size image w.0 w.3 x
   whole_not_bad bad.NotASuperblock w x = x.1 (has_mark size image w.0 w.3)
   whole_not_bad bad.BadGeometry w x = x.2 w.0 w.3.fits w.3.spelt
-  whole_not_bad bad.NoHeader w x = some_header w.0 w.1 w.4 x.2
+  whole_not_bad bad.NoHeader w x = some_header x.0 w.0 w.1 x.1 w.3 w.4 x.2
   whole_not_bad bad.BadHeader w x = good_header x.0 w.0 w.1 x.1 w.3 w.4 x.3
-  whole_not_bad bad.BadDirectory w x = same_both x.0 w.0 x.1 w.1 x.2 w.3 x.3 w.4 x.4 w.2 w.5.fits w.5.count w.5.spelt
+  whole_not_bad bad.BadDirectory w x = same_both x.0 w.0 x.1 w.1 x.2 w.3 x.3 w.4 x.4 w.2 w.5
   whole_not_bad bad.BadFrame w x =
       let whole = all_same w.0 x.0 w.1 x.1 w.2 x.2 w.3 x.3 w.4 x.4 w.5 x.5 w.6 in
-      let frame = whole x.6.0 x.6.1 in
-      x.6.2 frame.0 frame.1
+      elim x.6 [
+        | inl n ↦ let frame = whole n.0 n.1 in n.2 frame.0 frame.1
+        | inr sealed ↦ false≢true (sym x.3.opened ∙ sealed.0)
+      ]
   whole_not_bad other w x = absurd x

@@ -3,7 +3,7 @@ use Rattle.image_explainer.proofs.Names.{arith, ℕ, List, Option, None, Some, O
 use Rattle.image_explainer.proofs.Names.{Disk, Image, BadImage, OpenFault, OnlyReads, Holds, SavedFrames, IsInconsistent, frames_of, consistent_is_sound}
 use Rattle.image_explainer.proofs.Names.{OpensStore, View, Parts, saved_of, holds_one, frames_not_bad, SectorFault, IsFault, ImageFault, BreaksFrames}
 use Rattle.image_explainer.proofs.Names.{reason_of, Explains, IsExplainedBy, IsConsistentOr, AreBadForOneReason, IsMisnamed, IsUnmatched, Misnamed, Unmatched}
-use Rattle.image_explainer.proofs.Names.{AreNamed, Geometry, keepable_later, unbanked_refuted}
+use Rattle.image_explainer.proofs.Names.{AreNamed, Geometry, keepable_later, unbanked_refuted, CheckpointHeader}
 use Rattle.std.proofs.Common.{◌≡◌, ◌≤◌, ◌^◌, ◌-◌, ◌∙◌}
 use Rattle.std.specs.Prelude.{Result}
 use Rattle.image_explainer.proofs.OneReason.{one_reason as one_sector_reason}
@@ -49,7 +49,8 @@ pub keepable : (size : ℕ) (c : Image) (saved : SavedFrames) → Holds size c s
 keepable size c saved holds = grind (arith, nat_tests)
 
 pub within_age : (size : ℕ) (c : Image) (saved : SavedFrames) → Holds size c saved → saved.age ≤ 2 ^ 62
-within_age size c saved holds = subst (λ (x : SavedFrames). x.age ≤ 2 ^ 62) holds.2 holds.1.header.fits.age
+within_age size c saved holds = subst (λ (x : SavedFrames). x.age ≤ 2 ^ 62) holds.2
+    (subst (λ (h : CheckpointHeader). h.age ≤ 2 ^ 62) holds.1.same holds.1.header.fits.age)
 
 -- what was found in saved frames explains the image that holds them
 explained_found : (size : ℕ) (c : Image) (saved : SavedFrames) (found : Option ImageFault) → Holds size c saved →

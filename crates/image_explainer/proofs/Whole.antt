@@ -2,7 +2,9 @@
 use Rattle.image_explainer.proofs.Names.{nat_tests, ℕ, List, ControlFlow, length, take, arith, MatchControlFlow, Image, Entry, CheckpointHeader, AllFitting}
 use Rattle.image_explainer.proofs.Names.{directory_bytes, HasHeader, HasPlan, directory_in, directory_sector, sectors_from, slot_sector, IsPlan, Plan}
 use Rattle.image_explainer.proofs.Names.{half_lies, fewer_entries, DirectoryPart, BreaksDirectory, IsFault, IsFirstEntry, directory_length}
-use Rattle.std.proofs.Common.{◌≡◌, ◌+◌, ◌-◌, ◌*◌, ◌≤◌, ◌∙◌}
+use Rattle.std.proofs.Common.{◌≡◌, ◌+◌, ◌-◌, ◌*◌, ◌≤◌, ◌∙◌, Bool, subst}
+use Rattle.layout.specs.Denoted.{AreEntriesIf}
+use Rattle.image_explainer.specs.SectorFinding.{plain}
 use Rattle.image_explainer.specs.declared.sectors.fault.SectorFault.TheVariants as fault
 use Rattle.image_explainer.proofs.Directories.{no_spelling}
 
@@ -30,19 +32,19 @@ module _ (image : Image) (size : ℕ) (p : Plan) (h : CheckpointHeader) (es : Li
   spelt_there : directory_in image p h.generation h.entries ≡ directory_bytes es
   spelt_there = grind (arith, nat_tests)
 
-  pub directory_fault : (part : DirectoryPart) → HasPlan image size p → HasHeader image p h → length es ≡ n → AllFitting es →
+  pub directory_fault : (part : DirectoryPart) → HasPlan image size p → HasHeader image p (plain h) → length es ≡ n → AllFitting es →
       BreaksDirectory p.geometry es part → IsFirstEntry p.geometry es part → IsFault size image (fault.Directory sector part)
   directory_fault part plan header len fits broken first = (
     (
       p,
-      h,
+      plain h,
       plan,
       header,
-      λ ds is_directory same_count same. no_spelling p.geometry es part (directory_in image p h.generation h.entries) fits spelt_there
-          broken
-          ds is_directory same,
+      λ ds has. no_spelling p.geometry es part (directory_in image p h.generation h.entries) fits spelt_there broken ds has.fits
+          (subst (λ (k : ℕ). directory_in image p h.generation k ≡ directory_bytes ds) has.count
+          (subst (λ (b : Bool). AreEntriesIf b image p h.generation ds) plan.opened has.spelt)),
     ),
-    (p, h, es, plan, header, place, len ∙ count, fits, spelt_there, broken, first),
+    (p, plain h, es, plan, header, place, len ∙ count, fits, spelt_there, broken, first),
   )
 
 -- if the search continues with A, and A gives B, it continues with B

@@ -10,6 +10,7 @@ use Rattle.layout.specs.declared.bad_image.BadImage.{BadImage}
 use Rattle.layout.specs.declared.bad_image.BadImage.TheVariants as bad
 use Rattle.layout.specs.declared.directory.Entry.{Entry}
 use Rattle.layout.specs.declared.header.CheckpointHeader.{CheckpointHeader}
+use Rattle.layout.specs.declared.sealed.header.SealedHeader.{SealedHeader}
 use Rattle.layout.specs.declared.version.Version.{Version}
 use Rattle.layout.specs.Bytes.{half_number, number_from, zeros}
 use Rattle.layout.specs.Capability.{capability_bytes}
@@ -17,8 +18,11 @@ use Rattle.layout.specs.Directory.{AllFitting, IsEntry, directory_bytes, entry_a
 use Rattle.layout.specs.Frame.{IsFrameOf}
 use Rattle.layout.specs.Gate.{is_open}
 use Rattle.layout.specs.Header.{IsHeader, header_bytes}
-use Rattle.layout.specs.Image.{HasDirectory, HasHeader, HasPlan, IsBadBy, committed_slot, directory_in}
-use Rattle.layout.specs.Image.{directory_sector, frame_in, sequence_in, total_in}
+use Rattle.layout.specs.Image.{directory_in}
+use Rattle.layout.specs.Committed.{committed_slot}
+use Rattle.layout.specs.Denoted.{HasDirectory, HasHeader, HasPlan, IsBadBy}
+use Rattle.layout.specs.Image.{directory_sector, frame_in, total_in}
+use Rattle.layout.specs.Committed.{sequence_in}
 use Rattle.layout.specs.Version.{IsOpened}
 use Rattle.layout.specs.Superblock.{IsGeometry, IsPlan, Plan, superblock_bytes, version_number}
 use Rattle.image_explainer.specs.declared.sectors.fault.DirectoryPart.{DirectoryPart}
@@ -114,7 +118,7 @@ BreaksHeader log bytes (header.Sequence sequence age) =
     (number_at bytes 24 ≤ log) × (age ≤ 2 ^ 62) × (number_at bytes 16 ≤ 2 * age) ×
     (sequence ≡ number_at bytes 8) × (age ≡ number_at bytes 32) ×
     (2 * age + (if number_at bytes 24 == 0 then 1 else 0) < sequence)
-BreaksHeader log bytes header.Bytes = IsHeader log (header_in bytes) × (bytes ≡ header_bytes (header_in bytes) → ⊥)
+BreaksHeader log bytes header.Bytes = IsHeader 0 log (header_in bytes) × (bytes ≡ header_bytes (header_in bytes) → ⊥)
 
 -- reason 6: an entry's number is no object's, its slot doesn't exist, its number isn't above the one before it, or
 -- another entry has its slot
@@ -180,16 +184,18 @@ BreaksSectors size c (fault.Header sector part) =
     (p : Plan) × HasPlan c size p × (slot : ℕ) × (committed_slot c ≡ Some slot) × (sector ≡ 1 + 2 * slot) × BreaksHeader
     p.geometry.log (c sector) part
 BreaksSectors size c (fault.Directory sector part) =
-    (p : Plan) × (h : CheckpointHeader) × (es : List Entry) × HasPlan c size p × HasHeader c p h ×
-    (sector ≡ directory_sector p h.generation)
-    × (length es ≡ h.entries) × AllFitting es × (directory_in c p h.generation h.entries ≡ directory_bytes es) ×
+    (p : Plan) × (h : SealedHeader) × (es : List Entry) × HasPlan c size p × HasHeader c p h ×
+    (sector ≡ directory_sector p h.header.generation)
+    × (length es ≡ h.header.entries) × AllFitting es
+    × (directory_in c p h.header.generation h.header.entries ≡ directory_bytes es) ×
     BreaksDirectory p.geometry es part × IsFirstEntry p.geometry es part
 BreaksSectors size c (fault.Frame number is_page part) =
-    (p : Plan) × (h : CheckpointHeader) × (es : List Entry) × HasPlan c size p × HasHeader c p h × HasDirectory c p h es
+    (p : Plan) × (h : SealedHeader) × (es : List Entry) × HasPlan c size p × HasHeader c p h × HasDirectory c p h es
     × (number < p.geometry.nodes + p.geometry.pages) × (is_page ≡ nat_le p.geometry.nodes number)
-    × ((m : ℕ) → m < number → (f : Frame) × IsFrameOf p.geometry h.age m (frame_in c p h.generation es m) f)
-    × ((f : Frame) → IsFrameOf p.geometry h.age number (frame_in c p h.generation es number) f → ⊥)
-    × BreaksFrame p.geometry h.age number (frame_in c p h.generation es number) part
+    × ((m : ℕ) → m < number → (f : Frame) × IsFrameOf p.geometry h.header.age m
+    (frame_in c p h.header.generation es m) f)
+    × ((f : Frame) → IsFrameOf p.geometry h.header.age number (frame_in c p h.header.generation es number) f → ⊥)
+    × BreaksFrame p.geometry h.header.age number (frame_in c p h.header.generation es number) part
 
 -- the image has this fault, with the least reason that applies
 abbrev pub IsFault : ℕ → Image → SectorFault → Type 0

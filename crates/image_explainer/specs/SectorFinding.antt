@@ -6,10 +6,13 @@ use Rattle.model.specs.declared.frame.Frame.{Frame}
 use Rattle.model.specs.declared.geometry.Geometry.{Geometry}
 use Rattle.layout.specs.declared.directory.Entry.{Entry}
 use Rattle.layout.specs.declared.header.CheckpointHeader.{CheckpointHeader}
+use Rattle.layout.specs.declared.sealed.header.SealedHeader.{SealedHeader}
 use Rattle.layout.specs.Directory.{entry_at}
 use Rattle.layout.specs.Frame.{IsFrameOf}
 use Rattle.layout.specs.Header.{IsHeader, header_bytes}
-use Rattle.layout.specs.Image.{HasDirectory, HasHeader, HasPlan, committed_of, does_count, frame_in, sequence_in}
+use Rattle.layout.specs.Image.{frame_in}
+use Rattle.layout.specs.Committed.{committed_of, does_count, no_sums, sequence_in}
+use Rattle.layout.specs.Denoted.{HasDirectory, HasHeader, HasPlan}
 use Rattle.layout.specs.Superblock.{HasMark, IsPlan, Plan, superblock_bytes}
 use Rattle.image_explainer.specs.declared.sectors.fault.FramePart.{FramePart}
 use Rattle.image_explainer.specs.declared.sectors.fault.FramePart.TheVariants as frame
@@ -27,12 +30,16 @@ IsCopy image bytes = AreSectors image 0 bytes
 abbrev pub IsWholeFrame : Image → Plan → CheckpointHeader → List Entry → ℕ → Type 0
 IsWholeFrame image p h es n = (f : Frame) × IsFrameOf p.geometry h.age n (frame_in image p h.generation es n) f
 
+-- a header of a version without seals
+abbrev pub plain : CheckpointHeader → SealedHeader
+plain h = record { header = h; root = no_sums; directory = no_sums }
+
 -- none of the reasons 1 to 7 applies
 abbrev pub IsWhole : ℕ → Image → Type 0
 IsWhole size image =
-    (p : Plan) × (h : CheckpointHeader) × (es : List Entry) × HasPlan image size p × HasHeader image p h × HasDirectory
+    (p : Plan) × (h : SealedHeader) × (es : List Entry) × HasPlan image size p × HasHeader image p h × HasDirectory
     image p h es
-    × ((n : ℕ) → n < p.geometry.nodes + p.geometry.pages → IsWholeFrame image p h es n)
+    × ((n : ℕ) → n < p.geometry.nodes + p.geometry.pages → IsWholeFrame image p h.header es n)
 
 -- the bytes are no superblock, and this part is wrong
 abbrev pub BreaksSector : List ℕ → SectorFault → Type 0
@@ -53,13 +60,13 @@ picked slot first second = if slot == 0 then first else second
 -- h is the committed header
 abbrev pub HasHeaderIn : ℕ → List ℕ → List ℕ → List ℕ → List ℕ → CheckpointHeader → Type 0
 HasHeaderIn log first first_gate second second_gate h =
-    (slot : ℕ) × (slot < 2) × (slot_of first first_gate second second_gate ≡ Some slot) × IsHeader log h ×
+    (slot : ℕ) × (slot < 2) × (slot_of first first_gate second second_gate ≡ Some slot) × IsHeader 0 log h ×
     (picked slot first second ≡ header_bytes h)
 
 -- the bytes encode no header, and this part is wrong
 abbrev pub RefusesHeader : ℕ → ℕ → List ℕ → SectorFault → Type 0
 RefusesHeader sector log bytes (fault.Header at part) = (at ≡ sector) ×
-    ((h : CheckpointHeader) → IsHeader log h → bytes ≡ header_bytes h → ⊥) × BreaksHeader log bytes part
+    ((h : CheckpointHeader) → IsHeader 0 log h → bytes ≡ header_bytes h → ⊥) × BreaksHeader log bytes part
 RefusesHeader sector log bytes _ = ⊥
 
 -- no header is committed, or the committed one is malformed

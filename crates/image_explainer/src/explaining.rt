@@ -1,7 +1,7 @@
 // Finding why an image is refused, and where.
 ghost use Rattle.std.specs.Prelude.{◌≡◌, ◌↔◌, ◌*◌, ◌≤◌, length, IfErr, IfOk};
 ghost use Rattle.layout.specs.declared.bad_image.BadImage.{BadImage};
-ghost use Rattle.layout.specs.Image.{IsBadBy};
+ghost use Rattle.layout.specs.Denoted.{IsBadBy};
 ghost use Rattle.layout.specs.Fault.{CountsOpen};
 ghost use Rattle.checkpoint.specs.Opened.{Refuses};
 ghost use Rattle.layout.specs.Calls.{ReadsOnly};

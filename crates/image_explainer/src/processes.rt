@@ -35,8 +35,8 @@ fn root_of(notes: &[Option<Noted>], from: usize, annex: u64) -> Option<usize>
     None
 }
 
-// Returns what is wrong with a root: its annex doesn't match, or a later root names the same annex.
-// `None` if nothing is.
+// Returns what is wrong with a root: its annex doesn't match, or a later root names the same annex. Returns
+// `None` if nothing is wrong.
 fn flaw_of_root<F: Frames>(store: &F, notes: &[Option<Noted>], root: usize) -> Option<Unmatched>
     requires { AreNoted (frames_of (F.parts store.now)) notes.now }
     ensures found { IfSome result (IsUnmatched (frames_of (F.parts store.now))) }

@@ -5,10 +5,14 @@ use Rattle.image_writer.proofs.Names.{CheckpointHeader, IsDirectory, directory_b
 use Rattle.image_writer.proofs.Names.{committed_of, committed_bytes, directory_in, does_count, frame_in, sectors_from, sequence_in, Plan, IsPlan, half_within}
 use Rattle.image_writer.proofs.Names.{same_sectors, places_within, AreClosed, none_committed, Holds, SavedFrames, kept_of, half_behind, sequences_reported}
 use Rattle.image_writer.proofs.Names.{frames_behind, HasOpeningSectors, IsBeforeOrNone, IsLeftWriting, IsWritten, first_header, state_of, subst, sym, entry_at}
-use Rattle.image_writer.proofs.Names.{home_place, place_length, slot_sector, EndsInZeros, EndInZeros}
+use Rattle.image_writer.proofs.Names.{home_place, place_length, slot_sector, EndsInZeros, EndInZeros, IsOpened}
 use Rattle.std.proofs.Common.{◌≡◌, ◌⊎◌, ◌^◌, ◌<◌, ◌≤◌, ◌+◌, ◌-◌, ◌%◌, ◌∙◌}
 use Rattle.std.specs.Prelude.{◌==◌, ◌&&◌}
-use Rattle.image_writer.proofs.SlotFrames.{slot_behind}
+use Rattle.std.proofs.lemmas.Bool.{false≢true}
+use Rattle.layout.specs.Denoted.{AreEntriesIf, sums_if}
+use Rattle.ckpt_log.proofs.AnyVersions.{plain_from, plain_sequence}
+use Rattle.ckpt_log.proofs.CommittedHeaders.{plain, plain_words}
+use Rattle.image_writer.proofs.SlotFrames.{frame_low, half_low, slot_behind}
 
 -- if the first header counts, and the second doesn't, the first is committed
 first_alone : (first second : Bool) (m n : ℕ) → first ≡ true → second ≡ false → committed_of first m second n ≡ Some 0
@@ -39,21 +43,48 @@ module _ (p : Plan) (h : CheckpointHeader) (es : List Entry) (frames : List Fram
   committed = search (arith, first_alone, header_counts, other_does_not, header_is)
 
   directory_stays : (n : ℕ) → directory_in new p h.generation n ≡ directory_in old p h.generation n
-  directory_stays n = search (arith, half_behind, behind)
+  directory_stays n = search (arith, half_low, behind)
 
   frame_stays : (a : ℕ) → a < object_count p.geometry → frame_in new p h.generation es a ≡ frame_in old p h.generation es a
-  frame_stays a lt = search (arith, behind, frames_behind, places_within)
+  frame_stays a lt = search (arith, behind, frame_low)
 
-  pub denotes : (size : ℕ) → IsHeader p.geometry.log h → IsDirectory p.geometry es → length es ≡ h.entries → p.total ≤ size →
+  pub denotes : (size : ℕ) → IsHeader 0 p.geometry.log h → IsDirectory p.geometry es → length es ≡ h.entries → p.total ≤ size →
       AreKeepable p.geometry h.age frames → Encodes new size (state_of p h es frames)
-  denotes size header directory count whole keepable = search (arith, five, committed, directory_stays, frame_stays)
+  denotes size header directory count whole keepable =
+      let enough = five p is.plan in
+      record {
+        plan = record {
+          opened = is.opened;
+          least = omega (arith, enough, whole);
+          whole = whole;
+          fits = is.plan;
+          spelt = change.before 0 (omega arith) ∙ is.opening.superblock;
+        };
+        commit = plain h;
+        same = refl;
+        header = record {
+          committed = plain_from p.version is.opened new (plain h)
+              (record { spelt = committed; sums = record { root = refl; directory = refl }; fits = plain_words h header });
+          fits = subst (λ (least : ℕ). IsHeader least p.geometry.log h) (sym (plain_sequence p.version is.opened)) header;
+        };
+        directory = record {
+          count = count;
+          fits = directory;
+          spelt = subst (λ (b : Bool). AreEntriesIf b new p h.generation es) (sym is.opened)
+              (directory_stays (length es) ∙ is.directory);
+          sums = ap (λ (b : Bool). sums_if b es) is.opened;
+        };
+        count = keepable.count;
+        each = λ a lt. (keepable.each a lt, frame_stays a lt ∙ is.placed a lt);
+        units = λ sealed. absurd (false≢true (sym is.opened ∙ sealed));
+      }
 
 -- ---- while the gate is being opened
 
 -- a torn gate is open, and then the whole image is there; or it is closed
 module _ (p : Plan) (h : CheckpointHeader) (es : List Entry) (frames : List Frame) (old c : Image) (is : IsWritten p h es frames old)
     (first : h.sequence ≡ 0)
-    (change : Elsewhere 2 1 old c) (size : ℕ) (header : IsHeader p.geometry.log h)
+    (change : Elsewhere 2 1 old c) (size : ℕ) (header : IsHeader 0 p.geometry.log h)
     (directory : IsDirectory p.geometry es) (count : length es ≡ h.entries) (whole : p.total ≤ size)
     (keepable : AreKeepable p.geometry h.age frames) where
   opening_by : (b : Bool) → is_open (c 2) ≡ b → HasNoHeader c ⊎ Holds size c (kept_of (state_of p h es frames))
@@ -79,7 +110,7 @@ not_yet {old} {mid} saved run = search (arith, leaves_weaker)
 
 -- while the gate is being opened, a crash leaves the new image or no committed header
 pub opening_run : (p : Plan) (h : CheckpointHeader) (es : List Entry) (frames : List Frame) {old mid new : Disk} →
-    IsWritten p h es frames mid.seen → h.sequence ≡ 0 → IsHeader p.geometry.log h → IsDirectory p.geometry es → length es ≡ h.entries
+    IsWritten p h es frames mid.seen → h.sequence ≡ 0 → IsHeader 0 p.geometry.log h → IsDirectory p.geometry es → length es ≡ h.entries
     → p.total ≤ old.sectors → AreKeepable p.geometry h.age frames
     → LeavesOnly old mid (λ c. IsBeforeOrNone old c) → LeavesOnly mid new (λ c. Elsewhere 2 1 mid.seen c) →
     LeavesOnly old new (λ c. IsLeftWriting old (kept_of (state_of p h es frames)) c)
@@ -95,7 +126,7 @@ pub no_directory : (g : Geometry) → IsDirectory g []
 no_directory g = search arith
 
 -- the first header is within the limits
-pub header_fits : (room age : ℕ) → age ≤ 2 ^ 62 → IsHeader room (first_header age)
+pub header_fits : (room age : ℕ) → age ≤ 2 ^ 62 → IsHeader 0 room (first_header age)
 header_fits room age most = record {
   entries = omega arith;
   age = most;
@@ -113,14 +144,15 @@ durable_is {T} {E} result left P seen is only = search (arith, agrees_is)
 
 -- after a sync, all parts of the image are written
 pub all_written : (p : Plan) (h : CheckpointHeader) (es : List Entry) (frames : List Frame) (front behind now : Image) → IsPlan p →
-    HasOpeningSectors p h front → Elsewhere 5 (p.total - 5) front behind
+    IsOpened p.version → HasOpeningSectors p h front → Elsewhere 5 (p.total - 5) front behind
     → directory_in behind p h.generation (length es) ≡ directory_bytes es →
     ((a : ℕ) → a < object_count p.geometry → frame_in behind p h.generation es a ≡ frame_bytes p.geometry a (frame_at frames a))
     → EndInZeros p h.generation es behind → AreClosed behind → Agrees now behind → IsWritten p h es frames now
-all_written p h es frames front behind now fits has change directory placed zeros closed same =
+all_written p h es frames front behind now fits opened has change directory placed zeros closed same =
     let e : now ≡ behind = agrees_is now behind same in
     record {
       plan = fits;
+      opened = opened;
       opening = record {
         superblock = ap (λ (i : Image). i 0) e ∙ change.before 0 (omega arith) ∙ has.superblock;
         header = ap (λ (i : Image). i 1) e ∙ change.before 1 (omega arith) ∙ has.header;

@@ -28,11 +28,15 @@ pub use Rattle.layout.specs.Gate.{is_open}
 pub use Rattle.layout.specs.Header.{IsHeader}
 unfoldable pub use Rattle.layout.specs.Header.{header_bytes}
 pub use Rattle.layout.specs.Homes.{home_place, place_length, shape_of}
-pub use Rattle.layout.specs.Image.{Encodes, HasNoHeader, bytes_at, committed_bytes, committed_of, directory_in, directory_sector, does_count, frame_in}
-pub use Rattle.layout.specs.Image.{frame_slot_in, half_sector, sequence_in, slot_sector}
+pub use Rattle.layout.specs.Image.{bytes_at, directory_in, directory_sector, frame_in}
+pub use Rattle.layout.specs.Committed.{committed_bytes, committed_of, does_count}
+pub use Rattle.layout.specs.Denoted.{Encodes}
+pub use Rattle.layout.specs.Image.{frame_slot_in, half_sector, slot_sector}
+pub use Rattle.layout.specs.Committed.{sequence_in}
 unfoldable pub use Rattle.layout.specs.Image.{sectors_from}
 pub use Rattle.layout.specs.Shape.{IsBlankFrom, shape_bytes, shape_end, shape_length}
 pub use Rattle.layout.specs.Superblock.{IsPlan, Plan, half_extent}
+pub use Rattle.layout.specs.Version.{IsOpened}
 unfoldable pub use Rattle.layout.specs.Version.{directory_length}
 pub use Rattle.layout.specs.declared.directory.Entry.{Entry}
 pub use Rattle.layout.specs.declared.header.CheckpointHeader.{CheckpointHeader}
@@ -54,5 +58,5 @@ pub use Rattle.std.proofs.lemmas.Result.{on_ok_weaker}
 pub use Rattle.std.specs.Prelude.{OnOk}
 pub use Rattle.image_writer.specs.Homes.{AreFramesOf, HasZeros, LieAt}
 pub use Rattle.image_writer.specs.Laws.{KeptHoldsTheSame, NoneIsHeld}
-pub use Rattle.image_writer.specs.Written.{AreHome, AreInSlots, EndAtHome, EndInZeros, HasOpeningSectors, IsBeforeOrNone, IsLeftWriting, IsWritten}
+pub use Rattle.image_writer.specs.Written.{HasNoHeader, AreHome, AreInSlots, EndAtHome, EndInZeros, HasOpeningSectors, IsBeforeOrNone, IsLeftWriting, IsWritten}
 pub use Rattle.image_writer.specs.Written.{LeavesClosed, first_header, first_state, state_of}

@@ -5,6 +5,12 @@ use Rattle.image_writer.proofs.Names.{bytes_at, directory_sector, frame_in, half
 use Rattle.image_writer.proofs.Names.{front_shape, front_blank, IsBlankFrom, Plan, IsPlan, half_extent, half_within, few_sectors, same_shaped, IsObject}
 use Rattle.image_writer.proofs.Names.{one_length, places_spare_log, frame_slot_entry, AreFramesOf, LieAt, AreHome, AreInSlots, inl, inr, same_sectors}
 use Rattle.image_writer.proofs.Names.{on_ok_weaker, EndsInZeros, EndAtHome, EndInZeros, directory_length, fewer_entries, half_has}
+use Rattle.image_writer.proofs.Names.{half_sector, frames_behind}
+use Rattle.layout.specs.Image.{frame_sector}
+use Rattle.layout.specs.Version.{row}
+use Rattle.layout.specs.declared.version.Version.{Version}
+use Rattle.layout.specs.declared.version.Version.TheVariants.{One, Two, Three}
+use Rattle.home_ranges.proofs.Places.{places_begin}
 use Rattle.std.proofs.Common.{◌≡◌, ◌+◌, ◌-◌, ◌*◌, ◌<◌, ◌≤◌, ◌∙◌}
 
 -- ---- the block of one home
@@ -87,6 +93,22 @@ module _ (p : Plan) (generation : ℕ) (es : List Entry) (i : ℕ) (mid new : Im
   pub stays_in_half : (old : Image) → Elsewhere (half_sector p generation) (9 * p.geometry.log) old mid →
       Elsewhere (half_sector p generation) (9 * p.geometry.log) old new
   stays_in_half old so_far = search (arith, fits, slot_length)
+
+-- log halves and frames lie from sector 5 on
+pub half_low : (p : Plan) (generation : ℕ) → IsPlan p → 5 ≤ half_sector p generation
+half_low p generation fits = (half_within p generation fits).0
+
+least_first : (v : Version) → 5 ≤ (row v).first_home
+least_first One = omega arith
+least_first Two = omega arith
+least_first Three = omega arith
+
+pub frame_low : (p : Plan) (generation : ℕ) (es : List Entry) (object : ℕ) → IsPlan p → object < p.geometry.nodes + p.geometry.pages →
+    5 ≤ frame_sector p generation es object
+frame_low p generation es object fits lt =
+    let least = least_first p.version in
+    let behind = frames_behind p generation es object fits (places_begin p object fits lt) in
+    omega (arith, least, behind)
 
 -- each slot lies from sector 5 on
 pub slot_behind : (p : Plan) (generation slot : ℕ) → IsPlan p → 5 ≤ slot_sector p generation slot

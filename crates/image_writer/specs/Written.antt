@@ -1,8 +1,8 @@
 -- The parts of a fresh image, and its saved state.
 use Rattle.image_writer.specs.Names.{ℕ, List, [], length, Frame, Geometry, frame_at, object_count, Disk, Image, Entry}
 use Rattle.image_writer.specs.Names.{CheckpointHeader, directory_bytes, entry_at, frame_bytes, header_bytes, home_place}
-use Rattle.image_writer.specs.Names.{HasNoHeader, SavedState, bytes_at, directory_in, frame_in, slot_sector, Plan}
-use Rattle.image_writer.specs.Names.{IsPlan, superblock_bytes, AreClosed, KeepsImage, Holds, SavedFrames}
+use Rattle.image_writer.specs.Names.{None, SavedState, committed_slot, bytes_at, directory_in, frame_in, slot_sector, Plan}
+use Rattle.image_writer.specs.Names.{IsOpened, IsPlan, superblock_bytes, AreClosed, KeepsImage, Holds, SavedFrames}
 use Rattle.std.specs.Prelude.{◌≡◌, ◌⊎◌, ◌<◌}
 use Rattle.image_writer.specs.Homes.{HasZeros, LieAt}
 
@@ -51,6 +51,7 @@ pub record EndInZeros (p : Plan) (generation : ℕ) (es : List Entry) (image : I
 pub record IsWritten (p : Plan) (h : CheckpointHeader) (es : List Entry) (frames : List Frame) (image : Image) : Type 0
   where
     pub plan : IsPlan p
+    pub opened : IsOpened p.version
     pub opening : HasOpeningSectors p h image
     pub closed : AreClosed image
     pub directory : directory_in image p h.generation (length es) ≡ directory_bytes es
@@ -59,6 +60,10 @@ pub record IsWritten (p : Plan) (h : CheckpointHeader) (es : List Entry) (frames
     pub zeros : EndInZeros p h.generation es image
 
 -- ---- what a crash leaves while an image is being written
+
+-- no header counts, in versions 1 and 2
+abbrev pub HasNoHeader : Image → Type 0
+HasNoHeader image = committed_slot image ≡ None
 
 -- each crash leaves both gates closed
 abbrev pub LeavesClosed : Disk → Type 0

@@ -6,10 +6,12 @@ ghost use Rattle.device.specs.Moments.{LeavesOnly};
 ghost use Rattle.layout.specs.Directory.{IsDirectory, directory_bytes};
 ghost use Rattle.layout.specs.Frame.{frame_bytes};
 ghost use Rattle.layout.specs.Header.{IsHeader};
-ghost use Rattle.layout.specs.Image.{Encodes, directory_in, frame_in};
+ghost use Rattle.layout.specs.Image.{directory_in, frame_in};
+ghost use Rattle.layout.specs.Denoted.{Encodes};
 ghost use Rattle.layout.specs.Superblock.{IsPlan};
+ghost use Rattle.layout.specs.Version.{IsOpened};
 ghost use Rattle.checkpoint.specs.Saved.{Holds, kept_of};
-ghost use Rattle.ckpt_log.specs.Closing.{AreClosed};
+ghost use Rattle.ckpt_log.specs.Closing.{AreClosed, KeepsOrHasNone, WasKeptOrHasNone};
 ghost use Rattle.model.specs.Frame.{frame_at, frames_in};
 ghost use Rattle.model.specs.Keepable.{AreKeepable};
 ghost use Rattle.model.specs.Sound.{object_count};
@@ -19,7 +21,7 @@ ghost use Rattle.image_writer.specs.Written.{first_saved, first_state, state_of}
 use crate::homes::write_homes;
 use crate::opening_sectors::{open_gate, write_opening_sectors};
 use crate::slots::write_log;
-use ckpt_log::{Log, close_gates};
+use ckpt_log::{Log, close_gates_of};
 use device::{Device, Failed};
 use home_ranges::Home;
 use layout::{CheckpointHeader, Entry, Superblock};
@@ -38,6 +40,7 @@ fn write_frames<D: Device>(
     contents: &[Content<Cap>],
 ) -> Result<(), Failed>
     requires plan { IsPlan superblock.now }
+    requires opened { IsOpened superblock.now.version }
     requires count { count ≡ object_count superblock.now.geometry }
     requires directory { IsDirectory superblock.now.geometry entries.now }
     requires few { length entries.now ≤ superblock.now.geometry.log }
@@ -66,6 +69,22 @@ fn write_frames<D: Device>(
     write_log(device, &log, &home, generation, entries, headers, contents)
 }
 
+// Closes the gates of both headers, so that no header is committed. A crash at any moment leaves an image that it could
+// have left before, with the same committed header, or with none.
+fn close_gates<D: Device>(device: &mut D, superblock: &Superblock) -> Result<(), Failed>
+    requires opened { IsOpened superblock.now.version }
+    requires inside { 5 ≤ (D.disk device.old).sectors }
+    ensures closed { OnOk result (AreClosed (D.disk device.new).seen) }
+    ensures durable { OnOk result (Only (D.disk device.new).seen (D.disk device.new)) }
+    ensures size { (D.disk device.new).sectors ≡ (D.disk device.old).sectors }
+    ensures seen { KeepsOrHasNone (D.disk device.old).seen (D.disk device.new).seen }
+    ensures any_moment { LeavesOnly (D.disk device.old) (D.disk device.new)
+        (λ c. WasKeptOrHasNone (D.disk device.old) c) }
+    ensures cause { Counts (D.disk device.old) (D.disk device.new) result }
+{
+    close_gates_of(superblock.version(), device)
+}
+
 // Closes both gates, writes all of a new image except that its gate stays closed, and syncs. A crash at any
 // moment leaves the old image, or none that opens.
 fn write_parts<D: Device>(
@@ -76,6 +95,7 @@ fn write_parts<D: Device>(
     headers: &[ObjectHeader],
     contents: &[Content<Cap>],
 ) -> Result<(), Failed>
+    requires opened { IsOpened superblock.now.version }
     requires inside { superblock.now.total ≤ (D.disk device.old).sectors }
     requires directory { IsDirectory superblock.now.geometry entries.now }
     requires few { length entries.now ≤ superblock.now.geometry.log }
@@ -93,7 +113,7 @@ fn write_parts<D: Device>(
     ensures cause { Counts (D.disk device.old) (D.disk device.new) result }
 {
     let Geometry { nodes, pages, .. } = superblock.geometry();
-    close_gates(device)?;
+    close_gates(device, superblock)?;
     write_opening_sectors(device, superblock, header)?;
     write_frames(
         device,
@@ -127,9 +147,9 @@ fn write_parts<D: Device>(
 /// then a crash leaves the old image, the new one, or none that opens. Sectors from the image's total
 /// on never change.
 ///
-/// The device must have at least as many sectors as the superblock says. The header must be within the limits
-/// of the superblock, the directory must be valid and as long as the header says, and an image of the
-/// header's age may hold each frame.
+/// Programs must open images of the superblock's version. The device must have at least as many sectors as the
+/// superblock says. The header must be within the limits of the superblock, the directory must be valid and as long as
+/// the header says, and an image of the header's age may hold each frame.
 #[tactic(auto, using(crate::proofs::FreshImages::denotes, crate::proofs::FreshImages::not_yet))]
 pub fn write_saved<D: Device>(
     device: &mut D,
@@ -139,8 +159,9 @@ pub fn write_saved<D: Device>(
     headers: &[ObjectHeader],
     contents: &[Content<Cap>],
 ) -> Result<(), Failed>
+    requires opened { IsOpened superblock.now.version }
     requires inside { superblock.now.total ≤ (D.disk device.old).sectors }
-    requires header { IsHeader superblock.now.geometry.log header }
+    requires header { IsHeader 0 superblock.now.geometry.log header }
     requires first { header.sequence ≡ 0 }
     requires directory { IsDirectory superblock.now.geometry entries.now }
     requires count { length entries.now ≡ header.entries }
@@ -179,8 +200,8 @@ pub fn write_saved<D: Device>(
 /// then a crash leaves the old image, the new one, or none that opens. Sectors from the image's total
 /// on never change.
 ///
-/// The device must have at least as many sectors as the superblock says. The age is at most `MAX_AGE`,
-/// and an image of this age may hold each frame.
+/// Programs must open images of the superblock's version. The device must have at least as many sectors as the
+/// superblock says. The age is at most `MAX_AGE`, and an image of this age may hold each frame.
 #[tactic(auto, using(crate::proofs::FreshImages::header_fits, crate::proofs::FreshImages::no_directory))]
 pub fn write_image<D: Device>(
     device: &mut D,
@@ -189,6 +210,7 @@ pub fn write_image<D: Device>(
     headers: &[ObjectHeader],
     contents: &[Content<Cap>],
 ) -> Result<(), Failed>
+    requires opened { IsOpened superblock.now.version }
     requires inside { superblock.now.total ≤ (D.disk device.old).sectors }
     requires age { age ≤ 2 ^ 62 }
     requires contents { length contents.now ≡ length headers.now }

@@ -3,7 +3,9 @@ ghost use Rattle.std.specs.Prelude.{◌≡◌, ◌-◌, ◌*◌, ◌<◌, ◌≤
 ghost use Rattle.device.specs.Calls.{Counts, Elsewhere};
 ghost use Rattle.device.specs.Moments.{LeavesOnly};
 ghost use Rattle.layout.specs.Directory.{IsDirectory, directory_bytes};
-ghost use Rattle.layout.specs.Image.{directory_in, half_sector};
+ghost use Rattle.layout.specs.Calls.{WritesAt};
+ghost use Rattle.layout.specs.Image.{directory_in, directory_sector, half_sector};
+ghost use Rattle.layout.specs.Version.{IsOpened, directory_length};
 ghost use Rattle.layout.specs.Superblock.{IsPlan, half_extent};
 ghost use Rattle.model.specs.Frame.{frames_in};
 ghost use Rattle.model.specs.Sound.{object_count};
@@ -53,6 +55,26 @@ fn write_slots<D: Device>(
     Ok(())
 }
 
+// Writes the directory of a generation, of an image without seals.
+fn write_directory<D: Device>(
+    device: &mut D,
+    log: &Log,
+    generation: u64,
+    entries: &[Entry],
+) -> Result<(), Failed>
+    requires opened { IsOpened log.now.version }
+    requires few { length entries.now ≤ log.now.geometry.log }
+    requires inside { log.now.total ≤ (D.disk device.old).sectors }
+    ensures written { OnOk result
+        (directory_in (D.disk device.new).seen log.now generation (length entries.now) ≡ directory_bytes entries.now) }
+    ensures writes { WritesAt (directory_sector log.now generation)
+        (directory_length log.now.version (length entries.now)) (D.disk device.old) (D.disk device.new) }
+    ensures cause { Counts (D.disk device.old) (D.disk device.new) result }
+{
+    log.store_directory(device, generation, entries)?;
+    Ok(())
+}
+
 /// Writes the log half of a generation: the slots of a directory's entries, and the directory. Each slot gets the
 /// frames of all objects that share the home of the entry's object. The gates of both headers must be closed, and a
 /// crash at any moment leaves them closed. Returns `Failed` exactly if the device failed.
@@ -66,6 +88,7 @@ pub(crate) fn write_log<D: Device>(
     contents: &[Content<Cap>],
 ) -> Result<(), Failed>
     requires plan { IsPlan home.now }
+    requires opened { IsOpened home.now.version }
     requires same { log.now ≡ home.now }
     requires directory { IsDirectory home.now.geometry entries.now }
     requires few { length entries.now ≤ home.now.geometry.log }
@@ -87,5 +110,5 @@ pub(crate) fn write_log<D: Device>(
     ensures cause { Counts (D.disk device.old) (D.disk device.new) result }
 {
     write_slots(device, log, home, generation, entries, headers, contents)?;
-    log.write_directory(device, generation, entries)
+    write_directory(device, log, generation, entries)
 }

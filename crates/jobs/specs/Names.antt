@@ -40,7 +40,7 @@ pub use Rattle.runs.specs.declared.cause.Stop.{Stop}
 pub use Rattle.runs.specs.declared.unsaved.Unsaved.{Unsaved}
 pub use Rattle.script.specs.Writing.{Writes, Written, Wrote, WroteFront}
 pub use Rattle.script.specs.declared.fault.RunFault.{RunFault}
-pub use Rattle.shell.specs.Sessions.{ServesFrom, session_at}
+pub use Rattle.shell.specs.Sessions.{Inspects, ServesFrom, session_at}
 pub use Rattle.shell.specs.declared.session.Shell.{Shell}
 pub use Rattle.std.specs.Prelude.{Bool, Err, List, None, Ok, Option, Result, Some, [], codes, decimal, false, true, ℕ}
 pub use Rattle.toml.specs.Data.{Members}

@@ -24,7 +24,7 @@ fn checked_line(saved: Checkpoint) -> LineText
     line
 }
 
-// Returns that line in a format.
+// Returns the line for an image that can be opened, in a format.
 fn line_of_saved(format: Format, saved: Checkpoint) -> LineText
     ensures text { result ≡ checked_text format saved.generation saved.age saved.entries }
     ensures short { length result ≤ 300 }

@@ -71,7 +71,7 @@ pub(crate) fn of_run(
     }
 }
 
-/// Returns the outcome of a command whose last step is this write.
+/// Returns the outcome of a command whose last step is a write with this result.
 pub fn of_write(wrote: Result<(), RunFault>) -> Result<(), Fault>
     ensures { result ≡ after_write wrote }
 {

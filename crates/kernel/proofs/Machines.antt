@@ -77,7 +77,7 @@ pub leaves_along : {g : Geometry} {old new : Disk} {fs : SavedFrames} {ts : List
     LeavesSaved old new fs → LeavesOne g old new (saved_of fs ∷ ts)
 leaves_along {g} {old} {new} {fs} {ts} sound size moments = search (arith, nat_tests, leaves_weaker, denoted_by)
 
--- if they hold the saved or the next frames at every moment, a crash leaves one of these two states
+-- if the sectors hold the saved or the next frames at every moment, a crash leaves one of these two states
 pub leaves_either : {g : Geometry} {old new : Disk} {fs next : SavedFrames} → IsSoundSaved g fs → IsSoundSaved g next →
     new.sectors ≡ old.sectors → LeavesEither old new fs next →
     LeavesOne g old new (saved_of fs ∷ saved_of next ∷ [])

@@ -69,7 +69,7 @@ module _ (g : Geometry) (s : Running) (n : ℕ) where
   unfolding refusal_of
   show_no_memory within = search (arith, nat_tests)
 
--- why a process can't act is never `Fault`
+-- the reason why a process can't act is never `Fault`
 pub early_fine : (os : List Object) (p : ℕ) (why : Refusal) → IsEarly os p (Some why) → why ≡ refusal.Fault → ⊥
 early_fine os p why early is = search (arith, nat_tests)
 

@@ -1,7 +1,7 @@
 -- Whether a kernel is up.
 use Rattle.kernel.specs.Names.{Option, None, Some, Live}
 
--- a kernel is up at a store, or down with its device; inside a command it may have neither
+-- a kernel is up with a store, or down with its device; inside a command it may have neither
 pub data Power (D S : Type 0) : Type 0 where
   Up : Live S → Power D S
   Down : D → Power D S

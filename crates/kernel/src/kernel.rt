@@ -295,7 +295,7 @@ impl<D: Device, S: ObjectStore<D>> Kernel<D, S> {
         ensures code { HasCode D.disk S.view S.parts self.old command.now result }
         ensures memory { result.answer ≡ Answer.Refused Refusal.NoMemory → takes_memory command.now ≡ true }
     {
-        // This borrow gives the proof of `memory` the invariant.
+        // For the proof of `memory`: this borrow brings in the kernel's invariant.
         let _ = &self.live;
         match command {
             Command::Invoke(invocation) => match self.invoke(invocation) {

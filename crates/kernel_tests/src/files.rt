@@ -182,8 +182,8 @@ fn of_a_long_file_the_first_sectors_are_opened(rt: HostRuntime) -> Result<(), Fa
     Ok(())
 }
 
-// Asserts that a file without write permission can be read, and that the first write fails and then
-// every call but reads.
+// Asserts that a file without write permission can be read, that the first write fails, and that then every
+// call except a read fails.
 fn fails<D: Device>(rt: &impl Abort, opened: Opened<D>) -> Result<(), Fail> {
     let mut device = opened?;
     assert_eq!(rt; device.sectors(), 2);

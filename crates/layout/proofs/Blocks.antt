@@ -1,14 +1,16 @@
 -- Where frames lie in a block.
-use Rattle.layout.proofs.Names.{ℕ, List, length, take, drop, inl, inr, sym, ap, refl, arith, true, false, nat_lt, nat_tests, drop_at, take_at, length-append}
-use Rattle.layout.proofs.Names.{length-replicate, length-take-le, length-drop, take-append-drop, take-append-le, drop-append-le, between, between_is}
-use Rattle.layout.proofs.Names.{drop-put_mid, drop-drop, drop-take, take-take, take-put_mid_below, append-nil, take_all, take_rest, append_assoc}
+use Rattle.layout.proofs.Names.{Bool, ℕ, List, length, take, drop, inl, inr, sym, ap, refl, arith, true, false, nat_lt, nat_tests, drop_at, take_at}
+use Rattle.layout.proofs.Names.{length-append, length-replicate, length-take-le, length-drop, take-append-drop, take-append-le, drop-append-le, between}
+use Rattle.layout.proofs.Names.{between_is, drop-put_mid, drop-drop, drop-take, take-take, take-put_mid_below, append-nil, take_all, take_rest, append_assoc}
 use Rattle.layout.proofs.Names.{take-replicate, drop-replicate, Frame, Geometry, ObjectHeader, Shape, Image, replicate, replicate-append-replicate, zeros}
 use Rattle.layout.proofs.Names.{front_bytes, slots_bytes, slots_of, node_frame_bytes, page_frame_bytes, frame_bytes, frame_length, shape_bytes, shape_end}
-use Rattle.layout.proofs.Names.{page_shape, AreBeside, IsBlankFrom, IsShapeFor, number, words_bytes, page_words, IsFrameOf, BadImage, [], cases_lt, frame_from}
-use Rattle.layout.proofs.Names.{HasZerosBeside, header_from, sectors_from, shaped_at, IsHeaderAt, Result, OnOk, subst, IfOk, IfErr, BadFrame}
+use Rattle.layout.proofs.Names.{AreBeside, IsBlankFrom, IsShapeFor, number, words_bytes, page_words, IsFrameOf, BadImage, [], cases_lt, frame_from}
+use Rattle.layout.proofs.Names.{HasZerosBeside, header_from, sectors_from, shaped_at, IsHeaderAt, Result, OnOk, subst, IfOk, IfErr, BadFrame, IsPageShape}
+use Rattle.layout.proofs.Names.{blanked}
 use Rattle.std.proofs.Common.{◌≡◌, ◌+◌, ◌-◌, ◌*◌, ◌<◌, ◌≤◌, ◌++◌, ◌∙◌, ◌∷◌}
 use Rattle.std.specs.Prelude.{if◌then◌else◌}
 use borrow.Rule.Slice.PartMut.{put_mid}
+use Rattle.layout.proofs.Blanked.{blanked_header, blanked_long, blanked_page, unblanked}
 use Rattle.layout.proofs.FrameReaders.{header_before, header_is}
 use Rattle.layout.proofs.Frames.{drop_zeros, mid_put}
 use Rattle.layout.proofs.Numbers.{length-number, length-zeros}
@@ -75,7 +77,7 @@ rest_of g n s f bytes fits e size = elim (cases_lt n g.nodes) [
       )
   | inr le ↦
       let long : length bytes ≡ 4608 = size ∙ ap (λ test. 512 * (if test then 2 else 9)) (is_page n g.nodes le) in
-      let whole : s.bytes ≡ 4608 = ap (λ (t : Shape). t.bytes) (fits.page le) in
+      let whole : s.bytes ≡ 4608 = (fits.page le).2 in
       let none : length bytes - s.bytes ≡ 0 = omega (arith, long, whole) in (
         omega (arith, long, whole),
         no_bytes (drop s.bytes bytes) (length-drop s.bytes bytes ∙ none) ∙ ap zeros (sym none),
@@ -90,6 +92,21 @@ trimmed g n s f bytes fits e size =
     let rest = rest_of g n s f bytes fits e size in
     ap (λ (end : List ℕ). take s.bytes bytes ++ end) (ap zeros (sym rest.2) ∙ sym rest.1) ∙ take-append-drop s.bytes bytes
 
+-- a frame as it is encoded has no sums
+unsummed : (g : Geometry) (n : ℕ) (s : Shape) (f : Frame) (bytes : List ℕ) → IsShapeFor g n s → bytes ≡ frame_bytes g n f →
+    length bytes ≡ 512 * frame_length g n → blanked s.has_sums (take s.bytes bytes) ≡ take s.bytes bytes
+unsummed g n s f bytes fits e size = elim (cases_lt n g.nodes) [
+  | inl lt ↦
+      subst (λ (b : Bool). blanked b (take s.bytes bytes) ≡ take s.bytes bytes) (sym (fits.node lt).2) (unblanked (take s.bytes bytes))
+  | inr le ↦
+      let rest = rest_of g n s f bytes fits e size in
+      let long : length bytes ≡ 4608 = size ∙ ap (λ test. 512 * (if test then 2 else 9)) (is_page n g.nodes le) in
+      let whole : take s.bytes bytes ≡ bytes = take_all s.bytes bytes (omega (arith, long, (fits.page le).2)) in
+      let page : bytes ≡ page_frame_bytes f = e ∙ ap (λ test. if test then node_frame_bytes f else page_frame_bytes f)
+      (is_page n g.nodes le) in
+      ap (blanked s.has_sums) (whole ∙ page) ∙ blanked_page s.has_sums f ∙ sym (whole ∙ page)
+]
+
 -- if a shape fits a number, a block of 4608 bytes can hold the number's frame from the shape's offset on
 pub has_room : (g : Geometry) (n : ℕ) (s : Shape) → IsShapeFor g n s → s.offset + 512 * frame_length g n ≤ 4608
 has_room g n s fits = elim (cases_lt n g.nodes) [
@@ -98,7 +115,7 @@ has_room g n s fits = elim (cases_lt n g.nodes) [
       subst (λ test. s.offset + 512 * (if test then 2 else 9) ≤ 4608) (sym (is_node n g.nodes lt))
       (omega (arith, fits.inside, fits.least, node.1))
   | inr le ↦ subst (λ test. s.offset + 512 * (if test then 2 else 9) ≤ 4608) (sym (is_page n g.nodes le))
-      (omega (arith, ap (λ (t : Shape). t.offset) (fits.page le)))
+      (omega (arith, (fits.page le).1))
 ]
 
 -- ---- bytes are put into a block
@@ -119,11 +136,11 @@ length-piece at k xs le = ap length (piece at k xs) ∙ length-take-le k (drop a
 module _ (s : Shape) (xs ys : List ℕ) (n : ℕ) where
   -- the frame of shape s in a block after bytes were put at its offset: these bytes, and the zeros left out
   pub put_there : s.offset ≤ length xs → s.bytes ≤ length ys → shape_bytes s (put_mid s.offset n xs ys)
-      ≡ take s.bytes ys ++ zeros (1024 - s.bytes)
+      ≡ blanked s.has_sums (take s.bytes ys) ++ zeros (1024 - s.bytes)
   put_there low few =
       let here = behind_put s.offset 0 n xs ys low in
       let at : s.offset + 0 ≡ s.offset = omega arith in
-      ap (λ (b : List ℕ). b ++ zeros (1024 - s.bytes)) (piece s.offset s.bytes (put_mid s.offset n xs ys) ∙
+      ap (λ (b : List ℕ). blanked s.has_sums b ++ zeros (1024 - s.bytes)) (piece s.offset s.bytes (put_mid s.offset n xs ys) ∙
       ap (take s.bytes) (ap (λ (m : ℕ). drop m (put_mid s.offset n xs ys)) (sym at) ∙ here)
       ∙ take-append-le s.bytes ys (drop (s.offset + n) xs) few)
 
@@ -131,10 +148,10 @@ module _ (s : Shape) (xs ys : List ℕ) (n : ℕ) where
   pub others_stay : (t : Shape) → shape_end s ≤ length xs → n ≡ s.bytes → length ys ≡ n → AreBeside s t →
       shape_bytes t (put_mid s.offset n xs ys) ≡ shape_bytes t xs
   others_stay t le whole size (inl behind) =
-      ap (λ (b : List ℕ). take (shape_end t - t.offset) b ++ zeros (1024 - t.bytes))
+      ap (λ (b : List ℕ). blanked t.has_sums (take (shape_end t - t.offset) b) ++ zeros (1024 - t.bytes))
       (drop-put_mid s.offset n xs ys t.offset (omega (arith, behind, whole)) (omega (arith, le)) size)
   others_stay t le whole size (inr before) =
-      ap (λ (b : List ℕ). b ++ zeros (1024 - t.bytes)) (between_is (put_mid s.offset n xs ys) t.offset (shape_end t) ∙
+      ap (λ (b : List ℕ). blanked t.has_sums b ++ zeros (1024 - t.bytes)) (between_is (put_mid s.offset n xs ys) t.offset (shape_end t) ∙
       ap (drop t.offset) (take-put_mid_below s.offset n xs ys (shape_end t) before (omega (arith, le)))
       ∙ sym (between_is xs t.offset (shape_end t)))
 
@@ -143,7 +160,7 @@ pub copied_there : (s : Shape) (from xs ys : List ℕ) (n : ℕ) → shape_end s
     ys ≡ between s.offset (shape_end s) from → shape_bytes s (put_mid s.offset n xs ys) ≡ shape_bytes s from
 copied_there s from xs ys n le low is =
     let size : length ys ≡ s.bytes = ap length is ∙ length-piece s.offset s.bytes from le in
-    put_there s xs ys n low (omega (arith, size)) ∙ ap (λ (b : List ℕ). b ++ zeros (1024 - s.bytes))
+    put_there s xs ys n low (omega (arith, size)) ∙ ap (λ (b : List ℕ). blanked s.has_sums b ++ zeros (1024 - s.bytes))
     (take_all s.bytes ys (omega (arith, size)) ∙ is)
 
 -- facts about a block after frame f was put into it
@@ -152,7 +169,8 @@ module _ (g : Geometry) (number : ℕ) (s : Shape) (f : Frame) (xs ys : List ℕ
     (size : length ys ≡ 512 * frame_length g number) (whole : n ≡ length ys) (low : s.offset + n ≤ length xs) where
   pub frame_put : shape_bytes s (put_mid s.offset n xs ys) ≡ frame_bytes g number f
   frame_put =
-      put_there s xs ys n (omega (arith, low)) (rest_of g number s f ys fits is size).0 ∙ trimmed g number s f ys fits is size ∙ is
+      put_there s xs ys n (omega (arith, low)) (rest_of g number s f ys fits is size).0
+      ∙ ap (λ (b : List ℕ). b ++ zeros (1024 - s.bytes)) (unsummed g number s f ys fits is size) ∙ trimmed g number s f ys fits is size ∙ is
 
   length-put : length (put_mid s.offset n xs ys) ≡ length xs
   length-put =
@@ -176,16 +194,18 @@ module _ (g : Geometry) (number : ℕ) (s : Shape) (f : Frame) (xs ys : List ℕ
 
 -- ---- a node's frame by itself
 
-pub unpacked : (s : Shape) (block node copied bytes : List ℕ) → shape_end s ≤ length block → s.bytes ≤ 1024 → length node ≡ 1024
-    → copied ≡ between s.offset (shape_end s) block → bytes ≡ take s.bytes (copied ++ drop s.bytes node) ++ zeros
+pub unpacked : (s : Shape) (block node copied bytes : List ℕ) → shape_end s ≤ length block → s.bytes ≤ 1024 → s.has_sums ≡ false
+    → length node ≡ 1024 → copied ≡ between s.offset (shape_end s) block → bytes ≡ take s.bytes (copied ++ drop s.bytes node) ++ zeros
     (length (copied ++ drop s.bytes node) - s.bytes)
     → bytes ≡ shape_bytes s block
-unpacked s block node copied bytes le few size is written =
+unpacked s block node copied bytes le few plain size is written =
     let long : length copied ≡ s.bytes = ap length is ∙ length-piece s.offset s.bytes block le in
     let rest : length (copied ++ drop s.bytes node) - s.bytes ≡ 1024 - s.bytes =
     omega (arith, length-append copied (drop s.bytes node), length-drop s.bytes node, long, size, few) in
     written ∙ ap (λ (n : ℕ). take s.bytes (copied ++ drop s.bytes node) ++ zeros n) rest
-    ∙ ap (λ (b : List ℕ). b ++ zeros (1024 - s.bytes)) (take_at copied (drop s.bytes node) s.bytes long ∙ is)
+    ∙ ap (λ (b : List ℕ). b ++ zeros (1024 - s.bytes)) (take_at copied (drop s.bytes node) s.bytes long ∙ is
+    ∙ sym (ap (λ (has : Bool). blanked has (between s.offset (shape_end s) block)) plain
+    ∙ unblanked (between s.offset (shape_end s) block)))
 
 -- ---- blocks
 
@@ -216,14 +236,32 @@ page_long f few =
     whole
 
 -- a page's frame is its whole block
-pub page_whole : (bytes : List ℕ) → length bytes ≡ 4608 → shape_bytes page_shape bytes ≡ bytes
+pub page_whole : (s : Shape) (block : List ℕ) → IsPageShape s → length block ≡ 4608 → shape_bytes s block ≡ blanked s.has_sums block
 unfolding zeros
-page_whole bytes size = append-nil (take 4608 bytes) ∙ take_all 4608 bytes (omega (arith, size))
+page_whole s block is size =
+    let none : 1024 - s.bytes ≡ 0 = omega (arith, is.2) in
+    let all : between s.offset (shape_end s) block ≡ block =
+    piece s.offset s.bytes block ∙ ap (λ (n : ℕ). take s.bytes (drop n block)) is.1 ∙ take_all s.bytes block (omega (arith, size, is.2)) in
+    ap (λ (b : List ℕ). blanked s.has_sums b ++ zeros (1024 - s.bytes)) all ∙ ap (λ (n : ℕ). blanked s.has_sums block ++ zeros n) none
+    ∙ append-nil (blanked s.has_sums block)
+
+-- a page's frame by itself
+pub page_unpacked : (s : Shape) (block copied gap : List ℕ) → IsPageShape s → s.has_sums ≡ true → length block ≡ 4608 → copied ≡ block
+    → gap ≡ zeros (length (take 480 (drop 32 copied))) → put_mid 32 480 copied gap ≡ shape_bytes s block
+unfolding blanked
+page_unpacked s block copied gap is has size same blank =
+    let rest : length (take 480 (drop 32 block)) ≡ 480 =
+    length-take-le 480 (drop 32 block) (omega (arith, length-drop 32 block, size)) in
+    let put : put_mid 32 480 copied gap ≡ take 32 block ++ zeros 480 ++ drop 512 block =
+    mid_put 32 480 copied gap ∙ ap (λ (b : List ℕ). take 32 b ++ gap ++ drop 512 b) same
+    ∙ ap (λ (z : List ℕ). take 32 block ++ z ++ drop 512 block)
+    (blank ∙ ap (λ (b : List ℕ). zeros (length (take 480 (drop 32 b)))) same ∙ ap zeros rest) in
+    put ∙ sym (page_whole s block is size ∙ ap (λ (b : Bool). blanked b block) has)
 
 -- if a frame ends within the first n bytes of a block, these bytes contain it
 pub front_shape : (s : Shape) (n : ℕ) (xs : List ℕ) → shape_end s ≤ n → shape_bytes s (take n xs) ≡ shape_bytes s xs
 front_shape s n xs le =
-    ap (λ (b : List ℕ). b ++ zeros (1024 - s.bytes)) (between_is (take n xs) s.offset (shape_end s)
+    ap (λ (b : List ℕ). blanked s.has_sums b ++ zeros (1024 - s.bytes)) (between_is (take n xs) s.offset (shape_end s)
     ∙ ap (drop s.offset) (take-take (shape_end s) n xs le) ∙
     sym (between_is xs s.offset (shape_end s)))
 
@@ -259,7 +297,8 @@ header_there image at s {block} {header} le least read is g number =
     let long : 32 ≤ length front = omega (arith, length-piece s.offset s.bytes block le, least) in
     is ∙ ap header_from (take_rest block s.offset ∙ sym (take-append-drop (shape_end s - s.offset) (drop s.offset block)))
     ∙ header_before front (drop (shape_end s - s.offset) (drop s.offset block)) long
-    ∙ sym (header_before front (zeros (1024 - s.bytes)) long)
+    ∙ sym (header_before (blanked s.has_sums front) (zeros (1024 - s.bytes)) (blanked_long s.has_sums front long)
+    ∙ blanked_header s.has_sums front long)
     ∙ sym (header_is g number (shape_bytes s block)) ∙ ap (λ (b : List ℕ). (frame_from g number (shape_bytes s b)).header) (sym read)
 
 -- if a block was written to the image, so was each frame in it
@@ -273,22 +312,28 @@ pub zeros_there : {T E : Type 0} (result : Result T E) (image : Image) (at n : �
     OnOk result (HasZerosBeside s (sectors_from image at s.sectors))
 zeros_there {T} {E} result image at n s block written zeros = grind (arith, nat_tests)
 
--- the frame of a page is its whole block
+-- a block of a page has 4608 bytes
+pub page_size : (g : Geometry) (n : ℕ) (s : Shape) (block : List ℕ) → IsShapeFor g n s → g.nodes ≤ n → length block ≡ 512 * s.sectors →
+    length block ≡ 4608
+page_size g n s block fits le size = size ∙ ap (λ (k : ℕ). 512 * k) (fits.page le).0
+
+-- without sums the frame of a page is its whole block
 pub block_page : (g : Geometry) (n : ℕ) (s : Shape) (block : List ℕ) → IsShapeFor g n s → g.nodes ≤ n → length block ≡ 512 * s.sectors →
-    shape_bytes s block ≡ block
-block_page g n s block fits le size =
-    ap (λ (t : Shape). shape_bytes t block) (fits.page le) ∙ page_whole block (size ∙ ap (λ (t : Shape). 512 * t.sectors) (fits.page le))
+    s.has_sums ≡ false → shape_bytes s block ≡ block
+block_page g n s block fits le size plain =
+    page_whole s block (fits.page le) (page_size g n s block fits le size) ∙ ap (λ (has : Bool). blanked has block) plain
+    ∙ unblanked block
 
 module _ (g : Geometry) (n age : ℕ) (s : Shape) (block : List ℕ) (fits : IsShapeFor g n s) (le : g.nodes ≤ n)
-    (size : length block ≡ 512 * s.sectors) where
+    (size : length block ≡ 512 * s.sectors) (plain : s.has_sums ≡ false) where
   pub page_found : {R E : Type 0} (result : Result R E) (frame : R → Frame) → IfOk result (λ read. IsFrameOf g age n block (frame read)) →
       IfOk result (λ read. IsFrameOf g age n (shape_bytes s block) (frame read))
   page_found {R} {E} result frame found =
-      subst (λ (b : List ℕ). IfOk result (λ read. IsFrameOf g age n b (frame read))) (sym (block_page g n s block fits le size)) found
+      subst (λ (b : List ℕ). IfOk result (λ read. IsFrameOf g age n b (frame read))) (sym (block_page g n s block fits le size plain)) found
 
   pub page_refused : {R : Type 0} (result : Result R BadImage) → IfErr result
       (λ e. (e ≡ BadFrame) × ((f : Frame) → IsFrameOf g age n block f → ⊥)) →
       IfErr result (λ e. (e ≡ BadFrame) × ((f : Frame) → IsFrameOf g age n (shape_bytes s block) f → ⊥))
   page_refused {R} result refused =
       subst (λ (b : List ℕ). IfErr result (λ e. (e ≡ BadFrame) × ((f : Frame) → IsFrameOf g age n b f → ⊥)))
-      (sym (block_page g n s block fits le size)) refused
+      (sym (block_page g n s block fits le size plain)) refused

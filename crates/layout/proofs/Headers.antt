@@ -32,10 +32,10 @@ five_read bytes m a b c d em ea eb ec ed = grind (arith, nat_tests)
 pub one_more : (b : Bool) → cond b 1 0 ≤ 1
 one_more b = grind (arith, nat_tests)
 
-sequence_fits : (room : ℕ) (h : CheckpointHeader) → IsHeader room h → h.sequence < 2 ^ 64
+sequence_fits : (room : ℕ) (h : CheckpointHeader) → IsHeader 0 room h → h.sequence < 2 ^ 64
 sequence_fits room h is = let more = one_more (h.entries == 0) in omega (arith, is.sequence, is.age, more)
 
-pub header_fits : (room : ℕ) (h : CheckpointHeader) → IsHeader room h → AllFit (0x4441_4548_534f_5245 ∷ fields h)
+pub header_fits : (room : ℕ) (h : CheckpointHeader) → IsHeader 0 room h → AllFit (0x4441_4548_534f_5245 ∷ fields h)
 header_fits room h is = (
   omega arith,
   (
@@ -53,22 +53,29 @@ pub record HasFields (h : CheckpointHeader) (m : ℕ) (found : CheckpointHeader)
   pub header_is : found ≡ h
   pub rest_is : rest ≡ zeros 472
 
-pub spelt_header : (room : ℕ) (bytes rest : List ℕ) (m : ℕ) (found h : CheckpointHeader) → AllFit (m ∷ fields found)
-    → bytes ≡ stream (m ∷ fields found) rest → IsHeader room h → bytes ≡ header_bytes h → HasFields h m found rest
-spelt_header room bytes rest m found h fits read is e =
+-- if bytes are those of five numbers, and encode h, the numbers are the magic and the fields of h
+pub spelt_fields : (bytes rest : List ℕ) (m : ℕ) (found h : CheckpointHeader) → AllFit (m ∷ fields found) →
+    bytes ≡ stream (m ∷ fields found) rest → AllFit (0x4441_4548_534f_5245 ∷ fields h) → bytes ≡ header_bytes h → HasFields h m found rest
+spelt_fields bytes rest m found h fits read all e =
     grind (
       arith,
       nat_tests,
-      stream_splits (m ∷ fields found) (0x4441_4548_534f_5245 ∷ fields h) rest (zeros 472) fits (header_fits room h is) refl (sym read ∙
-          e ∙ header_stream h),
-      header_fits room h is,
+      stream_splits (m ∷ fields found) (0x4441_4548_534f_5245 ∷ fields h) rest (zeros 472) fits all refl (sym read ∙ e ∙ header_stream h),
+      all,
       header_stream h,
     )
 
--- given bytes encode at most one header
-pub one_header : (room : ℕ) (g h : CheckpointHeader) → IsHeader room g → IsHeader room h → header_bytes g ≡ header_bytes h → g ≡ h
-one_header room g h ig ih e =
-    (spelt_header room (header_bytes g) (zeros 472) 0x4441_4548_534f_5245 g h (header_fits room g ig) (header_stream g) ih e).header_is
+pub spelt_header : (room : ℕ) (bytes rest : List ℕ) (m : ℕ) (found h : CheckpointHeader) → AllFit (m ∷ fields found)
+    → bytes ≡ stream (m ∷ fields found) rest → IsHeader 0 room h → bytes ≡ header_bytes h → HasFields h m found rest
+spelt_header room bytes rest m found h fits read is e = spelt_fields bytes rest m found h fits read (header_fits room h is) e
+
+-- given bytes encode at most one header whose fields fit 8 bytes each
+pub one_spelt : (g h : CheckpointHeader) → AllFit (0x4441_4548_534f_5245 ∷ fields g) → AllFit (0x4441_4548_534f_5245 ∷ fields h) →
+    header_bytes g ≡ header_bytes h → g ≡ h
+one_spelt g h fg fh e = (spelt_fields (header_bytes g) (zeros 472) 0x4441_4548_534f_5245 g h fg (header_stream g) fh e).header_is
+
+pub one_header : (room : ℕ) (g h : CheckpointHeader) → IsHeader 0 room g → IsHeader 0 room h → header_bytes g ≡ header_bytes h → g ≡ h
+one_header room g h ig ih e = one_spelt g h (header_fits room g ig) (header_fits room h ih) e
 
 pub header_written : (filled now : List ℕ) (h : CheckpointHeader) → filled ≡ zeros 512
     → IsWritten filled (number 0x4441_4548_534f_5245 ++ number h.sequence ++ number h.generation ++ number h.entries ++ number h.age) now 40

@@ -9,6 +9,8 @@ mod Keepables
 pub mod Directories
 pub mod Extents
 pub mod Superblocks
+pub mod DirectorySectors
+pub mod OneHeader
 pub mod Images
 pub mod Sectors
 pub mod Halves
@@ -19,7 +21,9 @@ pub mod Totals
 pub mod Denoted
 pub mod Shapes
 pub mod Versions
+pub mod Blanked
 pub mod Blocks
+pub mod Summed
 mod Runs
 pub mod GateCopies
 pub mod NumberedGates
@@ -28,7 +32,6 @@ pub mod SealedHeaders
 pub mod SealedEntries
 pub mod SealedClusters
 pub mod SealedSpelling
-pub mod SealedSuperblocks
 pub mod Roots
 pub mod SealedZeros
 pub mod SealedDeciding

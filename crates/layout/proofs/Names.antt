@@ -33,7 +33,7 @@ pub use Rattle.std.proofs.Common.{Bool, Bor, List, None, Result, Some, [], ap, a
 pub use Rattle.std.proofs.Common.{rules, set, subst, suc, sym, take, true, zero, ℕ, ⊎_elim}
 pub use Rattle.std.proofs.Math.Nat.{add-mul, mul-add, mul_assoc, mul_comm, pow-suc}
 pub use Rattle.std.proofs.Math.Seq.{drop-cons, take-add}
-pub use Rattle.std.proofs.lemmas.Bool.{cases_eq, cases_lt, eq-eqb, false≢true, le-ltb, lt-ltb, ne_eqb}
+pub use Rattle.std.proofs.lemmas.Bool.{cases_Bool, cases_eq, cases_lt, eq-eqb, false≢true, le-ltb, lt-ltb, ne_eqb}
 pub use Rattle.std.proofs.lemmas.Bool.Decides.{nat_tests}
 pub use Rattle.std.proofs.lemmas.Grind.{common_steps}
 pub use Rattle.std.proofs.lemmas.List.{append-nil, drop-append-le, drop-drop, drop-replicate, drop-take, drop_all, drop_at, drop_more, get_or-append-add}
@@ -47,7 +47,7 @@ pub use Rattle.std.proofs.lemmas.List.Elements.{All-tail, All-weaker}
 pub use Rattle.std.proofs.lemmas.List.FromFn.{get_or-map-range_with_len, length-map-range_with_len}
 pub use Rattle.std.proofs.lemmas.Nat.{from_le_bytes-to_le_bytes_4, from_le_bytes-to_le_bytes_8, le_bytes_8, le_or_l, le_or_r}
 pub use Rattle.std.proofs.lemmas.Option.{same_Some}
-pub use Rattle.std.proofs.lemmas.Result.{IfErr-weaker, IfOk-weaker, err_from_is_err_and}
+pub use Rattle.std.proofs.lemmas.Result.{IfErr-weaker, IfOk-weaker, err_from_is_err_and, on_ok_weaker}
 pub use Rattle.std.proofs.lemmas.Slice.{between_is, drop-put_mid, take-put_mid, take-put_mid_below}
 pub use Rattle.std.proofs.lemmas.Slice.Eq.{slice_eq-Decides}
 pub use Rattle.std.specs.Int.{from_le_bytes, w32, w64}
@@ -69,15 +69,18 @@ pub use Rattle.layout.specs.Half.{half_of}
 pub use Rattle.layout.specs.Header.{IsHeader}
 unfoldable pub use Rattle.layout.specs.Header.{header_bytes}
 pub use Rattle.layout.specs.Homes.{place_length, range_with}
-pub use Rattle.layout.specs.Image.{Encodes, HasDirectory, HasHeader, HasNoHeader, HasPlan, IsBadBy, IsTooSmall, SavedState, frame_in, half_sector, shaped_at}
+pub use Rattle.layout.specs.Image.{frame_in, half_sector, shaped_at}
+pub use Rattle.layout.specs.Denoted.{Encodes, HasDirectory, HasHeader, HasNoHeader, HasPlan, IsBadBy, IsTooSmall, SavedState}
 pub use Rattle.layout.specs.Image.{slot_in, total_in}
 unfoldable pub use Rattle.layout.specs.Image.{sectors_from}
-pub use Rattle.layout.specs.Shape.{AreBeside, HasZerosBeside, IsBlankFrom, IsShapeFor, node_shape, page_shape, shape_bytes, shape_end, shape_length}
+pub use Rattle.layout.specs.Shape.{AreBeside, HasZerosBeside, IsBlankFrom, IsPageShape, IsShapeFor, node_shape, page_shape, shape_bytes, shape_end}
+pub use Rattle.layout.specs.Shape.{shape_length}
+unfoldable pub use Rattle.layout.specs.Shape.{blanked}
 pub use Rattle.layout.specs.Spelt.{AreSpelt, IsSpelt, count_of, frame_read}
 unfoldable pub use Rattle.layout.specs.Spelt.{frames_read}
-pub use Rattle.layout.specs.Superblock.{AreApart, Cover, HasMark, IsApart, IsInside, IsNext, IsPlan, IsWithin, MayBegin, Plan, RangeFits, extent_at, extents}
-pub use Rattle.layout.specs.Superblock.{half_extent, half_start, plan_of, range_bytes, range_extent, unused, version_number}
-unfoldable pub use Rattle.layout.specs.Superblock.{half_length, ranges_bytes, superblock_bytes}
+pub use Rattle.layout.specs.Superblock.{AreApart, Cover, HasEnd, HasMark, IsApart, IsInside, IsNext, IsPlan, IsWithin, MayBegin, Plan, RangeFits, extent_at, extents}
+pub use Rattle.layout.specs.Superblock.{half_extent, half_start, plan_of, range_bytes, range_extent, sector_with, unused, version_number}
+unfoldable pub use Rattle.layout.specs.Superblock.{half_length, ranges_bytes, superblock_bytes, superblock_front}
 pub use Rattle.layout.specs.Version.{IsOpened, aligned, row}
 unfoldable pub use Rattle.layout.specs.Version.{directory_length}
 pub use Rattle.layout.specs.declared.bad_image.BadImage.{BadImage}
@@ -93,7 +96,6 @@ pub use Rattle.layout.specs.declared.half.Half.TheVariants.{First, Second}
 pub use Rattle.layout.specs.declared.header.CheckpointHeader.{CheckpointHeader}
 pub use Rattle.layout.specs.declared.sealed.header.SealedHeader.{SealedHeader}
 pub use Rattle.layout.specs.declared.sealed.page.PageHeader.{PageHeader}
-pub use Rattle.layout.specs.declared.sealed.superblock.SuperblockRow.{SuperblockRow}
 pub use Rattle.layout.specs.declared.shape.Shape.{Shape}
 pub use Rattle.layout.specs.declared.version.Version.{Version}
 pub use Rattle.layout.specs.declared.version.Version.TheVariants.{One, Three, Two}
@@ -105,8 +107,8 @@ unfoldable pub use Rattle.layout.specs.sealed.Gate.{gate_numbers, numbered_gate_
 pub use Rattle.layout.specs.sealed.GateLaws.{BurstsKeepNumbers, ClosedGatesHaveNone, GatesHaveOneNumber, IsWhole, WrittenGatesHaveTheirNumber}
 pub use Rattle.layout.specs.sealed.Header.{header_numbers, sealed_header_from}
 unfoldable pub use Rattle.layout.specs.sealed.Header.{sealed_header_bytes}
-pub use Rattle.layout.specs.sealed.Laws.{ClustersShowBursts, SectorsShowBursts, SpellOnePageHeader, SpellOneSealedHeader, SpellOneSealedSuperblock}
-pub use Rattle.layout.specs.sealed.Laws.{SpellOneSector, ZerosAreFree}
+pub use Rattle.layout.specs.sealed.Laws.{ClustersShowBursts, SectorsShowBursts, SpellOnePageHeader, SpellOneSealedHeader}
+pub use Rattle.layout.specs.sealed.Laws.{SpellOneSector, SuperblocksShowBursts, ZerosAreFree}
 pub use Rattle.layout.specs.sealed.Page.{HasWords, IsPage, IsPageHeader, never_used, page_header_from, page_header_numbers}
 unfoldable pub use Rattle.layout.specs.sealed.Page.{page_header_bytes}
 pub use Rattle.layout.specs.sealed.Root.{Unit, seals_total, units_total, weighed}
@@ -114,5 +116,4 @@ unfoldable pub use Rattle.layout.specs.sealed.Root.{directory_sums, root_of}
 pub use Rattle.layout.specs.sealed.RootLaws.{OneOldSectorIsSeen, OneOldUnitIsSeen, UnitsHaveNoOrder, unit_of}
 pub use Rattle.layout.specs.sealed.Sector.{AreWords}
 unfoldable pub use Rattle.layout.specs.sealed.Sector.{sector_bytes, with_seal}
-pub use Rattle.layout.specs.sealed.Superblock.{range_numbers, row_from, superblock_numbers}
-unfoldable pub use Rattle.layout.specs.sealed.Superblock.{sealed_superblock_bytes}
+pub use Rattle.layout.specs.sealed.Summed.{IfSummed, IsSummed, IsSummedIf}

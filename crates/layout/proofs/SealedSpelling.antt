@@ -1,13 +1,12 @@
 -- Bytes encode at most one value.
-use Rattle.layout.proofs.Names.{ℕ, List, [], length, get_or, drop, ap, refl, sym, arith, Entry, HomeRange, bursts_break, entries_bytes, entry_numbers}
+use Rattle.layout.proofs.Names.{ℕ, List, [], length, get_or, drop, ap, refl, sym, arith, Entry, bursts_break, entries_bytes, entry_numbers}
 use Rattle.layout.proofs.Names.{sealed_header_bytes, sealed_header_from, header_numbers, ClustersShowBursts, SectorsShowBursts, SpellOneSealedHeader}
-use Rattle.layout.proofs.Names.{SpellOnePageHeader, SpellOneSector, SpellOneSealedSuperblock, page_header_bytes, page_header_from, page_header_numbers}
-use Rattle.layout.proofs.Names.{range_numbers, row_from, sealed_superblock_bytes, superblock_numbers}
-use Rattle.std.proofs.Common.{◌≡◌, ◌≤◌, ◌∷◌, ◌∙◌}
+use Rattle.layout.proofs.Names.{SpellOnePageHeader, SpellOneSector, SuperblocksShowBursts, page_header_bytes, page_header_from, page_header_numbers}
+use Rattle.std.proofs.Common.{◌≡◌, ◌∷◌, ◌∙◌}
 use Rattle.layout.proofs.SealedEntries.{entry_of, length_numbers, numbers_fit}
 use Rattle.layout.proofs.SealedHeaders.{page_back}
 use Rattle.layout.proofs.SealedSectors.{one_sector, sector_sealed}
-use Rattle.layout.proofs.SealedSuperblocks.{length_ranges, range_of, row_back}
+use Rattle.layout.proofs.Superblocks.{superblock_sealed}
 
 pub one_header : SpellOneSealedHeader
 unfolding sealed_header_bytes
@@ -36,28 +35,12 @@ one_directory_sector ds es len few fd fe e =
     one_list ds es (one_sector (entry_numbers ds) (entry_numbers es) lens (omega (arith, length_numbers es, few)) (numbers_fit ds fd)
     (numbers_fit es fe) e)
 
--- lists of ranges with the same numbers are equal
-one_ranges : (qs rs : List HomeRange) → range_numbers qs ≡ range_numbers rs → qs ≡ rs
-one_ranges [] [] e = refl
-one_ranges [] (r ∷ rs) e = absurd (omega (arith, ap length e))
-one_ranges (q ∷ qs) [] e = absurd (omega (arith, ap length e))
-one_ranges (q ∷ qs) (r ∷ rs) e =
-    ap (λ (n : ℕ). range_of n q.count q.sector ∷ qs) (ap (λ (ns : List ℕ). get_or ns 0 0) e)
-    ∙ ap (λ (n : ℕ). range_of r.first n q.sector ∷ qs) (ap (λ (ns : List ℕ). get_or ns 1 0) e)
-    ∙ ap (λ (n : ℕ). range_of r.first r.count n ∷ qs) (ap (λ (ns : List ℕ). get_or ns 2 0) e)
-    ∙ ap (λ (rest : List HomeRange). r ∷ rest) (one_ranges qs rs (ap (λ (ns : List ℕ). drop 3 ns) e))
-
-pub one_superblock : SpellOneSealedSuperblock
-unfolding sealed_superblock_bytes
-one_superblock p q qs rs eq er fp fq e =
-    let lens : length (superblock_numbers p qs) ≡ length (superblock_numbers q rs) =
-    omega (arith, length_ranges qs, length_ranges rs, eq, er) in
-    let few : length (superblock_numbers q rs) ≤ 61 = omega (arith, length_ranges rs, er) in
-    let same = one_sector (superblock_numbers p qs) (superblock_numbers q rs) lens few fp fq e in
-    (sym (row_back p qs) ∙ ap row_from same ∙ row_back q rs, one_ranges qs rs (ap (λ (ns : List ℕ). drop 8 ns) same))
-
 pub sectors_show : SectorsShowBursts
 sectors_show i x y ms ns rx ry burst ex ey = bursts_break i x y rx ry burst (sector_sealed x ms ex) (sector_sealed y ns ey)
+
+pub superblocks_show : SuperblocksShowBursts
+superblocks_show i x y p q rx ry burst sp sq ex ey =
+    bursts_break i x y rx ry burst (superblock_sealed x p sp ex) (superblock_sealed y q sq ey)
 
 pub clusters_show : ClustersShowBursts
 clusters_show i x y m n rx ry burst cx cy = bursts_break i x y rx ry burst cx.seal cy.seal

@@ -13,8 +13,8 @@ pub node_fits : (v : Version) (g : Geometry) (n rank : ℕ) → n < g.nodes → 
 node_fits v g n rank lt below = grind (arith, nat_tests)
 
 -- the shape of a page fits a page's number
-pub page_fits : (g : Geometry) (n : ℕ) → g.nodes ≤ n → IsShapeFor g n page_shape
-page_fits g n le = grind (arith, nat_tests)
+pub page_fits : (v : Version) (g : Geometry) (n : ℕ) → g.nodes ≤ n → IsShapeFor g n (page_shape v)
+page_fits v g n le = grind (arith, nat_tests)
 
 -- the bytes of a frame depend only on its block's sectors
 pub same_shaped : (at : ℕ) (s : Shape) (old new : Image) → ((i : ℕ) → i < shape_length s → new (at + i) ≡ old (at + i)) →

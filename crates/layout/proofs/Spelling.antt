@@ -1,8 +1,11 @@
 -- Bytes that encode a value are read as that value.
 use Rattle.layout.proofs.Names.{nat_tests, ℕ, List, length, arith, same_lists, length-map-range_with_len, get_or-map-range_with_len, Frame, Geometry, frame_at}
-use Rattle.layout.proofs.Names.{blank_frame, IsKeepable, Image, Entry, CheckpointHeader, IsFrameOf, frame_bytes, frame_from, frame_in, HasPlan, HasHeader}
+use Rattle.layout.proofs.Names.{blank_frame, IsKeepable, Image, Entry, IsFrameOf, frame_bytes, frame_from, frame_in, HasPlan, HasHeader}
 use Rattle.layout.proofs.Names.{HasDirectory, Encodes, count_of, frame_read, frames_read, IsSpelt, AreSpelt, Plan}
-use Rattle.std.proofs.Common.{◌≡◌, ◌<◌}
+use Rattle.std.proofs.Common.{◌≡◌, ◌<◌, refl, subst, sym, true}
+use Rattle.layout.specs.Version.{row}
+use Rattle.layout.specs.declared.sealed.header.SealedHeader.{SealedHeader}
+use Rattle.layout.specs.sealed.Units.{HasUnits}
 use Rattle.layout.specs.Spelt.{state_in}
 use Rattle.layout.proofs.FrameReaders.{frame_again}
 
@@ -39,11 +42,22 @@ pub spelt_at : (image : Image) (p : Plan) (first second generation : ℕ) (es : 
     → IsSpelt image p second generation es n
 spelt_at image p first second generation es n is keepable = (keepable, is.1)
 
--- an image denotes the state that is read from it, if all its frames are encoded
-pub denotes : (image : Image) (size : ℕ) (p : Plan) (h : CheckpointHeader) (es : List Entry) → HasPlan image size p → HasHeader image p h →
-    HasDirectory image p h es → AreSpelt image p h.age h.generation es
-    → Encodes image size (state_in image p h es)
-denotes image size p h es plan header directory spelt = grind (arith, nat_tests, length_read, read_at)
+-- an image denotes the state that is read from it, if all its frames are encoded and, in version 3, its units are sealed
+pub denotes : (image : Image) (size : ℕ) (p : Plan) (h : SealedHeader) (es : List Entry) → HasPlan image size p → HasHeader image p h →
+    HasDirectory image p h es → AreSpelt image p h.header.age h.header.generation es
+    → ((row p.version).sealed ≡ true → HasUnits image p h.root h.header.generation es) → Encodes image size (state_in image p h.header es)
+denotes image size p h es plan header directory spelt units = record {
+  plan = plan;
+  commit = h;
+  same = refl;
+  header = header;
+  directory = directory;
+  count = length_read image p h.header.generation es;
+  each = λ n lt.
+      subst (IsFrameOf p.geometry h.header.age n (frame_in image p h.header.generation es n))
+      (sym (read_at image p h.header.generation es n lt)) (spelt n lt);
+  units = units;
+}
 
 -- the bytes of a frame that may be kept are read as that frame, and are its encoding
 pub bytes_spelt : (g : Geometry) (age n : ℕ) (bytes : List ℕ) (f : Frame) → IsKeepable g age n f → bytes ≡ frame_bytes g n f →

@@ -1,18 +1,20 @@
 -- Superblocks are read back from their bytes.
 use Rattle.layout.proofs.Names.{extents, nat_tests, [], ℕ, zero, suc, List, length, get_or, set, take, drop, refl, sym, ap, subst, append_assoc, arith, All}
-use Rattle.layout.proofs.Names.{between, replicate, codes, map, IfSome, IfNone, w32, from_le_bytes, le_bytes_8, from_le_bytes-to_le_bytes_4, same_lists}
+use Rattle.layout.proofs.Names.{between, replicate, codes, map, w32, from_le_bytes, le_bytes_8, from_le_bytes-to_le_bytes_4, same_lists}
 use Rattle.layout.proofs.Names.{take_more, take_more_set, take_all, take_at, drop_at, drop-drop, append-nil, length-append, length-replicate, get_or-replicate}
 use Rattle.layout.proofs.Names.{length-take-le, length-drop, take-append-drop, length-map, get_or_append_left, get_or-append-add, get_or-map, take-add}
 use Rattle.layout.proofs.Names.{flat_map-append, All-same, All-push, All-nil, All-tail, All-head, All-append, All-replicate, Geometry, Extent, HomeRange}
 use Rattle.layout.proofs.Names.{Version, number, half_number, zeros, Plan, version_number, plan_of, range_extent, half_extent, IsWithin, range_bytes}
-use Rattle.layout.proofs.Names.{ranges_bytes, unused, superblock_bytes, HasMark, IsPlan, RangeFits, Option, IsOpened}
+use Rattle.layout.proofs.Names.{ranges_bytes, unused, superblock_bytes, HasMark, IsPlan, RangeFits, IsOpened, HasEnd, sector_with, superblock_front}
+use Rattle.layout.proofs.Names.{Bool, true, false, row, Option, IfSome, IfNone, IsSealed, body_of, sums_bytes, sums_of, with_seal}
 use Rattle.std.proofs.Common.{◌≡◌, ◌+◌, ◌-◌, ◌*◌, ◌/◌, ◌%◌, ◌^◌, ◌<◌, ◌≤◌, ◌∷◌, ◌++◌, ◌∙◌}
 use Rattle.std.specs.Prelude.{Some, None}
 use borrow.Rule.Slice.PartMut.{put_mid}
-use Rattle.layout.proofs.Numbers.{length-number, number_splits, stream, AllFit, stream_splits, IsWritten}
+use Rattle.layout.proofs.Numbers.{length-number, length-zeros, number_splits, stream, AllFit, stream_splits, IsWritten}
 use Rattle.layout.proofs.Capabilities.{small_8}
 use Rattle.layout.proofs.Extents.{ranges_within}
 use Rattle.layout.proofs.Frames.{drop_zeros, zeros_add, zeros_none, mid_put}
+use Rattle.layout.proofs.SealedSectors.{sealed_is, sealed_seal}
 
 -- ---- ranges
 
@@ -159,14 +161,8 @@ pub version_reported : (bytes : List ℕ) (second : ℕ) (v : Version) → drop 
     → take 4 (drop 8 bytes) ≡ half_number (version_number v)
 version_reported bytes second v next fits is = ap (take 4) next ∙ front_half second (drop 16 bytes) fits ∙ ap half_number is
 
-pub mark_from : (bytes : List ℕ) (m second : ℕ) (v : Version) → bytes ≡ number m ++ drop 8 bytes →
-    drop 8 bytes ≡ number second ++ drop 16 bytes → second < 2 ^ 64
-    → m ≡ magic → second % 4294967296 ≡ version_number v → IsOpened v → drop 256 bytes ≡ zeros 256 → HasMark bytes
-mark_from bytes m second v first next fits is reported opened blank = record {
-  magic = ap (take 8) first ∙ take_at (number m) (drop 8 bytes) 8 (length-number m) ∙ ap number is ∙ sym magic_is;
-  version = (v, version_reported bytes second v next fits reported, opened);
-  blank = blank;
-}
+pub magic_is_read : (bytes : List ℕ) (m : ℕ) → bytes ≡ number m ++ drop 8 bytes → m ≡ magic → take 8 bytes ≡ codes "EROSCKPT"
+magic_is_read bytes m first is = ap (take 8) first ∙ take_at (number m) (drop 8 bytes) 8 (length-number m) ∙ ap number is ∙ sym magic_is
 
 pub magic_from : (bytes : List ℕ) (m : ℕ) → bytes ≡ number m ++ drop 8 bytes → m < 2 ^ 64 → HasMark bytes → m ≡ magic
 magic_from bytes m first fits mark =
@@ -181,27 +177,25 @@ version_from bytes second v next fits is = grind (arith, nat_tests, half_reporte
 
 -- ---- what a version found in a sector implies
 
-module _ (bytes : List ℕ) (m second : ℕ) (first : bytes ≡ number m ++ drop 8 bytes) (next : drop 8 bytes ≡ number second ++ drop 16 bytes)
-    (fits : second < 2 ^ 64) where
-  pub marked : (found : Option Version) → m ≡ magic → drop 256 bytes ≡ zeros 256 →
-      IfSome found (λ v. second % 4294967296 ≡ version_number v) → IfSome found (λ v. IsOpened v) → IfSome found (λ _. HasMark bytes)
-  marked None is blank reported opened = reported
-  marked (Some v) is blank reported opened = mark_from bytes m second v first next fits is reported opened blank
+module _ (bytes : List ℕ) (second : ℕ) (next : drop 8 bytes ≡ number second ++ drop 16 bytes) (fits : second < 2 ^ 64) where
+  unmarked : ((v : Version) → IsOpened v → second % 4294967296 ≡ version_number v → ⊥) → HasMark bytes → ⊥
+  unmarked none mark = none mark.version.0 mark.version.2 (version_from bytes second mark.version.0 next fits mark.version.1)
 
-  pub versions_reported : (found : Option Version) → IfSome found (λ v. second % 4294967296 ≡ version_number v) →
-      IfSome found (λ v. take 4 (drop 8 bytes) ≡ half_number (version_number v))
-  versions_reported None reported = reported
-  versions_reported (Some v) reported = version_reported bytes second v next fits reported
-
-  pub unmarked : (found : Option Version) → IfNone found ((v : Version) → IsOpened v → second % 4294967296 ≡ version_number v → ⊥) →
+  pub none_unmarked : (found : Option Version) → ((v : Version) → IsOpened v → second % 4294967296 ≡ version_number v → ⊥) →
       IfNone found (HasMark bytes → ⊥)
-  unmarked None reported = λ mark. reported mark.version.0 mark.version.2 (version_from bytes second mark.version.0 next fits
-      mark.version.1)
-  unmarked (Some v) reported = reported
+  none_unmarked None none = unmarked none
+  none_unmarked (Some v) none = tt
 
--- a sector with the right magic and version begins with the magic's bytes
-pub magic_read : (bytes : List ℕ) → HasMark bytes → bytes ≡ number magic ++ drop 8 bytes
-magic_read bytes mark = sym (take-append-drop 8 bytes) ∙ ap (λ (m : List ℕ). m ++ drop 8 bytes) (mark.magic ∙ magic_is)
+  -- a sector with a mark and this version has the end of this version
+  pub end_from : (v : Version) → second % 4294967296 ≡ version_number v → HasMark bytes → HasEnd (row v).sealed bytes
+  end_from v is mark =
+      let same : mark.version.0 ≡ v =
+      one_version mark.version.0 v (sym (version_from bytes second mark.version.0 next fits mark.version.1) ∙ is) in
+      subst (λ (w : Version). HasEnd (row w).sealed bytes) same mark.blank
+
+-- a sector with the right magic begins with it
+pub magic_read : (bytes : List ℕ) → take 8 bytes ≡ codes "EROSCKPT" → bytes ≡ number magic ++ drop 8 bytes
+magic_read bytes is = sym (take-append-drop 8 bytes) ∙ ap (λ (m : List ℕ). m ++ drop 8 bytes) (is ∙ magic_is)
 
 -- ---- whole superblocks
 
@@ -219,19 +213,37 @@ deep : (m v n a b c d e f r z : List ℕ) →
     m ++ v ++ n ++ a ++ b ++ c ++ d ++ e ++ f ++ r ++ z ≡ m ++ ((v ++ n) ++ (a ++ (b ++ (c ++ (d ++ (e ++ (f ++ (r ++ z))))))))
 deep m v n a b c d e f r z = simp append_assoc
 
-pub plan_stream : (p : Plan) → length p.ranges ≤ 8 → superblock_bytes p ≡ stream (magic ∷ second_of p ∷ numbers_of p)
-    (ranges_bytes (eight_ranges p.ranges) ++ zeros 256)
-unfolding superblock_bytes
-plan_stream p few =
+pub front_stream : (p : Plan) (z : List ℕ) → length p.ranges ≤ 8 → superblock_front p ++ z
+    ≡ stream (magic ∷ second_of p ∷ numbers_of p) (ranges_bytes (eight_ranges p.ranges) ++ z)
+unfolding superblock_front
+front_stream p z few =
     let small : version_number p.version < 2 ^ 32 = omega (arith, few_versions p.version) in
     deep (codes "EROSCKPT") (half_number (version_number p.version)) (half_number (length p.ranges)) (number p.geometry.nodes)
     (number p.geometry.pages)
-    (number p.geometry.log) (number p.half_0) (number p.half_1) (number p.total) (ranges_bytes (eight_ranges p.ranges)) (zeros 256)
+    (number p.geometry.log) (number p.half_0) (number p.half_1) (number p.total) (ranges_bytes (eight_ranges p.ranges)) z
     ∙ ap (λ (m : List ℕ). m ++
     ((half_number (version_number p.version) ++ half_number (length p.ranges)) ++ stream (numbers_of p)
-    (ranges_bytes (eight_ranges p.ranges) ++ zeros 256))) magic_is
-    ∙ ap (λ (v : List ℕ). number magic ++ (v ++ stream (numbers_of p) (ranges_bytes (eight_ranges p.ranges) ++ zeros 256)))
+    (ranges_bytes (eight_ranges p.ranges) ++ z))) magic_is
+    ∙ ap (λ (v : List ℕ). number magic ++ (v ++ stream (numbers_of p) (ranges_bytes (eight_ranges p.ranges) ++ z)))
     (halves_number (version_number p.version) (length p.ranges) small (omega arith))
+
+-- what follows the front in a sector, which may be sealed
+abbrev pub end_with : Bool → List ℕ → List ℕ
+end_with true front = zeros 232 ++ sums_bytes (sums_of (front ++ zeros 232))
+end_with false front = zeros 256
+
+abbrev pub end_of : Plan → List ℕ
+end_of p = end_with (row p.version).sealed (superblock_front p)
+
+with_end : (sealed : Bool) (front : List ℕ) → sector_with sealed front ≡ front ++ end_with sealed front
+unfolding with_seal
+with_end true front = append_assoc front (zeros 232) (sums_bytes (sums_of (front ++ zeros 232)))
+with_end false front = refl
+
+pub plan_stream : (p : Plan) → length p.ranges ≤ 8 → superblock_bytes p ≡ stream (magic ∷ second_of p ∷ numbers_of p)
+    (ranges_bytes (eight_ranges p.ranges) ++ end_of p)
+unfolding superblock_bytes
+plan_stream p few = with_end (row p.version).sealed (superblock_front p) ∙ front_stream p (end_of p) few
 
 -- the numbers of a valid superblock fit their bytes
 pub record PlanFits (p : Plan) : Type 0 where
@@ -305,9 +317,9 @@ pub plan_reported : (p : Plan) (v : Version) (bytes : List ℕ) (m second : ℕ)
 plan_reported p v bytes m second g all half_0 half_1 total fits ranges_fit eight read version is e =
     let pf = plan_fits p is in
     let s = stream_splits (m ∷ second ∷ numbers_of (plan_of v g all half_0 half_1 total)) (magic ∷ second_of p ∷ numbers_of p)
-    (ranges_bytes all ++ drop 256 bytes) (ranges_bytes (eight_ranges p.ranges) ++ zeros 256) fits pf.numbers refl
+    (ranges_bytes all ++ drop 256 bytes) (ranges_bytes (eight_ranges p.ranges) ++ end_of p) fits pf.numbers refl
     (sym read ∙ e ∙ plan_stream p is.few) in
-    let rest = ranges_split all (eight_ranges p.ranges) (drop 256 bytes) (zeros 256) ranges_fit pf.ranges
+    let rest = ranges_split all (eight_ranges p.ranges) (drop 256 bytes) (end_of p) ranges_fit pf.ranges
     (eight ∙ sym (eight_long p.ranges is.few)) s.1 in
     let one = list_tail m magic (second ∷ numbers_of (plan_of v g all half_0 half_1 total)) (second_of p ∷ numbers_of p) s.0 in
     let two = list_tail second (second_of p) (numbers_of (plan_of v g all half_0 half_1 total)) (numbers_of p) one.1 in
@@ -349,13 +361,105 @@ all_from all used eight few blank =
     sym (take-append-drop used all) ∙ ap (λ (r : List HomeRange). take used all ++ r)
     (behind ∙ ap (λ (n : ℕ). replicate (8 - n) unused) (sym size))
 
+pub front_long : (p : Plan) → length p.ranges ≤ 8 → length (superblock_front p) ≡ 256
+unfolding superblock_front
+front_long p few = grind (arith, nat_tests, length-append, length-half, length-number, length-ranges, eight_long p.ranges few)
+
+-- the body of a sector with this front and zeros
+blank_body : (front : List ℕ) → length front ≡ 256 → body_of (front ++ zeros 256) ≡ front ++ zeros 232
+blank_body front long =
+    let apart : front ++ zeros 256 ≡ (front ++ zeros 232) ++ zeros 24 =
+    ap (λ (z : List ℕ). front ++ z) (sym (zeros_add 232 24)) ∙ sym (append_assoc front (zeros 232) (zeros 24)) in
+    let size : length (front ++ zeros 256) - 24 ≡ 488 = omega (arith, length-append front (zeros 256), length-zeros 256, long) in
+    let body : length (front ++ zeros 232) ≡ 488 = omega (arith, length-append front (zeros 232), length-zeros 232, long) in
+    ap (λ (n : ℕ). take n (front ++ zeros 256)) size ∙ ap (take 488) apart ∙ take_at (front ++ zeros 232) (zeros 24) 488 body
+
+-- a front, then zeros, sealed if the version is
+pub plan_sealed : (p : Plan) (blank new : List ℕ) → length p.ranges ≤ 8 → (row p.version).sealed ≡ true →
+    blank ≡ superblock_front p ++ zeros 256 → IsSealed new → body_of new ≡ body_of blank → new ≡ superblock_bytes p
+unfolding superblock_bytes
+plan_sealed p blank new few is was sealed body =
+    sealed_is new (superblock_front p ++ zeros 232) sealed (body ∙ ap body_of was ∙ blank_body (superblock_front p) (front_long p few))
+    ∙ ap (λ (s : Bool). sector_with s (superblock_front p)) (sym is)
+
+pub plan_unsealed : (p : Plan) (new : List ℕ) → (row p.version).sealed ≡ false → new ≡ superblock_front p ++ zeros 256 →
+    new ≡ superblock_bytes p
+unfolding superblock_bytes
+plan_unsealed p new is was = was ∙ ap (λ (s : Bool). sector_with s (superblock_front p)) (sym is)
+
+-- bytes that begin with a front and have the right end are the sector with this front
+end_found : (sealed : Bool) (bytes front : List ℕ) → length bytes ≡ 512 → bytes ≡ front ++ drop 256 bytes → HasEnd sealed bytes →
+    bytes ≡ sector_with sealed front
+end_found true bytes front size is ends =
+    let long : length front ≡ 256 = omega (arith, ap length is, length-append front (drop 256 bytes), length-drop 256 bytes, size) in
+    let begins : take 256 bytes ≡ front = ap (take 256) is ∙ take_at front (drop 256 bytes) 256 long in
+    let body : body_of bytes ≡ front ++ zeros 232 =
+    ap (λ (n : ℕ). take (n - 24) bytes) size ∙ take-add 256 232 bytes
+    ∙ ap (λ (b : List ℕ). b ++ take 232 (drop 256 bytes)) begins ∙ ap (λ (z : List ℕ). front ++ z) ends.0 in
+    sealed_is bytes (front ++ zeros 232) ends.1 body
+end_found false bytes front size is ends = is ∙ ap (λ (z : List ℕ). front ++ z) ends
+
+-- a sector with a front has the right end
+has_end : (sealed : Bool) (front : List ℕ) → length front ≡ 256 → HasEnd sealed (sector_with sealed front)
+has_end true front long = (
+  ap (λ (b : List ℕ). take 232 (drop 256 b)) (with_end true front)
+      ∙ ap (take 232) (drop_at front (end_with true front) 256 long)
+      ∙ take_at (zeros 232) (sums_bytes (sums_of (front ++ zeros 232))) 232 (length-zeros 232),
+  sealed_seal (sector_with true front) (front ++ zeros 232) refl,
+)
+has_end false front long = drop_at front (zeros 256) 256 long
+
+pub superblock_sealed : (bytes : List ℕ) (p : Plan) → (row p.version).sealed ≡ true → bytes ≡ superblock_bytes p → IsSealed bytes
+unfolding superblock_bytes
+superblock_sealed bytes p is e =
+    sealed_seal bytes (superblock_front p ++ zeros 232) (e ∙ ap (λ (s : Bool). sector_with s (superblock_front p)) is)
+
+-- the bytes of a superblock have its magic, its version, and the end of its version
+pub marked : (p : Plan) → length p.ranges ≤ 8 → IsOpened p.version → HasMark (superblock_bytes p)
+unfolding superblock_bytes number
+marked p few opened =
+    let e : superblock_bytes p ≡ number magic ++ stream (second_of p ∷ numbers_of p) (ranges_bytes (eight_ranges p.ranges) ++ end_of p) =
+    plan_stream p few in
+    let next : drop 8 (superblock_bytes p) ≡ number (second_of p) ++ stream (numbers_of p) (ranges_bytes
+    (eight_ranges p.ranges) ++ end_of p)
+    = ap (drop 8) e ∙ drop_at (number magic) (stream (second_of p ∷ numbers_of p) (ranges_bytes (eight_ranges p.ranges) ++ end_of p)) 8 refl
+    in
+    let small : version_number p.version < 2 ^ 32 = omega (arith, few_versions p.version) in
+    record {
+      magic = ap (take 8) e ∙ take_at (number magic) (stream (second_of p ∷ numbers_of p) (ranges_bytes
+          (eight_ranges p.ranges) ++ end_of p))
+          8 refl ∙ sym magic_is;
+      version = (
+        p.version,
+        ap (take 4) next
+            ∙ front_half (second_of p) (stream (numbers_of p) (ranges_bytes (eight_ranges p.ranges) ++ end_of p))
+            (omega (arith, few, few_versions p.version))
+            ∙ ap half_number (omega (arith, few, few_versions p.version)),
+        opened,
+      );
+      blank = has_end (row p.version).sealed (superblock_front p) (front_long p few);
+    }
+
+-- a superblock with a mark has a version that programs open
+pub opened_of : (p : Plan) → length p.ranges ≤ 8 → HasMark (superblock_bytes p) → IsOpened p.version
+unfolding number
+opened_of p few mark =
+    let e = plan_stream p few in
+    let small = few_versions p.version in
+    let read : second_of p % 4294967296 ≡ version_number mark.version.0 =
+    version_from (superblock_bytes p) (second_of p) mark.version.0 (rw e refl) (omega (arith, few, small)) mark.version.1 in
+    subst IsOpened (one_version mark.version.0 p.version (omega (arith, read, small))) mark.version.2
+
 pub plan_found : (v : Version) (bytes : List ℕ) (second : ℕ) (g : Geometry) (all : List HomeRange) (half_0 half_1 total used : ℕ)
     → bytes ≡ stream (magic ∷ second ∷ numbers_of (plan_of v g all half_0 half_1 total)) (ranges_bytes all ++ drop 256 bytes)
     → second % 4294967296 ≡ version_number v → used ≡ second / 4294967296 → used ≤ 8 → length all ≡ 8 →
-    All (λ r. r ≡ unused) (drop used all) → drop 256 bytes ≡ zeros 256
+    All (λ r. r ≡ unused) (drop used all) → length bytes ≡ 512 → HasEnd (row v).sealed bytes
     → bytes ≡ superblock_bytes (plan_of v g (take used all) half_0 half_1 total)
-plan_found v bytes second g all half_0 half_1 total used read version u few eight others blank =
-    grind (arith, nat_tests, length-take-le, all_from, plan_stream)
+unfolding superblock_bytes
+plan_found v bytes second g all half_0 half_1 total used read version u few eight others size ends =
+    let p : Plan = plan_of v g (take used all) half_0 half_1 total in
+    let begins : bytes ≡ superblock_front p ++ drop 256 bytes = grind (arith, nat_tests, length-take-le, all_from, front_stream) in
+    end_found (row v).sealed bytes (superblock_front p) size begins ends
 
 -- if eight numbers were read, then the ranges, the bytes are theirs
 pub eight_read : (bytes : List ℕ) (m s a b c d e f : ℕ) (all : List HomeRange) → bytes ≡ number m ++ drop 8 bytes →
@@ -373,9 +477,9 @@ one_plan p q ip iq e =
     let pf = plan_fits p ip in
     let qf = plan_fits q iq in
     let s = stream_splits (magic ∷ second_of p ∷ numbers_of p) (magic ∷ second_of q ∷ numbers_of q)
-    (ranges_bytes (eight_ranges p.ranges) ++ zeros 256) (ranges_bytes (eight_ranges q.ranges) ++ zeros 256) pf.numbers qf.numbers refl
+    (ranges_bytes (eight_ranges p.ranges) ++ end_of p) (ranges_bytes (eight_ranges q.ranges) ++ end_of q) pf.numbers qf.numbers refl
     (sym (plan_stream p ip.few) ∙ e ∙ plan_stream q iq.few) in
-    let rest = ranges_split (eight_ranges p.ranges) (eight_ranges q.ranges) (zeros 256) (zeros 256) pf.ranges qf.ranges
+    let rest = ranges_split (eight_ranges p.ranges) (eight_ranges q.ranges) (end_of p) (end_of q) pf.ranges qf.ranges
     (eight_long p.ranges ip.few ∙ sym (eight_long q.ranges iq.few)) s.1 in
     let one = list_tail magic magic (second_of p ∷ numbers_of p) (second_of q ∷ numbers_of q) s.0 in
     let two = list_tail (second_of p) (second_of q) (numbers_of p) (numbers_of q) one.1 in
@@ -435,7 +539,7 @@ pub plan_written : (p : Plan) (blanked eight new : List ℕ) (k : ℕ) → lengt
     → IsWritten blanked (number magic ++ number (second_of p) ++ number p.geometry.nodes ++ number p.geometry.pages ++ number p.geometry.log
     ++ number p.half_0
     ++ number p.half_1 ++ number p.total) eight 64
-    → k ≡ 24 * length p.ranges → new ≡ put_mid 64 k eight (ranges_bytes p.ranges) → new ≡ superblock_bytes p
+    → k ≡ 24 * length p.ranges → new ≡ put_mid 64 k eight (ranges_bytes p.ranges) → new ≡ superblock_front p ++ zeros 256
 plan_written p blanked eight new k few blank was size is =
     let n : ℕ = length p.ranges in
     let front : List ℕ = number magic ++ number (second_of p) ++ number p.geometry.nodes ++ number p.geometry.pages ++ number p.geometry.log
@@ -458,7 +562,7 @@ plan_written p blanked eight new k few blank was size is =
     ∙ front_deep (number magic) (number (second_of p)) (number p.geometry.nodes) (number p.geometry.pages) (number p.geometry.log)
     (number p.half_0)
     (number p.half_1) (number p.total) (ranges_bytes (eight_ranges p.ranges) ++ zeros 256)
-    ∙ sym (plan_stream p few)
+    ∙ sym (front_stream p (zeros 256) few)
 
 pub front_same : (v n p r a b t v' n' p' r' a' b' t' : ℕ) → v ≡ v' → n ≡ n' → p ≡ p' → r ≡ r' → a ≡ a' → b ≡ b' → t ≡ t'
     → number magic ++ number v ++ number n ++ number p ++ number r ++ number a ++ number b ++ number t

@@ -39,7 +39,7 @@ rank_in v (Some r) object = (object - r.first) % (row v).cluster_nodes
 -- where an object's frame lies in its block; the same at home and in the log
 abbrev pub shape_of : Plan → ℕ → Shape
 shape_of p object = if nat_lt object p.geometry.nodes then node_shape p.version
-    (rank_in p.version (range_with p.ranges object) object) else page_shape
+    (rank_in p.version (range_with p.ranges object) object) else page_shape p.version
 
 -- how many sectors the block of an object's frame takes
 abbrev pub place_length : Plan → ℕ → ℕ

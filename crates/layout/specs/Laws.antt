@@ -12,7 +12,7 @@ use Rattle.layout.specs.Directory.{directory_bytes, IsDirectory}
 use Rattle.layout.specs.Frame.{IsFrameOf}
 use Rattle.layout.specs.FrameReader.{frame_from}
 use Rattle.layout.specs.Superblock.{Plan, superblock_bytes, IsPlan}
-use Rattle.layout.specs.Image.{SavedState, Encodes}
+use Rattle.layout.specs.Denoted.{SavedState, Encodes}
 
 abbrev pub SpellOneCapability : Type 0
 SpellOneCapability = (g : Geometry) (age : ℕ) (b c : Cap) → IsKeptCap g age b → IsKeptCap g age c →
@@ -22,7 +22,7 @@ abbrev pub SpellOneGate : Type 0
 SpellOneGate = (g : Gate) → gate_of (gate_bytes g) ≡ g
 
 abbrev pub SpellOneHeader : Type 0
-SpellOneHeader = (room : ℕ) (g h : CheckpointHeader) → IsHeader room g → IsHeader room h →
+SpellOneHeader = (room : ℕ) (g h : CheckpointHeader) → IsHeader 0 room g → IsHeader 0 room h →
     header_bytes g ≡ header_bytes h → g ≡ h
 
 abbrev pub SpellOneDirectory : Type 0

@@ -12,6 +12,8 @@ pub mod Superblock
 pub mod Shape
 pub mod Homes
 pub mod Image
+pub mod Committed
+pub mod Denoted
 pub mod Laws
 pub mod FrameReader
 pub mod Spelt

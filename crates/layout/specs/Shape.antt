@@ -1,6 +1,6 @@
 -- Where the frame of an object lies in its block of sectors.
-use Rattle.layout.specs.Names.{ℕ, List, length, take, drop, between, Geometry}
-use Rattle.std.specs.Prelude.{◌≡◌, ◌⊎◌, ◌+◌, ◌-◌, ◌*◌, ◌<◌, ◌≤◌, ◌++◌}
+use Rattle.layout.specs.Names.{ℕ, Bool, List, length, take, drop, between, Geometry}
+use Rattle.std.specs.Prelude.{◌≡◌, ◌⊎◌, ◌+◌, ◌-◌, ◌*◌, ◌<◌, ◌≤◌, ◌++◌, true, false}
 use Rattle.layout.specs.declared.shape.Shape.{Shape}
 use Rattle.layout.specs.declared.version.Version.{Version}
 use Rattle.layout.specs.Bytes.{zeros}
@@ -12,11 +12,12 @@ node_shape v rank = record {
   sectors = (row v).cluster_sectors;
   offset = (row v).node_bytes * rank;
   bytes = (row v).node_bytes;
+  has_sums = false;
 }
 
 -- a page's frame fills its block
-abbrev pub page_shape : Shape
-page_shape = record { sectors = 9; offset = 0; bytes = 4608 }
+abbrev pub page_shape : Version → Shape
+page_shape v = record { sectors = 9; offset = 0; bytes = 4608; has_sums = (row v).sealed }
 
 -- how many sectors a frame's block takes
 abbrev pub shape_length : Shape → ℕ
@@ -26,17 +27,26 @@ shape_length s = s.sectors
 abbrev pub shape_end : Shape → ℕ
 shape_end s = s.offset + s.bytes
 
--- a frame's bytes, from its block, with zeros added to 1024 bytes for a packed node frame
+-- a frame's bytes without its sums and seal
+unfoldable pub blanked : Bool → List ℕ → List ℕ
+blanked false bytes = bytes
+blanked true bytes = take 32 bytes ++ zeros 480 ++ drop 512 bytes
+
+-- a frame's bytes, from its block, without sums and seal, and with zeros added to 1024 bytes for a packed node frame
 abbrev pub shape_bytes : Shape → List ℕ → List ℕ
-shape_bytes s block = between s.offset (shape_end s) block ++ zeros (1024 - s.bytes)
+shape_bytes s block = blanked s.has_sums (between s.offset (shape_end s) block) ++ zeros (1024 - s.bytes)
+
+-- a frame of this shape is a page's: it fills its block
+abbrev pub IsPageShape : Shape → Type 0
+IsPageShape s = (s.sectors ≡ 9) × (s.offset ≡ 0) × (s.bytes ≡ 4608)
 
 -- frames of this number may have this shape
 pub record IsShapeFor (g : Geometry) (number : ℕ) (s : Shape) : Type 0 where
   pub inside : shape_end s ≤ 512 * s.sectors
   pub few : s.sectors ≤ 9
   pub least : 800 ≤ s.bytes
-  pub node : number < g.nodes → (s.bytes ≤ 1024) × (s.sectors ≤ 8)
-  pub page : g.nodes ≤ number → s ≡ page_shape
+  pub node : number < g.nodes → (s.bytes ≤ 1024) × (s.sectors ≤ 8) × (s.has_sums ≡ false)
+  pub page : g.nodes ≤ number → IsPageShape s
 
 -- frames of these shapes share no byte of a block
 abbrev pub AreBeside : Shape → Shape → Type 0

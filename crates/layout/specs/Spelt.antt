@@ -5,7 +5,8 @@ use Rattle.layout.specs.declared.directory.Entry.{Entry}
 use Rattle.layout.specs.declared.header.CheckpointHeader.{CheckpointHeader}
 use Rattle.layout.specs.Frame.{IsFrameOf}
 use Rattle.layout.specs.FrameReader.{frame_from}
-use Rattle.layout.specs.Image.{frame_in, SavedState}
+use Rattle.layout.specs.Image.{frame_in}
+use Rattle.layout.specs.Denoted.{SavedState}
 use Rattle.layout.specs.Superblock.{Plan}
 
 -- how many objects there are

@@ -1,7 +1,7 @@
 -- The superblock: how many objects a device holds, and where its parts lie.
-use Rattle.layout.specs.Names.{ℕ, nat_lt, List, [], length, map, take, drop, replicate, slice_index_or, codes, All}
+use Rattle.layout.specs.Names.{ℕ, nat_lt, Bool, List, [], length, map, take, drop, replicate, slice_index_or, codes, All}
 use Rattle.layout.specs.Names.{flat_map, Geometry}
-use Rattle.std.specs.Prelude.{◌≡◌, ◌⊎◌, ◌+◌, ◌-◌, ◌*◌, ◌/◌, ◌%◌, ◌<◌, ◌≤◌, ◌^◌, if◌then◌else◌, ◌∷◌, ◌++◌}
+use Rattle.std.specs.Prelude.{◌≡◌, ◌⊎◌, ◌+◌, ◌-◌, ◌*◌, ◌/◌, ◌%◌, ◌<◌, ◌≤◌, ◌^◌, if◌then◌else◌, ◌∷◌, ◌++◌, true, false}
 use Rattle.layout.specs.declared.bad_image.BadImage.{BadImage}
 use Rattle.layout.specs.declared.bad_image.BadImage.TheVariants.{NotASuperblock, BadGeometry}
 use Rattle.layout.specs.declared.extent.Extent.{Extent}
@@ -11,6 +11,8 @@ use Rattle.layout.specs.declared.half.Half.TheVariants.{First, Second}
 use Rattle.layout.specs.declared.version.Version.{Version}
 use Rattle.layout.specs.Bytes.{number, half_number, zeros}
 use Rattle.layout.specs.Version.{IsOpened, aligned, directory_length, row}
+use Rattle.layout.specs.sealed.Sector.{with_seal}
+use Rattle.seal.specs.Seal.{IsSealed}
 
 -- the number of a version in a superblock
 abbrev pub version_number : Version → ℕ
@@ -35,19 +37,33 @@ ranges_bytes rs = flat_map range_bytes rs
 abbrev pub unused : HomeRange
 unused = record { first = 0; count = 0; sector = 0 }
 
--- the sector of a superblock: eight ranges, the unused ones last
-unfoldable pub superblock_bytes : Plan → List ℕ
-superblock_bytes p =
+-- the first 256 bytes of a superblock: eight ranges, the unused ones last
+unfoldable pub superblock_front : Plan → List ℕ
+superblock_front p =
     codes "EROSCKPT" ++ half_number (version_number p.version) ++ half_number (length p.ranges)
     ++ number p.geometry.nodes ++ number p.geometry.pages ++ number p.geometry.log
     ++ number p.half_0 ++ number p.half_1 ++ number p.total
-    ++ ranges_bytes (p.ranges ++ replicate (8 - length p.ranges) unused) ++ zeros 256
+    ++ ranges_bytes (p.ranges ++ replicate (8 - length p.ranges) unused)
+
+-- a sector with this front, then zeros, and a seal if it is sealed
+abbrev pub sector_with : Bool → List ℕ → List ℕ
+sector_with true front = with_seal (front ++ zeros 232)
+sector_with false front = front ++ zeros 256
+
+-- the sector of a superblock
+unfoldable pub superblock_bytes : Plan → List ℕ
+superblock_bytes p = sector_with (row p.version).sealed (superblock_front p)
+
+-- the bytes from 256 on are zeros, apart from the seal if the sector is sealed
+abbrev pub HasEnd : Bool → List ℕ → Type 0
+HasEnd true bytes = (take 232 (drop 256 bytes) ≡ zeros 232) × IsSealed bytes
+HasEnd false bytes = drop 256 bytes ≡ zeros 256
 
 -- magic, version and the bytes from 256 on are those of a superblock that programs open
 pub record HasMark (bytes : List ℕ) : Type 0 where
   pub magic : take 8 bytes ≡ codes "EROSCKPT"
   pub version : (v : Version) × (take 4 (drop 8 bytes) ≡ half_number (version_number v)) × IsOpened v
-  pub blank : drop 256 bytes ≡ zeros 256
+  pub blank : HasEnd (row version.0).sealed bytes
 
 -- the limits of the numbers of nodes, pages and log slots
 pub record IsGeometry (g : Geometry) : Type 0 where
@@ -117,9 +133,8 @@ extent_at es i = slice_index_or es i (record { sector = 0; length = 0 })
 abbrev pub AreApart : List Extent → Type 0
 AreApart es = (i j : ℕ) → i < j → j < length es → IsApart (extent_at es i) (extent_at es j)
 
--- a valid superblock; programs do not open version 3 yet
+-- a valid superblock
 pub record IsPlan (p : Plan) : Type 0 where
-  pub unsealed : IsOpened p.version
   pub geometry : IsGeometry p.geometry
   pub some : 1 ≤ length p.ranges
   pub few : length p.ranges ≤ 8

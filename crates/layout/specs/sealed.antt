@@ -4,11 +4,10 @@ pub mod Sector
 pub mod Header
 pub mod Directory
 pub mod Page
+pub mod Summed
 pub mod Cluster
 pub mod Laws
-pub mod Superblock
-pub mod Plan
 pub mod Root
 pub mod RootLaws
 pub mod Opening
-pub mod Image
+pub mod Units

@@ -1,14 +1,16 @@
 // The frames in a block.
-ghost use Rattle.std.specs.Prelude.{◌≡◌, ◌+◌, ◌*◌, ◌≤◌, length, take, drop};
+ghost use Rattle.std.specs.Prelude.{◌≡◌, ◌+◌, ◌*◌, ◌≤◌, length, take, drop, true, false};
 ghost use Rattle.layout.specs.declared.shape.Shape.{Shape};
-ghost use Rattle.layout.specs.Frame.{frame_bytes, frame_length};
-ghost use Rattle.layout.specs.Shape.{AreBeside, IsBlankFrom, IsShapeFor, shape_bytes, shape_end};
+ghost use Rattle.layout.specs.Frame.{frame_bytes, frame_length, front_bytes};
+ghost use Rattle.layout.specs.Shape.{AreBeside, IsBlankFrom, IsPageShape, IsShapeFor, shape_bytes, shape_end};
+ghost use Rattle.layout.specs.sealed.Summed.{IfSummed};
 ghost use Rattle.model.specs.Frame.{content_behind};
 
-use crate::bytes::blank_from;
+use crate::bytes::{blank, blank_from};
 use crate::frame::encode_frame;
 use crate::node_frame::NODE_FRAME_BYTES;
 use crate::page_frame::PAGE_FRAME_BYTES;
+use crate::sealed::seal_page;
 use crate::shape::Shape;
 use model::{Cap, ContentRef, Geometry, ObjectHeader};
 
@@ -19,6 +21,7 @@ pub const BLOCK_BYTES: usize = 4608;
 pub fn unpack_node(block: &[u8], shape: Shape, node: &mut [u8])
     requires block { shape_end shape ≤ length block.now }
     requires shape { shape.bytes ≤ 1024 }
+    requires plain { shape.has_sums ≡ false }
     requires node { length node.old ≡ 1024 }
     ensures { node.new ≡ shape_bytes shape block.now }
 {
@@ -26,6 +29,19 @@ pub fn unpack_node(block: &[u8], shape: Shape, node: &mut [u8])
     let size = shape.bytes as usize;
     node[..size].copy_from_slice(&block[at..at + size]);
     blank_from(node, size);
+}
+
+/// Copies a page's frame from its block into the 4608 bytes of `page`, without its sums and seal.
+pub fn unpack_page(block: &[u8], shape: Shape, page: &mut [u8])
+    requires block { length block.now ≡ 4608 }
+    requires shape { IsPageShape shape }
+    requires page { length page.old ≡ 4608 }
+    ensures { page.new ≡ shape_bytes shape block.now }
+{
+    page.copy_from_slice(block);
+    if shape.has_sums {
+        blank(&mut page[32..512]);
+    }
 }
 
 /// Copies the frame of this shape from one block to another. No other byte changes.
@@ -75,4 +91,19 @@ pub fn put_frame(
     let at = shape.offset as usize;
     let size = frame_size(geometry, number);
     encode_frame(geometry, number, header, content, &mut block[at..at + size]);
+}
+
+/// Writes the sums of the words and a seal into the block of a page's frame with this header, if frames of this shape
+/// have sums. Otherwise nothing changes.
+pub fn put_sums(header: ObjectHeader, shape: Shape, block: &mut [u8])
+    requires size { length block.old ≡ 4608 }
+    requires page { shape.has_sums ≡ true → IsPageShape shape }
+    requires front { shape.has_sums ≡ true → take 32 block.old ≡ front_bytes header }
+    ensures frame { shape_bytes shape block.new ≡ shape_bytes shape block.old }
+    ensures summed { IfSummed shape block.new }
+    ensures plain { shape.has_sums ≡ false → block.new ≡ block.old }
+{
+    if shape.has_sums {
+        seal_page(header, block);
+    }
 }

@@ -64,9 +64,9 @@ pub fn directory_length(version: Version, entries: u64) -> u64
     (entries + in_sector - 1) / in_sector
 }
 
-// Returns the least multiple from `sectors` on at which a range or a half may begin.
-fn aligned(version: Version, sectors: u64) -> u64
-    requires { sectors ≤ 65536 }
+/// Returns the least multiple of the version's alignment that isn't below `sectors`.
+pub fn aligned(version: Version, sectors: u64) -> u64
+    requires { sectors ≤ 1048576 }
     ensures value { result ≡ aligned version sectors }
     ensures few { result ≤ sectors + 7 }
 {

@@ -1,7 +1,8 @@
 // Single fields, read from sectors that may be damaged.
 ghost use Rattle.std.specs.Prelude.{◌≡◌, ◌≤◌, length};
 ghost use Rattle.layout.specs.FrameReader.{header_from};
-ghost use Rattle.layout.specs.Image.{total_in, sequence_in};
+ghost use Rattle.layout.specs.Image.{total_in};
+ghost use Rattle.layout.specs.Committed.{sequence_in};
 
 use crate::bytes::number_at;
 use crate::front::decode_front;

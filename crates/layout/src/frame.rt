@@ -6,10 +6,10 @@ ghost use Rattle.layout.specs.Shape.{IsShapeFor, shape_bytes};
 ghost use Rattle.model.specs.Frame.{content_behind};
 
 use crate::bad_image::BadImage;
-use crate::block::unpack_node;
+use crate::block::{unpack_node, unpack_page};
 use crate::body::{Body, Scratch};
 use crate::node_frame::{NODE_FRAME_BYTES, decode_node_frame, encode_node_frame};
-use crate::page_frame::{decode_page_frame, encode_page_frame};
+use crate::page_frame::{PAGE_FRAME_BYTES, decode_page_frame, encode_page_frame};
 use crate::shape::Shape;
 use model::{Cap, ContentRef, Geometry, ObjectHeader};
 
@@ -60,6 +60,10 @@ pub fn decode_in_block(
         let mut node = [0; NODE_FRAME_BYTES];
         unpack_node(block, shape, &mut node);
         decode_frame(&node, geometry, number, age, scratch)
+    } else if shape.has_sums {
+        let mut page = [0; PAGE_FRAME_BYTES];
+        unpack_page(block, shape, &mut page);
+        decode_frame(&page, geometry, number, age, scratch)
     } else {
         decode_frame(block, geometry, number, age, scratch)
     }

@@ -21,7 +21,7 @@ use model::{Cap, Capability, ContentRef, Geometry, ObjectHeader, Root, State};
 /// How many bytes a frame with the number of a node takes.
 pub const NODE_FRAME_BYTES: usize = 1024;
 
-// Where the slots end in such a frame. The bytes from here on are zeros.
+// Where the slots end in a frame with the number of a node. The bytes from here on are zeros.
 const SLOTS_END: usize = 800;
 
 // Returns the number of a `Number` capability, or 0 for any other.

@@ -1,4 +1,4 @@
-// The sealed structures of version 3: superblock, headers, gates, directories, pages and clusters.
+// The sealed structures of version 3: headers, gates, directories, pages and clusters.
 mod cluster;
 mod directory;
 mod gate;
@@ -7,15 +7,14 @@ mod laws;
 mod page;
 mod root;
 mod sector;
-mod superblock;
 
 pub use cluster::{is_cluster, seal_cluster};
 pub use directory::{SECTOR_ENTRIES, decode_entries, encode_entries};
 pub use gate::{decode_numbered_gate, encode_numbered_gate};
-pub use header::{SealedHeader, decode_sealed_header, encode_sealed_header, is_within_limits};
+pub use header::{SealedHeader, decode_sealed_header, encode_sealed_header};
 pub use laws::{
     damage_is_seen, gates_are_majorities, one_old_block_is_seen, spell_one_sealed_value,
 };
 pub use page::{PageHeader, decode_page, decode_page_header, encode_page_header, seal_page};
 pub use root::{add_sector, add_unit, remove_unit};
-pub use superblock::{SuperblockRow, decode_sealed_superblock, encode_sealed_superblock};
+pub(crate) use sector::SEAL_AT;

@@ -10,4 +10,6 @@ pub struct Shape {
     pub offset: u64,
     /// How many bytes the frame takes, without the zeros at the end of a node's frame.
     pub bytes: u64,
+    /// Whether the first sector has sums and a seal from byte 32 on.
+    pub has_sums: bool,
 }

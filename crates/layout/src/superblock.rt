@@ -1,26 +1,29 @@
 // The superblock: how many objects a device holds, and where its parts lie.
-ghost use Rattle.std.specs.Prelude.{◌≡◌, ◌+◌, ◌*◌, ◌-◌, ◌<◌, ◌≤◌, ◌↔◌, length, take, drop, IsTrue, IfOk, IfErr, IfSome};
-ghost use Rattle.std.specs.Prelude.{IfNone};
+ghost use Rattle.std.specs.Prelude.{◌≡◌, ◌+◌, ◌*◌, ◌-◌, ◌<◌, ◌≤◌, ◌++◌, ◌↔◌, length, take, drop, IsTrue, IfOk, IfErr};
+ghost use Rattle.std.specs.Prelude.{IfSome, IfNone, codes};
 ghost use Rattle.std.specs.List.{All};
-ghost use Rattle.layout.specs.Bytes.{half_number};
+ghost use Rattle.layout.specs.Bytes.{half_number, zeros};
 ghost use Rattle.layout.specs.Homes.{range_with, rank_in, shape_of};
 ghost use Rattle.layout.specs.Shape.{IsShapeFor};
-ghost use Rattle.layout.specs.Superblock.{Plan, version_number, superblock_bytes, ranges_bytes, unused, HasMark};
+ghost use Rattle.layout.specs.Superblock.{Plan, version_number, superblock_bytes, superblock_front, ranges_bytes, unused};
+ghost use Rattle.layout.specs.Superblock.{HasEnd, HasMark};
 ghost use Rattle.layout.specs.Superblock.{IsGeometry, IsNext, Cover, extents, IsPlan, IsPlanRefused, RangeFits};
 ghost use Rattle.layout.specs.Superblock.{plan_of};
 ghost use Rattle.layout.specs.Superblock.{half_start};
 ghost use Rattle.layout.specs.Version.{IsOpened, row};
 
 use crate::bad_image::BadImage;
-use crate::bytes::{blank, is_blank_from, number_at, put_number};
+use crate::bytes::{blank, is_blank_between, is_blank_from, number_at, put_number};
 use crate::directory::MAX_LOG;
 use crate::extent::{Extent, HomeRange, are_apart, are_within, fill_extents, may_all_begin};
 use crate::half::Half;
 use crate::homes::range_with;
+use crate::sealed::SEAL_AT;
 use crate::shape::Shape;
 use crate::version::Version;
 use device::MAX_SECTORS;
 use model::Geometry;
+use seal::{is_sealed, seal};
 use std::marker::Model;
 
 /// The least number of nodes.
@@ -49,13 +52,6 @@ const RANGES_AT: usize = 64;
 
 // Where the zeros after the home ranges begin.
 const RANGES_END: usize = 256;
-
-// Where the frame of a page lies in its block: it fills the block.
-const PAGE_SHAPE: Shape = Shape {
-    sectors: 9,
-    offset: 0,
-    bytes: 4608,
-};
 
 // A range that is not used.
 const UNUSED: HomeRange = HomeRange {
@@ -116,7 +112,7 @@ fn is_plan(
     if !is_geometry(geometry) || ranges.is_empty() || ranges.len() > MAX_RANGES {
         return false;
     }
-    if version.row().sealed || total > MAX_SECTORS || !do_cover(geometry, ranges) {
+    if total > MAX_SECTORS || !do_cover(geometry, ranges) {
         return false;
     }
     let mut extents = [Extent {
@@ -252,14 +248,20 @@ impl Superblock {
         ensures fits { IsShapeFor self.now.geometry number result }
         ensures plan { IsPlan self.now }
     {
-        if number >= self.geometry.nodes {
-            return PAGE_SHAPE;
-        }
         let row = self.version.row();
+        if number >= self.geometry.nodes {
+            return Shape {
+                sectors: 9,
+                offset: 0,
+                bytes: 4608,
+                has_sums: row.sealed,
+            };
+        }
         Shape {
             sectors: row.cluster_sectors,
             offset: row.node_bytes * self.rank(number),
             bytes: row.node_bytes,
+            has_sums: false,
         }
     }
 
@@ -320,10 +322,10 @@ fn are_unused(ranges: &[HomeRange]) -> bool
     ranges.iter().all(|range| *range == UNUSED)
 }
 
-/// Writes the 512 bytes of a superblock's sector.
-pub fn encode_superblock(superblock: &Superblock, into: &mut [u8])
+// Writes the first 256 bytes of a superblock's sector, then zeros.
+fn encode_front(superblock: &Superblock, into: &mut [u8])
     requires { length into.old ≡ 512 }
-    ensures { into.new ≡ superblock_bytes superblock.now }
+    ensures { into.new ≡ superblock_front superblock.now ++ zeros 256 }
 {
     let version = superblock.version().number();
     let geometry = superblock.geometry();
@@ -341,31 +343,60 @@ pub fn encode_superblock(superblock: &Superblock, into: &mut [u8])
     write_ranges(ranges, &mut into[RANGES_AT..end]);
 }
 
+/// Writes the 512 bytes of a superblock's sector.
+pub fn encode_superblock(superblock: &Superblock, into: &mut [u8])
+    requires { length into.old ≡ 512 }
+    ensures { into.new ≡ superblock_bytes superblock.now }
+{
+    encode_front(superblock, into);
+    if superblock.version().row().sealed {
+        seal(into);
+    }
+}
+
+// Whether the bytes behind the ranges are those of a superblock of this version: zeros, and in a sealed version a seal
+// at the end.
+fn has_end(version: Version, bytes: &[u8]) -> bool
+    requires { length bytes.now ≡ 512 }
+    ensures { IsTrue result ↔ HasEnd (row version).sealed bytes.now }
+{
+    if version.row().sealed {
+        is_blank_between(bytes, RANGES_END, SEAL_AT) && is_sealed(bytes)
+    } else {
+        is_blank_from(bytes, RANGES_END)
+    }
+}
+
 // Returns the version in a superblock's sector. Returns `None` for another magic, a version that
 // programs do not open, or a byte after the ranges that isn't 0.
 fn version_in(bytes: &[u8]) -> Option<Version>
     requires { length bytes.now ≡ 512 }
-    ensures mark { IfSome result (λ _. HasMark bytes.now) }
+    ensures magic { IfSome result (λ _. take 8 bytes.now ≡ codes "EROSCKPT") }
     ensures version { IfSome result (λ v. take 4 (drop 8 bytes.now) ≡ half_number (version_number v)) }
+    ensures blank { IfSome result (λ v. HasEnd (row v).sealed bytes.now) }
     ensures opened { IfSome result (λ v. IsOpened v) }
     ensures none { IfNone result (HasMark bytes.now → ⊥) }
 {
     let magic = number_at(bytes, 0);
     let second = number_at(bytes, 8);
-    if magic != SUPERBLOCK_MAGIC || !is_blank_from(bytes, RANGES_END) {
-        return None;
+    let version = Version::with_number(second % 4294967296)?;
+    if magic == SUPERBLOCK_MAGIC && has_end(version, bytes) {
+        Some(version)
+    } else {
+        None
     }
-    Version::with_number(second % 4294967296)
 }
 
-// Reads the rest of a superblock's sector, whose magic and version are right. Returns `None` if the sector encodes no
-// superblock.
+// Reads the rest of a superblock's sector of any version, whose magic, version and bytes after the ranges are right.
+// Returns `None` if the sector encodes no superblock.
 fn read_plan(version: Version, bytes: &[u8]) -> Option<Superblock>
     requires size { length bytes.now ≡ 512 }
-    requires mark { HasMark bytes.now }
+    requires magic { take 8 bytes.now ≡ codes "EROSCKPT" }
     requires version { take 4 (drop 8 bytes.now) ≡ half_number (version_number version) }
+    requires blank { HasEnd (row version).sealed bytes.now }
     ensures found { IfSome result (λ s. bytes.now ≡ superblock_bytes s) }
     ensures fits { IfSome result (λ s. IsPlan s) }
+    ensures version { IfSome result (λ s. s.version ≡ version) }
     ensures none { IfNone result ((p : Plan) → IsPlan p → bytes.now ≡ superblock_bytes p → ⊥) }
 {
     let second = number_at(bytes, 8);
@@ -394,6 +425,7 @@ pub fn decode_superblock(bytes: &[u8]) -> Result<Superblock, BadImage>
     requires { length bytes.now ≡ 512 }
     ensures found { IfOk result (λ s. bytes.now ≡ superblock_bytes s) }
     ensures fits { IfOk result (λ s. IsPlan s) }
+    ensures opened { IfOk result (λ s. IsOpened s.version) }
     ensures refused { IfErr result (λ e. IsPlanRefused bytes.now e) }
 {
     match version_in(bytes) {

@@ -33,8 +33,8 @@ pub struct Row {
     pub node_bytes: u64,
     /// How many entries a sector of a directory has.
     pub sector_entries: u64,
-    /// The sequence number of the first header. The greatest sequence number is greater by this than in
-    /// version 1.
+    /// The sequence number of the first header. In this version the limit of sequence numbers is higher by this number
+    /// than in version 1.
     pub first_sequence: u64,
     /// Whether all structures are sealed.
     pub sealed: bool,

@@ -1,13 +1,13 @@
 -- The frozen frames become the saved ones.
-use Rattle.migrator.proofs.Names.{nat_tests, IsPlan, ℕ, Option, Some, None, List, length, refl, sym, ap, subst, arith, replicate, length-replicate}
-use Rattle.migrator.proofs.Names.{Frame, frame_at, IsKeepable, AreKeepable, Image, Disk, Entry, Extent, CheckpointHeader, IsDirectory, IsFrameOf, frame_from}
-use Rattle.migrator.proofs.Names.{IsHeader, frame_in, frame_slot_in, half_sector, count_of, frame_read, frames_read, IsSpelt, AreSpelt, Plan, IsApart, IsInside}
-use Rattle.migrator.proofs.Names.{half_extent, half_within, length_read, read_at, spelt_same, spelt_at, beside_frame_slot, places_within, header_sector}
-use Rattle.migrator.proofs.Names.{place_extent, directory_extent, frames_behind, directories_inside, Place, Nowhere, Whole, place_at, slot_of, taken_count}
-use Rattle.migrator.proofs.Names.{whole_count, entries_of, Put, put_at, put_or, overlaid, slot_bytes, puts_in, ArePut, most, Books, IsDurable}
-use Rattle.migrator.proofs.Names.{frozen_generation, working_generation, committed, generation_after, Stored, saved_state, frozen_of, stored_in, IsRunning}
-use Rattle.migrator.proofs.Names.{IsIntact, next_header, puts, on_snapshots, AreComplete, MayAdopt, SavesOnly, SparesKept, adopted, SparesFrames, Spares}
-use Rattle.migrator.proofs.Names.{maps_same, IsSoundOn, one_more}
+use Rattle.migrator.proofs.Names.{nat_tests, IsPlan, ℕ, Option, Some, None, List, length, refl, sym, ap, subst, arith, replicate, length-replicate, Frame}
+use Rattle.migrator.proofs.Names.{frame_at, IsKeepable, AreKeepable, Image, Disk, Entry, Extent, CheckpointHeader, IsDirectory, IsFrameOf, frame_from, IsHeader}
+use Rattle.migrator.proofs.Names.{frame_in, frame_slot_in, half_sector, count_of, frame_read, frames_read, IsSpelt, AreSpelt, Plan, IsApart, IsInside}
+use Rattle.migrator.proofs.Names.{half_extent, half_within, length_read, read_at, spelt_same, spelt_at, beside_frame_slot, places_within, place_extent}
+use Rattle.migrator.proofs.Names.{directory_extent, frames_behind, directories_inside, Place, Nowhere, Whole, place_at, slot_of, taken_count, whole_count}
+use Rattle.migrator.proofs.Names.{entries_of, Put, put_at, put_or, overlaid, slot_bytes, puts_in, ArePut, most, Books, IsDurable, frozen_generation}
+use Rattle.migrator.proofs.Names.{working_generation, committed, generation_after, Stored, saved_state, frozen_of, stored_in, IsRunning, IsIntact, next_header}
+use Rattle.migrator.proofs.Names.{puts, on_snapshots, AreComplete, MayAdopt, SavesOnly, SparesKept, adopted, SparesFrames, Spares, maps_same, IsSoundOn}
+use Rattle.migrator.proofs.Names.{one_more, Version, entry_at, first_some, half_behind, inr, row, false≢true}
 use Rattle.std.proofs.Common.{◌≡◌, ◌+◌, ◌-◌, ◌^◌, ◌<◌, ◌≤◌, ◌∙◌}
 use Rattle.std.specs.Prelude.{◌==◌}
 use Rattle.migrator.proofs.Tables.{all_whole, whole_taken, entries_directory, length_entries, slot_entries, blank_at, blank_table, tally-blank}
@@ -18,13 +18,24 @@ use Rattle.migrator.proofs.Putting.{put_is, later_half, other_parity, half_spare
 
 -- ---- what stays when a directory and a header are written
 
--- the sectors of a header and its gate
-abbrev pub header_extent : CheckpointHeader → Extent
-header_extent h = record { sector = header_sector h; length = 2 }
+-- the sectors of header slots and their gates
+abbrev pub opening_extent : Version → Extent
+opening_extent v = record { sector = 1; length = (row v).first_home - 1 }
 
 -- all frames that the books name lie after the headers
-pub headers_spare : {size : ℕ} {image : Image} {b : Books} (h : CheckpointHeader) → IsIntact size image b → SparesKept b (header_extent h)
-headers_spare {size} {image} {b} h kept = grind (arith, nat_tests, frames_behind, homes_behind, places_within, half_within)
+pub headers_spare : {size : ℕ} {image : Image} {b : Books} → IsIntact size image b → SparesKept b (opening_extent b.plan.version)
+headers_spare {size} {image} {b} kept =
+    let some = first_some b.plan.version in record {
+      frames = λ n lt.
+          let le = frames_behind b.plan b.header.generation b.directory n kept.plan (homes_behind kept.plan n lt) in
+          inr (omega (arith, some, le));
+      homes = λ i lt.
+          let entry = kept.directory.each i (record { object = 0; slot = 0 }) (omega (arith, lt, kept.few, kept.count)) in
+          let le = homes_behind kept.plan (entry_at b.directory i).object entry.object in
+          inr (omega (arith, some, le));
+      frozen = λ n s lt is. let le = half_behind b.plan (frozen_generation b) kept.plan in inr (omega (arith, some, le));
+      working = λ n s lt is. let le = half_behind b.plan (working_generation b) kept.plan in inr (omega (arith, some, le));
+    }
 
 module _ {size : ℕ} {b : Books} {next : CheckpointHeader} {old new : Image} (kept : IsIntact size old b)
     (only : SavesOnly b.plan next old new)
@@ -33,13 +44,13 @@ module _ {size : ℕ} {b : Books} {next : CheckpointHeader} {old new : Image} (k
   between_kept = kept_on size spares only.directory kept
 
   pub kept_saves : IsIntact size new b
-  kept_saves = kept_on size (headers_spare next between_kept) only.header between_kept
+  kept_saves = kept_on size (headers_spare between_kept) only.header between_kept
 
   pub stored_saves : stored_in new b ≡ stored_in old b
-  stored_saves = stored_stays size (headers_spare next between_kept) only.header ∙ stored_stays size spares only.directory
+  stored_saves = stored_stays size (headers_spare between_kept) only.header ∙ stored_stays size spares only.directory
 
   pub state_saves : saved_state new b ≡ saved_state old b
-  state_saves = state_stays (headers_spare next between_kept).frames only.header ∙ state_stays spares.frames only.directory
+  state_saves = state_stays (headers_spare between_kept).frames only.header ∙ state_stays spares.frames only.directory
 
 -- ---- the directory and the slots of one half
 
@@ -57,9 +68,9 @@ directory_spares {p} generation m {es} fits is few n lt =
 
 -- ---- the header that is committed next
 
-pub next_fits : {room age : ℕ} (b : Books) → IsHeader room b.header → b.header.age < age → age ≤ 2 ^ 62 → taken_count b.frozen ≤ room →
-    room ≤ 4096 → IsHeader room (next_header age b)
-next_fits {age} b is later most few small = let more = one_more (b.header.entries == 0) in
+pub next_fits : {first room age : ℕ} (b : Books) → IsHeader first room b.header → b.header.age < age → age ≤ 2 ^ 62 →
+    taken_count b.frozen ≤ room → room ≤ 4096 → IsHeader first room (next_header age b)
+next_fits {age = age} b is later most few small = let more = one_more (b.header.entries == 0) in
     search (arith, is.generation, is.sequence, later, few, small)
 
 -- ---- the frames that the commit saves
@@ -94,7 +105,8 @@ module _ {size : ℕ} {image : Image} {b : Books} (k : ℕ) (kept : IsIntact siz
 
   slot_frame_in : (n : ℕ) {s : ℕ} → slot_of (place_at b.frozen n) ≡ Some s → frame_in image b.plan (b.header.generation + 1)
       (entries_of b.frozen) n ≡ slot_bytes image b.plan (b.header.generation + 1) s n
-  slot_frame_in n {s} is = in_slot image b.plan (b.header.generation + 1) (entries_of b.frozen) n (slot_entries b.frozen n ∙ is)
+  slot_frame_in n {s} is = in_slot image b.plan (b.header.generation + 1) (entries_of b.frozen) n kept.opened
+      (slot_entries b.frozen n ∙ is)
 
   abbrev saved_frames : List Frame
   saved_frames = frames_read image b.plan b.header.generation b.directory
@@ -157,7 +169,7 @@ module _ (disk : Disk) {b : Books} (k : ℕ) (kept : IsIntact disk.sectors disk.
     putting = puts_in disk.seen b.plan (working_generation b) b.working
 
     abbrev after : Books
-    after = adopted (next_header age b) es b
+    after = adopted (next_header age b) b.root es b
 
     directory_next : IsDirectory b.plan.geometry es
     directory_next = fs_fit k kept running stable
@@ -196,13 +208,18 @@ module _ (disk : Disk) {b : Books} (k : ℕ) (kept : IsIntact disk.sectors disk.
 
     committed_kept : IsIntact disk.sectors disk.seen after
     committed_kept = record {
-      readable = search (
-        kept,
-        next_fits b kept.header later most_age kept.frozen.few kept.plan.geometry.most_log,
-        length_entries b.frozen,
-        directory_next,
-        spelt_next k kept running stable complete keepable,
-      );
+      readable = record {
+        plan = kept.plan;
+        opened = kept.opened;
+        inside = kept.inside;
+        header = next_fits b kept.header later most_age kept.frozen.few kept.plan.geometry.most_log;
+        count = length_entries b.frozen;
+        directory = directory_next;
+        saved = spelt_next k kept running stable complete keepable;
+        -- an opened image isn't sealed
+        units = λ sealed. absurd (false≢true (sym kept.opened ∙ sealed));
+        no_root = kept.no_root;
+      };
       few = omega arith;
       moved = λ i lt. absurd (omega (arith, lt));
       frozen = no_place;
@@ -227,7 +244,7 @@ module _ (disk : Disk) {b : Books} (k : ℕ) (kept : IsIntact disk.sectors disk.
       to_move = entries - 0;
     }
 
-    pub committed_stored : stored_in disk.seen (adopted (next_header age b) (entries_of b.frozen) b)
+    pub committed_stored : stored_in disk.seen (adopted (next_header age b) b.root (entries_of b.frozen) b)
         ≡ on_snapshots (committed puts age (frozen_of disk.seen b k)) (stored_in disk.seen b)
     committed_stored =
         ap (λ (g : ℕ). stored_as (taken_count b.frozen) (puts_in disk.seen b.plan g b.working)
@@ -241,5 +258,6 @@ module _ (disk : Disk) {b : Books} (k : ℕ) (kept : IsIntact disk.sectors disk.
           same_move : (n : ℕ) (fs : List Frame) → stored_as n putting fs ≡ record (stored_as n putting fs) { to_move = n }
           same_move n fs = let same : n - 0 ≡ n = omega arith in ap (λ (m : ℕ). record (stored_as n putting fs) { to_move = m }) same
 
-    pub may_commit : IsDurable disk b → b.unwritten ≡ None → IsSoundOn disk b → MayAdopt disk b (next_header age b) (entries_of b.frozen)
+    pub may_commit : IsDurable disk b → b.unwritten ≡ None → IsSoundOn disk b → MayAdopt disk b (next_header age b) b.root
+        (entries_of b.frozen)
     may_commit is written sound = search (committed_kept, spares_now, spares_kept, committed_spares)

@@ -4,20 +4,31 @@ use Rattle.migrator.proofs.Names.{subst, arith, Image, Disk, IsTorn, AreKeepable
 use Rattle.migrator.proofs.Names.{half_extent, found_slot, own_slot, Whole, place_at, slot_of, entries_of, AreComplete, Keeps, Unwritten, mended, IfUnwritten}
 use Rattle.migrator.proofs.Names.{Put, slot_bytes, puts_in, Books, frozen_generation, working_generation, stored_in, frozen_of, next_saved, next_header}
 use Rattle.migrator.proofs.Names.{saved_state, IsIntact, LeavesState, MayHaveUnwritten, LeavesSaved, kept_of, Spares, puts, Touches, SparesPuts, Result, []}
-use Rattle.migrator.proofs.Names.{length, inl, inr, cases_eq, OnOk, OnErr, Elsewhere, image_of, sectors_of, elsewhere_on, OnlyNow, Shape, IsDirectory}
-use Rattle.migrator.proofs.Names.{home_place, shape_of, bytes_at, sectors_from, slot_in, slot_sector, shape_bytes, Plan, IsPlan, IsApart}
-use Rattle.migrator.proofs.Names.{apart_inside, whole_sectors, IsObject, IsWhole, alone, frames_beside, one_length, AreBeside, IsBlankFrom, shape_end, EndsInZeros, IsShapeFor, drop, drop-drop, zeros}
-use Rattle.migrator.proofs.Names.{Bool, true, false, place_extent, frames_in_slots, halves_within}
-use Rattle.migrator.proofs.Names.{slots_apart, IsFilled, IsComplete, KeepsOne, IsGathered, set, frame_in, frame_from, IsSpelt, frame_read}
-use Rattle.migrator.proofs.Names.{spelt_same, Place, slot_for, IsSpeltIn, Frame, slot_frame, HasUnwritten}
-use Rattle.layout.proofs.Versions.{half_has}
+use Rattle.migrator.proofs.Names.{committed_header, length, inl, inr, cases_eq, OnOk, OnErr, Elsewhere, image_of, sectors_of, elsewhere_on, OnlyNow, Shape}
+use Rattle.migrator.proofs.Names.{IsDirectory, home_place, shape_of, bytes_at, sectors_from, slot_in, slot_sector, shape_bytes, Plan, IsPlan, IsApart}
+use Rattle.migrator.proofs.Names.{apart_inside, whole_sectors, IsObject, IsWhole, alone, frames_beside, one_length, AreBeside, IsBlankFrom, shape_end}
+use Rattle.migrator.proofs.Names.{EndsInZeros, IsShapeFor, drop, drop-drop, zeros, Bool, true, false, place_extent, frames_in_slots, halves_within, slots_apart}
+use Rattle.migrator.proofs.Names.{IsFilled, IsComplete, KeepsOne, IsGathered, set, frame_in, frame_from, IsSpelt, frame_read, spelt_same, Place, slot_for}
+use Rattle.migrator.proofs.Names.{IsSpeltIn, Frame, slot_frame, HasUnwritten, half_has, IsSlotSummed, IfSummed, none_summed}
 use Rattle.std.proofs.Common.{◌≡◌, ◌*◌, ◌<◌, ◌∙◌, ◌⊎◌, ◌+◌, ◌-◌, ◌≤◌}
 use Rattle.migrator.proofs.Committing.{frozen_fits}
 use Rattle.migrator.proofs.Kept.{GoesOnSeen, goes_spared, puts_same, are_put_same, puts_stay, are_put_on, stored_same, home_stays, readable_stays}
 use Rattle.migrator.proofs.PlacesApart.{mended_disk, leaves_mended, leaves_raw, unmended, mended_here, mended_elsewhere, elsewhere_within, touches_within}
-use Rattle.migrator.proofs.PlacesApart.{touches_on, spares_other, home_apart, found_first, state_stays, bytes_stay, apart_bytes, other_half}
+use Rattle.migrator.proofs.PlacesApart.{touches_on, spares_other, home_apart, found_first, state_stays, bytes_stay, apart_bytes, other_half, at_home}
+use Rattle.migrator.proofs.PlacesApart.{no_entries, apart_sums, sums_stay}
 use Rattle.migrator.proofs.Putting.{other_parity, half_spares, homes_spare, later_half}
 use Rattle.migrator.proofs.Tables.{slot_entries, set_here, set_there, slot_kept}
+
+-- what is said of an entry is said of its object and its slot
+sums_at : (old new : Image) (p : Plan) (g : ℕ) (e : Entry) {n s : ℕ} → e.object ≡ n → e.slot ≡ s →
+    (IsSlotSummed old p g e.slot e.object → IsSlotSummed new p g e.slot e.object) → IsSlotSummed old p g s n → IsSlotSummed new p g s n
+sums_at old new p g e {n} {s} object slot same =
+    subst (λ (k : ℕ). IsSlotSummed old p g k n → IsSlotSummed new p g k n) slot
+    (subst (λ (m : ℕ). IsSlotSummed old p g e.slot m → IsSlotSummed new p g e.slot m) object same)
+
+-- the shape of a cluster has no sums
+node_plain : (p : Plan) (n : ℕ) → place_length p n ≡ 8 → (shape_of p n).has_sums ≡ false
+node_plain p n long = grind (arith, nat_tests)
 
 module _ {old new : Disk} {b : Books} {was now : Option Unwritten} {k : ℕ} (kept : IsIntact old.sectors (mended old.seen was) b)
     (running : b.frozen_size ≡ Some k)
@@ -48,6 +59,14 @@ module _ {old new : Disk} {b : Books} {was now : Option Unwritten} {k : ℕ} (ke
       slot_bytes after b.plan (frozen_generation b) s n ≡ slot_bytes before b.plan (frozen_generation b) s n
   frozen_stay n s lt is = search (arith, found_slot (entries_of b.frozen) n s (slot_entries b.frozen n ∙ ap slot_of is), slot_entries)
 
+  -- and keep their sums
+  frozen_sums : (n s : ℕ) → n < count_of b.plan → place_at b.frozen n ≡ Whole s →
+      IsSlotSummed before b.plan (frozen_generation b) s n → IsSlotSummed after b.plan (frozen_generation b) s n
+  frozen_sums n s lt is was =
+      let found = found_slot (entries_of b.frozen) n s (slot_entries b.frozen n ∙ ap slot_of is) in
+      sums_at before after b.plan (frozen_generation b) (entry_at (entries_of b.frozen) found.index) found.object_is found.slot_is
+      (keeps.sums found.index found.within) was
+
   pub puts_after : puts_in after b.plan (frozen_generation b) b.frozen ≡ puts_in before b.plan (frozen_generation b) b.frozen
   puts_after = puts_same b.plan (frozen_generation b) (frozen_generation b) b.frozen before after frozen_stay
 
@@ -65,7 +84,7 @@ module _ {old new : Disk} {b : Books} {was now : Option Unwritten} {k : ℕ} (ke
     moved = λ i lt. home_stays b spares.frames keeps.elsewhere i kept.plan
         (kept.directory.each i (record { object = 0; slot = 0 }) (omega (arith, lt, kept.few, kept.count))).object
         (homes_spare (frozen_generation b) kept inside i lt) (kept.moved i lt);
-    frozen = are_put_same frozen_stay kept.frozen;
+    frozen = are_put_same frozen_stay frozen_sums kept.frozen;
     running = kept.running;
     working = are_put_on b.plan (working_generation b) b.working working_spares keeps.elsewhere kept.working;
   }
@@ -76,9 +95,9 @@ module _ {old new : Disk} {b : Books} {was now : Option Unwritten} {k : ℕ} (ke
   touches : Touches extent.sector extent.length (mended_disk old was) (mended_disk new now)
   touches = search (keeps.touches, leaves_mended was now (IsTorn extent.sector extent.length old) keeps.touches.any_moment)
 
-  pub goes_after : {c : Books} → c.plan ≡ b.plan → c.header ≡ b.header → c.directory ≡ b.directory →
+  pub goes_after : {c : Books} → c.plan ≡ b.plan → c.header ≡ b.header → c.root ≡ b.root → c.directory ≡ b.directory →
       GoesOnSeen (mended_disk old was) (mended_disk new now) b c
-  goes_after plan header directory = goes_spared plan header directory spares touches
+  goes_after plan header root directory = goes_spared plan header root directory spares touches
 
   pub has_after : MayHaveUnwritten b now
   has_after = by now keeps.unwritten where
@@ -100,21 +119,21 @@ pub record IsCompleted (old : Disk) (image : Image) (b : Books) (k : ℕ) (mid :
   pub size : mid.sectors ≡ old.sectors
   pub frozen : frozen_of mid.seen b k ≡ frozen_of image b k
   pub stored : stored_in mid.seen b ≡ stored_in image b
-  pub sound : LeavesState old (saved_state image b) → LeavesState mid (saved_state mid.seen b)
-  pub any_moment : LeavesState old (saved_state image b) → LeavesSaved old mid (kept_of (saved_state image b))
+  pub sound : LeavesState old (saved_state image b) (committed_header b) → LeavesState mid (saved_state mid.seen b) (committed_header b)
+  pub any_moment : LeavesState old (saved_state image b) (committed_header b) → LeavesSaved old mid (kept_of (saved_state image b))
 
 pub ready : {old mid : Disk} {b : Books} {was now : Option Unwritten} {k : ℕ} → IsIntact old.sectors (mended old.seen was) b →
     b.frozen_size ≡ Some k → Keeps b.plan (frozen_generation b) (entries_of b.frozen) old was mid now → now ≡ None →
     IsCompleted old (mended old.seen was) b k mid
 ready {old} {mid} {b} {was} {now} {k} kept running keeps none =
-    let goes = goes_after kept running keeps {c = b} refl refl refl in
+    let goes = goes_after kept running keeps {c = b} refl refl refl refl in
     let image : mended mid.seen now ≡ mid.seen = unmended none in
     record {
       kept = subst (λ (i : Image). IsIntact mid.sectors i b) image (mid_kept kept running keeps);
       size = keeps.touches.size;
       frozen = ap (λ (i : Image). frozen_of i b k) (sym image) ∙ frozen_after kept running keeps;
       stored = ap (λ (i : Image). stored_in i b) (sym image) ∙ stored_after kept running keeps;
-      sound = λ sound. subst (λ (i : Image). LeavesState mid (saved_state i b)) image (goes.sound sound);
+      sound = λ sound. subst (λ (i : Image). LeavesState mid (saved_state i b) (committed_header b)) image (goes.sound sound);
       any_moment = λ sound. leaves_raw was now (λ c. Holds old.sectors c (kept_of (saved_state (mended old.seen was) b)))
           (goes.any_moment sound);
     }
@@ -146,7 +165,8 @@ pub filled : (image : Image) {p : Plan} (generation : ℕ) (e : Entry) (old new 
 filled image {p} generation e old new fits is gathered copied others = record {
   own = copied;
   others = λ n is_n same differ.
-      others (shape_of p n) (frames_beside fits is is_n (sym same) (λ e. differ (sym e))) ∙ gathered n is_n same;
+      others (shape_of p n) (frames_beside fits is is_n (sym same) (λ e. differ (sym e))) ∙ gathered n is_n same
+      ∙ at_home image p generation [] n (no_entries p [] n refl);
 }
 
 -- a block that is changed only before `end` keeps the zeros after it
@@ -226,12 +246,20 @@ module _ {p : Plan} (generation : ℕ) {es : List Entry} (i : ℕ) (fits : IsPla
           ≡ slot_bytes image p generation (entry_at es j).slot n
       slot_stays {j} n lt other = bytes_stay p n (others_apart n lt other) change
 
+      pub slot_sums : {j : ℕ} (n : ℕ) → j < length es → (j ≡ i → ⊥) → IsSlotSummed image p generation (entry_at es j).slot n →
+          IsSlotSummed new p generation (entry_at es j).slot n
+      slot_sums {j} n lt other = sums_stay p n (others_apart n lt other) change
+
       pub homes_stay : {n : ℕ} → IsObject p.geometry n → bytes_at new (home_place p n) p n ≡ bytes_at image (home_place p n) p n
       homes_stay {n} is_n = bytes_stay p n (home_apart generation fits is_n (half_of_slot p generation slot_low)) change
 
       -- complete slots stay complete
       pub complete_stays : {j : ℕ} → j < i → IsComplete image p generation es j → IsComplete new p generation es j
       complete_stays {j} less was = grind (arith, nat_tests, slot_stays, homes_stay)
+
+-- the block of a node has no sums
+short_sums : (p : Plan) (n : ℕ) (bytes : List ℕ) → place_length p n ≡ 8 → IfSummed (shape_of p n) bytes
+short_sums p n bytes long = none_summed (shape_of p n) bytes (node_plain p n long)
 
 -- ---- the result for one entry's cluster
 
@@ -256,14 +284,14 @@ module _ {p : Plan} (generation : ℕ) {es : List Entry} (i : ℕ) (fits : IsPla
     now_fits {o} which = grind (arith, nat_tests)
 
     pub kept_one : KeepsOne p generation es i old new now
-    kept_one =
-        search (
-          touches,
-          change,
-          ap (λ (image : Image). slot_bytes image p generation entry.slot entry.object) seen
-              ∙ packed_read old.seen u p entry.object size long ∙ filled.own,
-          now_fits either,
-        )
+    kept_one = record {
+      touches = touches;
+      elsewhere = change;
+      own = ap (λ (image : Image). slot_bytes image p generation entry.slot entry.object) seen
+          ∙ packed_read old.seen u p entry.object size long ∙ filled.own;
+      sums = λ _. short_sums p entry.object (sectors_from (mended new.seen now) u.sector (place_length p entry.object)) long;
+      unwritten = now_fits either;
+    }
 
     pub one_complete : now ≡ None → IsComplete new.seen p generation es i
     one_complete none first n is_n same no_slot =
@@ -321,6 +349,7 @@ keeps_written {p} {generation} {es} {old} {new} {was} only_now is fits seen touc
   elsewhere = subst (Elsewhere (half_sector p generation) (9 * p.geometry.log) (mended old.seen was)) (sym seen)
       (record { before = λ i lt. refl; after = λ i le. refl });
   frames = λ i lt. ap (λ (image : Image). slot_bytes image p generation (entry_at es i).slot (entry_at es i).object) seen;
+  sums = λ i lt. subst (λ (image : Image). IsSlotSummed image p generation (entry_at es i).slot (entry_at es i).object) (sym seen);
   unwritten = elim either [
     | inl empty ↦ subst (IfUnwritten p generation es) (sym empty) tt
     | inr same ↦ subst (IfUnwritten p generation es) (sym same) fits
@@ -341,16 +370,31 @@ keeps_more {p} {generation} {es} {i} {old} {mid} {new} {was} {now} fits is withi
     let low : (entry_at es i).slot < p.geometry.log = (is.each i (record { object = 0; slot = 0 }) within).slot in
     let inside = slots_hold p generation low in
     let half : Extent = record { sector = half_sector p generation; length = 9 * p.geometry.log } in
-    search (
-      arith,
-      touches_on so_far.touches (touches_within inside one.touches),
-      elsewhere_on half.sector half.length (mended old.seen was) mid.seen (mended new.seen now) so_far.elsewhere
-          (elsewhere_within inside one.elsewhere),
-      one.unwritten,
-      cases_eq,
-      one,
-      slot_stays,
-    )
+    record {
+      touches = touches_on so_far.touches (touches_within inside one.touches);
+      elsewhere =
+          elsewhere_on half.sector half.length (mended old.seen was) mid.seen (mended new.seen now) so_far.elsewhere
+          (elsewhere_within inside one.elsewhere);
+      frames = λ j lt.
+          elim (cases_eq j i) [
+            | inl here ↦
+                subst (λ (k : ℕ). slot_bytes (mended new.seen now) p generation (entry_at es k).slot (entry_at es k).object
+                ≡ slot_bytes (mended old.seen was) p generation (entry_at es k).slot (entry_at es k).object) (sym here)
+                (one.own ∙ so_far.frames i within)
+            | inr other ↦
+                slot_stays generation i fits is within one.elsewhere (entry_at es j).object lt other ∙ so_far.frames j lt
+          ];
+      sums = λ j lt summed.
+          elim (cases_eq j i) [
+            | inl here ↦
+                subst (λ (k : ℕ). IsSlotSummed (mended new.seen now) p generation (entry_at es k).slot (entry_at es k).object) (sym here)
+                (one.sums (subst (λ (k : ℕ). IsSlotSummed mid.seen p generation (entry_at es k).slot (entry_at es k).object) here
+                (so_far.sums j lt summed)))
+            | inr other ↦
+                slot_sums generation i fits is within one.elsewhere (entry_at es j).object lt other (so_far.sums j lt summed)
+          ];
+      unwritten = one.unwritten;
+    }
 
 -- if each entry is complete, all are
 pub all_complete : (image : Image) (p : Plan) (generation : ℕ) (es : List Entry) →
@@ -418,6 +462,13 @@ module _ {disk : Disk} {b : Books} (is : IsDurable disk b) where
       → bytes_at (mended new b.unwritten) at b.plan n ≡ bytes_at new at b.plan n
   raw new {at} n apart = grind (arith, nat_tests, apart_bytes)
 
+  raw_sums : (new : Image) {at : ℕ} (n : ℕ) →
+      ((u : Unwritten) → b.unwritten ≡ Some u → IsApart (record { sector = at; length = place_length b.plan n }) (cluster_extent u))
+      → (o : Option Unwritten) → b.unwritten ≡ o → IfSummed (shape_of b.plan n) (sectors_from new at (place_length b.plan n))
+      → IfSummed (shape_of b.plan n) (sectors_from (mended new o) at (place_length b.plan n))
+  raw_sums new n apart None none was = was
+  raw_sums new n apart (Some u) some was = apart_sums new u b.plan n (apart u some) was
+
   -- a saved frame is read from the device
   saved_raw : {n : ℕ} → n < count_of b.plan
       → frame_in (seen_by disk.seen b) b.plan b.header.generation b.directory n
@@ -438,6 +489,12 @@ module _ {disk : Disk} {b : Books} (is : IsDurable disk b) where
   pub home_raw : {n : ℕ} → n < count_of b.plan →
       bytes_at disk.seen (home_place b.plan n) b.plan n ≡ bytes_at (seen_by disk.seen b) (home_place b.plan n) b.plan n
   home_raw {n} lt = sym (raw disk.seen n (λ u some. home_apart (frozen_generation b) is.kept.plan lt (cluster_inside some)))
+
+  pub working_sums : (new : Image) {s : ℕ} (n : ℕ) → s < b.plan.geometry.log → IsSlotSummed new b.plan (working_generation b) s n →
+      IsSlotSummed (mended new b.unwritten) b.plan (working_generation b) s n
+  working_sums new n low was = raw_sums new n (λ u some. other_half (working_generation b) (frozen_generation b) n is.kept.plan
+      (later_half b (has_some some).running)
+      low (cluster_inside some)) b.unwritten refl was
 
   -- after a write, a working frame is read from the device
   pub working_again : (new : Image) {s : ℕ} (n : ℕ) → s < b.plan.geometry.log

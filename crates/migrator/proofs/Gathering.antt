@@ -1,14 +1,9 @@
 -- The saved frames of all objects that share a home are gathered in one block.
-use Rattle.migrator.proofs.Names.{nat_tests, ℕ, Option, Result, List, sym, ap, arith, OnOk, Image, Disk}
-use Rattle.migrator.proofs.Names.{Entry, Shape, home_place, place_length, shape_of, frame_in, frame_slot_in, sector_or, shaped_at}
-use Rattle.migrator.proofs.Names.{slot_sector, shape_bytes, Plan, ReadsOnly, WritesAt, EndsInZeros}
-use Rattle.migrator.proofs.Names.{HoldsHome, on_ok_weaker, zeros, IsGathered, IsCopied, Touches}
-use Rattle.migrator.proofs.Names.{zero, suc, refl, inl, inr, length, take, drop, subst, drop-drop, drop_all, shape_end, sectors_from}
-use Rattle.migrator.proofs.Names.{AreBeside, IsObject, IsFirstOf}
-use Rattle.home_ranges.specs.Home.{HaveHome}
+use Rattle.migrator.proofs.Names.{nat_tests, ℕ, Option, Result, List, sym, ap, arith, OnOk, Image, Disk, Entry, Shape, home_place, place_length, shape_of}
+use Rattle.migrator.proofs.Names.{frame_in, frame_slot_in, sector_or, shaped_at, slot_sector, shape_bytes, Plan, ReadsOnly, WritesAt, EndsInZeros, HoldsHome}
+use Rattle.migrator.proofs.Names.{on_ok_weaker, zeros, IsGathered, IsCopied, Touches, zero, suc, refl, inl, inr, length, take, drop, subst, drop-drop, drop_all}
+use Rattle.migrator.proofs.Names.{shape_end, sectors_from, AreBeside, IsObject, IsFirstOf, HaveHome, blanked, drop_at, take-append-le, between_is}
 use Rattle.std.proofs.Common.{◌≡◌, ◌+◌, ◌-◌, ◌*◌, ◌≤◌, ◌++◌, ◌∙◌}
-use Rattle.std.proofs.lemmas.List.{drop_at, take-append-le}
-use Rattle.std.proofs.lemmas.Slice.{between_is}
 
 -- the frame read from an object's slot, or from home if it has none, is its saved frame
 pub frame_slot_bytes : (image : Image) (p : Plan) (generation : ℕ) (es : List Entry) (n : ℕ) {at : ℕ} {o : Option ℕ} →
@@ -53,7 +48,7 @@ none_taken (suc m) xs ys none = absurd (omega (arith, none))
 -- facts about a block into whose front `run` was read
 module _ (s : Shape) (run block : List ℕ) (n : ℕ) (long : length run ≡ n) (le : shape_end s ≤ n) where
   pub place_read : shape_bytes s (run ++ drop n block) ≡ shape_bytes s run
-  place_read = ap (λ (b : List ℕ). b ++ zeros (1024 - s.bytes)) (between_is (run ++ drop n block) s.offset (shape_end s)
+  place_read = ap (λ (b : List ℕ). blanked s.has_sums b ++ zeros (1024 - s.bytes)) (between_is (run ++ drop n block) s.offset (shape_end s)
       ∙ ap (drop s.offset) (take-append-le (shape_end s) run (drop n block) (omega (arith, le, long)))
       ∙ sym (between_is run s.offset (shape_end s)))
 
@@ -68,11 +63,11 @@ module _ (s : Shape) (run block : List ℕ) (n : ℕ) (long : length run ≡ n) 
 
   pub places_beside : s.bytes ≡ n → (t : Shape) → AreBeside s t → shape_bytes t (run ++ drop n block) ≡ shape_bytes t block
   places_beside whole t (inl behind) =
-      ap (λ (b : List ℕ). take (shape_end t - t.offset) b ++ zeros (1024 - t.bytes))
+      ap (λ (b : List ℕ). blanked t.has_sums (take (shape_end t - t.offset) b) ++ zeros (1024 - t.bytes))
       (behind_read t.offset (omega (arith, behind, whole)))
   places_beside whole t (inr before) =
-      ap (λ (b : List ℕ). b ++ zeros (1024 - t.bytes)) (none_taken (shape_end t - t.offset) (drop t.offset (run ++ drop n block))
-      (drop t.offset block) (omega (arith, before, whole, le)))
+      ap (λ (b : List ℕ). blanked t.has_sums b ++ zeros (1024 - t.bytes)) (none_taken (shape_end t - t.offset)
+      (drop t.offset (run ++ drop n block)) (drop t.offset block) (omega (arith, before, whole, le)))
 
 -- a frame in the sectors that were read is the frame in the block
 pub place_there : {T E : Type 0} (result : Result T E) (s : Shape) (image : Image) (at : ℕ) (run block : List ℕ) (n : ℕ) →

@@ -1,18 +1,20 @@
 -- One object is saved with a new frame. The frame lies in the half of the log that the saved generation used. It is the one entry of the
 -- generation after the next.
-use Rattle.migrator.proofs.Names.{nat_tests, IsIdle, MayReplace, Stays, ℕ, Option, None, List, [], length, get_or, set, refl, sym, ap, subst, arith, option_map}
-use Rattle.migrator.proofs.Names.{get_or_past, get_or_default, Frame, ObjectHeader, Geometry, frame_at, IsKeepable, AreKeptWords, Image, Disk, Entry, Extent}
-use Rattle.migrator.proofs.Names.{IsDirectory, entry_at, IsFrameOf, page_frame_bytes, frame_from, IsHeader, frame_in, frame_slot_in, slot_sector, half_sector}
-use Rattle.migrator.proofs.Names.{sectors_from, shaped_at, bytes_at, count_of, frames_read, AreSpelt, Plan, IsPlan, IsInside, half_extent, slot_behind}
-use Rattle.migrator.proofs.Names.{length_read, read_at, spelt_same, spelt_at, bytes_spelt, Shape, home_place, shape_of, WritesAt, slot_extent}
-use Rattle.migrator.proofs.Names.{directory_extent, slots_inside, most, with_words, Books, IsDurable, frozen_generation, working_generation, FrozenPuts}
-use Rattle.migrator.proofs.Names.{journaled, replaced, stored_in, stored_on, IsIntact, replaced_header, on_snapshots, first_bytes, first_frame}
-use Rattle.migrator.proofs.Names.{page_words, page_shape, page_whole, page_long, shape_bytes, frame_bytes, beside_frame_slot, alone, IsHeaderAt, MayAdopt, SparesKept, adopted, mended, MayJournal, directories_inside, one_more}
+use Rattle.migrator.proofs.Names.{nat_tests, IsIdle, MayReplace, Stays, ℕ, Option, Some, None, List, [], length, get_or, set, refl, sym, ap, subst, arith}
+use Rattle.migrator.proofs.Names.{option_map, get_or_past, get_or_default, Frame, ObjectHeader, Geometry, frame_at, IsKeepable, AreKeptWords, Image, Disk}
+use Rattle.migrator.proofs.Names.{Entry, Extent, IsDirectory, entry_at, IsFrameOf, page_frame_bytes, frame_from, IsHeader, frame_in, frame_slot_in, slot_sector}
+use Rattle.migrator.proofs.Names.{half_sector, sectors_from, shaped_at, bytes_at, count_of, frames_read, AreSpelt, Plan, IsPlan, IsInside, half_extent}
+use Rattle.migrator.proofs.Names.{slot_behind, slot_here, own_frame_slot, slot_bytes, length_read, read_at, spelt_same, spelt_at, bytes_spelt, Shape}
+use Rattle.migrator.proofs.Names.{home_place, shape_of, WritesAt, slot_extent, directory_extent, slots_inside, most, with_words, Books, IsDurable}
+use Rattle.migrator.proofs.Names.{frozen_generation, working_generation, FrozenPuts, journaled, replaced, stored_in, stored_on, IsIntact, replaced_header}
+use Rattle.migrator.proofs.Names.{on_snapshots, first_bytes, first_frame, page_words, page_shape, page_whole, page_long, shape_bytes, frame_bytes}
+use Rattle.migrator.proofs.Names.{beside_frame_slot, alone, IsHeaderAt, MayAdopt, SparesKept, adopted, mended, MayJournal, directories_inside, one_more}
+use Rattle.migrator.proofs.Names.{IsSpelt, cases_eq, inl, inr}
 use Rattle.std.proofs.Common.{◌≡◌, ◌+◌, ◌%◌, ◌^◌, ◌<◌, ◌≤◌, ◌∷◌, ◌∙◌}
 use Rattle.std.specs.Prelude.{◌==◌}
 use Rattle.model.specs.declared.object.Content.TheVariants as content
 use Rattle.model.specs.declared.object.Role.TheVariants as role
-use Rattle.migrator.proofs.PlacesApart.{touches, at_home, spares_log, none_beside, page_own, no_entries}
+use Rattle.migrator.proofs.PlacesApart.{touches, at_home, in_frame_slot, spares_log, none_beside, page_own, no_entries}
 use Rattle.migrator.proofs.PlacesApart.{mended_disk, writes_mended}
 use Rattle.migrator.proofs.Kept.{nowhere_frozen, puts_same, map_set, stored_stays, kept_on, goes_seen, goes_spared}
 use Rattle.migrator.proofs.Publishing.{after_same, idle_kept, idle_stored, keepable_later, may_adopt_idle, slot_same, with_header}
@@ -31,14 +33,16 @@ words_fit {words} count fits = record {
       (sym (get_or_default words i d 0 lt)) (fits i);
 }
 
+-- a frame with the role of a page has a page's number
+page_number : {g : Geometry} {age n : ℕ} {f : Frame} → f.header.role ≡ role.Page → IsKeepable g age n f → g.nodes ≤ n
+page_number {g} {age} {n} {f} page is = grind (arith, nat_tests)
+
 -- the sectors of a page, once written, encode its frame
 page_spelt : (p : Plan) {age n : ℕ} (image : Image) (at : ℕ) {f : Frame} → p.geometry.nodes ≤ n → IsKeepable p.geometry age n f →
-    length (page_words f.content) ≡ 512 → sectors_from image at 9 ≡ page_frame_bytes f →
-    IsFrameOf p.geometry age n (bytes_at image at p n) f
-page_spelt p {age} {n} image at {f} le is few written =
-    let shape : shape_of p n ≡ page_shape = grind (arith, nat_tests) in
+    bytes_at image at p n ≡ page_frame_bytes f → IsFrameOf p.geometry age n (bytes_at image at p n) f
+page_spelt p {age} {n} image at {f} le is written =
     let spelt : page_frame_bytes f ≡ frame_bytes p.geometry n f = grind (arith, nat_tests) in
-    (is, ap (shaped_at image at) shape ∙ ap (shape_bytes page_shape) written ∙ page_whole (page_frame_bytes f) (page_long f few) ∙ spelt)
+    (is, written ∙ spelt)
 
 -- ---- if all saved objects are home
 
@@ -62,6 +66,11 @@ module _ {size : ℕ} {image : Image} {b : Books} (kept : IsIntact size image b)
   saved_keepable : {n : ℕ} → n < count_of b.plan →
       IsKeepable b.plan.geometry b.header.age n (frame_at (frames_read image b.plan b.header.generation b.directory) n)
   saved_keepable {n} lt = rw (read_at image b.plan b.header.generation b.directory n lt) (kept.saved n lt).0
+
+  -- if a saved frame has the role of a page, its number is a page's
+  pub saved_page : {n : ℕ} → (frame_at (frames_read image b.plan b.header.generation b.directory) n).header.role ≡ role.Page →
+      b.plan.geometry.nodes ≤ n
+  saved_page {n} page = page_number page (saved_keepable (page_known page))
 
 -- the header read from an object's home is the saved one
 pub header_read : {old : Image} {size : ℕ} (new : Image) {b : Books} → IsIntact size old b → b.header.entries ≡ 0 →
@@ -111,13 +120,13 @@ module _ {old new : Disk} {b : Books} (is : IsDurable old b) (free : b.frozen_si
             (kept_on old.sectors spares mended_writes.elsewhere is.kept),
         is.unwritten,
         stored_stays old.sectors spares mended_writes.elsewhere,
-        goes_seen (goes_spared {b = b} {c = b} refl refl refl apart (touches mended_writes)),
+        goes_seen (goes_spared {b = b} {c = b} refl refl refl refl apart (touches mended_writes)),
       )
 
   -- the slot encodes the page with its new words, for each age above the saved one
   pub spelt_page : (n : ℕ) {header : ObjectHeader} {words : List ℕ} → (frame_at (stored_on old b).saved.frames n).header.role ≡ role.Page →
       header ≡ (frame_at (stored_on old b).saved.frames n).header → AreKeptWords 512 words
-      → sectors_from new.seen (slot_sector b.plan b.header.generation 0) 9 ≡ page_frame_bytes
+      → first_bytes new.seen b n ≡ page_frame_bytes
       (record { header = header; content = content.Page words }) → (age : ℕ) → b.header.age ≤ age →
       IsFrameOf b.plan.geometry age n (first_bytes new.seen b n) (with_words words (frame_at (stored_on old b).saved.frames n))
   spelt_page n {header} {words} page same fits written age le =
@@ -125,9 +134,9 @@ module _ {old new : Disk} {b : Books} (is : IsDurable old b) (free : b.frozen_si
       let keepable : IsKeepable b.plan.geometry age n (with_words words f) =
       words_keepable page fits (keepable_later b.plan.geometry b.header.age age le
       (saved_keepable is.kept home (page_known is.kept home page))) in
-      let there = subst (λ (h : ObjectHeader). sectors_from new.seen (slot_sector b.plan b.header.generation 0) 9 ≡
+      let there = subst (λ (h : ObjectHeader). first_bytes new.seen b n ≡
       page_frame_bytes (record { header = h; content = content.Page words })) same written in
-      page_spelt b.plan new.seen (slot_sector b.plan b.header.generation 0) keepable.kind.0 keepable fits.count_is there
+      page_spelt b.plan new.seen (slot_sector b.plan b.header.generation 0) keepable.kind.0 keepable there
 
 -- ---- the object in that slot is saved with its new frame
 
@@ -137,9 +146,9 @@ one_entry n = record { object = n; slot = 0 } ∷ []
 one_fits : {p : Plan} {n : ℕ} → IsPlan p → n < count_of p → IsDirectory p.geometry (record { object = n; slot = 0 } ∷ [])
 one_fits {p} {n} fits lt = grind (arith, nat_tests)
 
-header_fits : {room age : ℕ} (b : Books) → IsHeader room b.header → b.header.age < age → age ≤ 2 ^ 62 → 1 ≤ room →
-    IsHeader room (replaced_header age b)
-header_fits {age} b is later most some = let more = one_more (b.header.entries == 0) in
+header_fits : {first room age : ℕ} (b : Books) → IsHeader first room b.header → b.header.age < age → age ≤ 2 ^ 62 → 1 ≤ room →
+    IsHeader first room (replaced_header age b)
+header_fits {age = age} b is later most some = let more = one_more (b.header.entries == 0) in
     search (arith, is.generation, is.sequence, later, some)
 
 none_frozen : (f g : ℕ → FrozenPuts) (o : Option ℕ) → o ≡ None → option_map f o ≡ option_map g o
@@ -176,8 +185,13 @@ module _ {disk : Disk} {b : Books} {n age : ℕ} (may : MayReplace disk b n age)
   inside_half : IsInside extent (half_extent b.plan.version b.plan.geometry (half_sector b.plan again))
   inside_half = directories_inside b.plan again 1 some
 
+  own_here : frame_slot_in b.plan (one_entry n) n ≡ Some 0
+  own_here = own_frame_slot b.plan (one_entry n) n kept.opened (slot_here entry [] n refl)
+
   frame_here : frame_in disk.seen b.plan again (one_entry n) n ≡ first_bytes disk.seen b n
-  frame_here = grind (arith, nat_tests)
+  frame_here =
+      let here : slot_bytes disk.seen b.plan again 0 n ≡ first_bytes disk.seen b n = grind (arith, nat_tests) in
+      in_frame_slot disk.seen b.plan again (one_entry n) n own_here ∙ here
 
   -- a page shares its home with no other object
   one_page : (i : ℕ) → i < 1 → {m : ℕ} → m < count_of b.plan → home_place b.plan (entry_at (one_entry n) i).object ≡ home_place b.plan m →
@@ -196,15 +210,23 @@ module _ {disk : Disk} {b : Books} {n age : ℕ} (may : MayReplace disk b n age)
   frames_next = grind (arith, nat_tests, map_set, frame_here, frame_there)
 
   spelt_next : AreSpelt disk.seen b.plan age again (one_entry n)
-  spelt_next = grind (arith, nat_tests, frame_here, spelt_same, frame_there, kept, spelt_at, keepable_later)
+  spelt_next m lt = elim (cases_eq n m) [
+    | inl same ↦ subst (λ (k : ℕ). IsSpelt disk.seen b.plan age again (one_entry n) k) same
+        (subst (λ (bytes : List ℕ). IsFrameOf b.plan.geometry age n bytes (frame_from b.plan.geometry n bytes)) (sym frame_here) may.spelt)
+    | inr other ↦
+        let now = spelt_same disk.seen disk.seen b.plan b.header.age again b.header.generation (one_entry n) b.directory m
+        (frame_there lt other) (kept.saved m lt) in
+        spelt_at disk.seen b.plan b.header.age age again (one_entry n) m now
+        (keepable_later b.plan.geometry b.header.age age (omega (arith, may.later)) now.0)
+  ]
 
   replaced_stored : stored_in disk.seen books ≡ on_snapshots (replaced age n frame) (stored_in disk.seen b)
   replaced_stored = grind (arith, nat_tests, puts_same, slot_same, after_same, parity, none_frozen, frames_next)
 
-  pub may_replace : MayAdopt disk b (replaced_header age b) (one_entry n)
+  pub may_replace : MayAdopt disk b (replaced_header age b) b.root (one_entry n)
   may_replace = search (arith, may_adopt_idle, parity, header_fits, some, directory_next, spelt_next, spares_log, inside_half)
 
-  pub replaced_on : stored_on disk (adopted (replaced_header age b) (one_entry n) b)
+  pub replaced_on : stored_on disk (adopted (replaced_header age b) b.root (one_entry n) b)
       ≡ on_snapshots (replaced age n (first_frame disk.seen b n)) (stored_on disk b)
   replaced_on = idle_stored (replaced_header age b) (one_entry n) may.stands may.free (replaced age n frame) replaced_stored
 

@@ -4,10 +4,11 @@ use Rattle.migrator.proofs.Names.{LeavesState, GoesOnDisk, kept_of, Holds, Leave
 use Rattle.migrator.proofs.Names.{length-set, get_or-set_same, get_or-set_other, length-map-range_with_len, get_or-map-range_with_len, Elsewhere, entry_at}
 use Rattle.migrator.proofs.Names.{count_of, Plan, IsPlan, IsApart, spelt_same, home_extent, one_length, Place, Nowhere, Whole, place_at, slot_bytes, put_of}
 use Rattle.migrator.proofs.Names.{puts_in, ArePut, maps_same, frozen_generation, working_generation, stored_in, IsHome, IsIntact, SparesFrames, SparesKept}
-use Rattle.migrator.proofs.Names.{SparesPuts, IsReadable, CheckpointHeader, Entry}
+use Rattle.migrator.proofs.Names.{SparesPuts, IsReadable, CheckpointHeader, Entry, SealedHeader, Sums, committed_header, same_units, IsSlotSummed, IsFrameOf}
+use Rattle.migrator.proofs.Names.{frame_from, most, sym}
 use Rattle.std.specs.Prelude.{map}
 use Rattle.std.proofs.Common.{◌≡◌, ◌<◌}
-use Rattle.migrator.proofs.PlacesApart.{mended_disk, sound_spared, moments_spared, frame_stays, state_stays, bytes_stay}
+use Rattle.migrator.proofs.PlacesApart.{mended_disk, sound_spared, moments_spared, frame_stays, state_stays, bytes_stay, stays, sums_stay}
 
 -- an image that encodes a saved state holds the frames of that state
 pub holds : {size : ℕ} {c : Image} {s : SavedState} → Encodes c size s → Holds size c (kept_of s)
@@ -17,8 +18,8 @@ holds {s} is = (s, is, refl)
 pub record GoesOnSeen (old new : Disk) (b c : Books) : Type 0 where
   pub plan : c.plan ≡ b.plan
   pub size : new.sectors ≡ old.sectors
-  pub sound : LeavesState old (saved_state old.seen b) → LeavesState new (saved_state new.seen c)
-  pub any_moment : LeavesState old (saved_state old.seen b) → LeavesSaved old new (kept_of (saved_state old.seen b))
+  pub sound : LeavesState old (saved_state old.seen b) (committed_header b) → LeavesState new (saved_state new.seen c) (committed_header c)
+  pub any_moment : LeavesState old (saved_state old.seen b) (committed_header b) → LeavesSaved old new (kept_of (saved_state old.seen b))
 
 -- the same for devices on which a cluster is unwritten and in memory
 pub goes_seen : {old new : Disk} {b c : Books} → GoesOnSeen (mended_disk old b.unwritten) (mended_disk new c.unwritten) b c →
@@ -29,14 +30,22 @@ same_state : (image : Image) (b c : Books) → c.plan ≡ b.plan → c.header �
     saved_state image b ≡ saved_state image c
 same_state image b c plan header directory = rw (plan, header, directory) refl
 
-pub goes_spared : {old new : Disk} {b c : Books} {e : Extent} → c.plan ≡ b.plan → c.header ≡ b.header → c.directory ≡ b.directory →
+same_header_of : (b c : Books) → c.plan ≡ b.plan → c.header ≡ b.header → c.root ≡ b.root → c.directory ≡ b.directory →
+    committed_header b ≡ committed_header c
+same_header_of b c plan header root directory = rw (plan, header, root, directory) refl
+
+pub goes_spared : {old new : Disk} {b c : Books} {e : Extent} → c.plan ≡ b.plan → c.header ≡ b.header → c.root ≡ b.root →
+    c.directory ≡ b.directory →
     Spares b.plan b.header b.directory e → Touches e.sector e.length old new → GoesOnSeen old new b c
-goes_spared {old} {new} {b} {c} {e} plan header directory spares writes = record {
+goes_spared {old} {new} {b} {c} {e} plan header root directory spares writes = record {
   plan = plan;
   size = writes.size;
-  sound = λ sound. subst (LeavesState new) (same_state new.seen b c plan header directory) (sound_spared spares writes sound);
+  sound = λ sound. subst (LeavesState new (saved_state new.seen c)) (same_header_of b c plan header root directory)
+      (subst (λ (s : SavedState). LeavesState new s (committed_header b)) (same_state new.seen b c plan header directory)
+      (sound_spared spares writes (committed_header b) sound));
   any_moment = λ sound. leaves_weaker {old = old} {new = new} {P = λ x. Encodes x old.sectors (saved_state old.seen b)}
-      (λ x. Holds old.sectors x (kept_of (saved_state old.seen b))) (λ x is. holds is) (moments_spared spares writes sound);
+      (λ x. Holds old.sectors x (kept_of (saved_state old.seen b))) (λ x is. holds is) (moments_spared spares writes
+      (committed_header b) sound);
 }
 
 -- ---- lists made number by number
@@ -70,9 +79,17 @@ unfolding puts_in
 puts_same p g h ps old new same = grind (arith, nat_tests, maps_same, put_same)
 
 pub are_put_same : {p : Plan} {g h : ℕ} {ps : List Place} {old new : Image} →
-    ((n s : ℕ) → n < count_of p → place_at ps n ≡ Whole s → slot_bytes new p g s n ≡ slot_bytes old p h s n) → ArePut old p h ps →
+    ((n s : ℕ) → n < count_of p → place_at ps n ≡ Whole s → slot_bytes new p g s n ≡ slot_bytes old p h s n)
+    → ((n s : ℕ) → n < count_of p → place_at ps n ≡ Whole s → IsSlotSummed old p h s n → IsSlotSummed new p g s n) → ArePut old p h ps →
     ArePut new p g ps
-are_put_same {p} {g} {h} {ps} {old} {new} same are = grind (arith, nat_tests)
+are_put_same {p} {g} {h} {ps} {old} {new} same sums are = record {
+  count = are.count;
+  few = are.few;
+  table = are.table;
+  spelt = λ n s lt is. subst (λ (b : List ℕ). IsFrameOf p.geometry most n b (frame_from p.geometry n b)) (sym (same n s lt is))
+      (are.spelt n s lt is);
+  summed = λ n s lt is. sums n s lt is (are.summed n s lt is);
+}
 
 module _ (p : Plan) (generation : ℕ) (ps : List Place) {e : Extent} {old new : Image} (spares : SparesPuts p generation ps e)
     (change : Elsewhere e.sector e.length old new) where
@@ -83,7 +100,7 @@ module _ (p : Plan) (generation : ℕ) (ps : List Place) {e : Extent} {old new :
   puts_stay = puts_same p generation generation ps old new slot_stays
 
   pub are_put_on : ArePut old p generation ps → ArePut new p generation ps
-  are_put_on are = are_put_same slot_stays are
+  are_put_on are = are_put_same slot_stays (λ n s lt is. sums_stay p n (spares n s lt is) change) are
 
 -- ---- all frames
 
@@ -93,9 +110,21 @@ pub stored_same : (new old : Image) (b : Books) → puts_in new b.plan (working_
 stored_same new old b working frozen saved = grind (arith, nat_tests)
 
 -- if no sector of a saved state changes, it can still be read
-pub readable_stays : {size : ℕ} {p : Plan} {h : CheckpointHeader} {es : List Entry} {e : Extent} {old new : Image} →
-    SparesFrames p h.generation es e → Elsewhere e.sector e.length old new → IsReadable size old p h es → IsReadable size new p h es
-readable_stays {size} {p} {h} {es} {e} {old} {new} spares change is = grind (arith, nat_tests, spelt_same, frame_stays)
+pub readable_stays : {size : ℕ} {p : Plan} {h : CheckpointHeader} {root : Sums} {es : List Entry} {e : Extent} {old new : Image} →
+    SparesFrames p h.generation es e → Elsewhere e.sector e.length old new → IsReadable size old p h root es →
+    IsReadable size new p h root es
+readable_stays {size} {p} {h} {root} {es} {e} {old} {new} spares change is = record {
+  opened = is.opened;
+  plan = is.plan;
+  inside = is.inside;
+  header = is.header;
+  count = is.count;
+  directory = is.directory;
+  saved = λ n lt. spelt_same new old p h.age h.generation h.generation es es n (frame_stays p h.generation es e spares change n lt)
+      (is.saved n lt);
+  units = λ sealed. same_units old new p root h.generation es (λ n lt. stays (spares n lt) change) (is.units sealed);
+  no_root = is.no_root;
+}
 
 -- if no sector of saved frames changes, the frames of a home stay
 pub home_stays : (b : Books) {e : Extent} {old new : Image} → SparesFrames b.plan b.header.generation b.directory e →

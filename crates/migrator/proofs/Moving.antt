@@ -5,10 +5,9 @@ use Rattle.migrator.proofs.Names.{Place, slot_of, IsTable, taken_count, IsCopied
 use Rattle.migrator.proofs.Names.{stored_in, stored_on, IsHome, IsRunning, IsIntact, Spares, Touches, SparesPuts, SparesKept, Unwritten, mended, is_err}
 use Rattle.migrator.proofs.Names.{Migrates, Publishes, ⊎_elim, all_moved, IsSoundOn, IsLesser, on_snapshots, Result, Ok, Err, IsErr, Counts, MayFinish, []}
 use Rattle.migrator.proofs.Names.{CheckpointHeader, IsDirectory, IsHeader, frame_in, frame_slot_in, AreSpelt, half_within, read_same, spelt_same}
-use Rattle.migrator.proofs.Names.{frame_slot_entry, directory_extent, home_header, MayAdopt, adopted}
-use Rattle.layout.proofs.Versions.{no_sectors}
+use Rattle.migrator.proofs.Names.{frame_slot_entry, directory_extent, home_header, MayAdopt, adopted, no_sectors}
 use Rattle.std.proofs.Common.{◌≡◌, ◌+◌, ◌-◌, ◌<◌, ◌≤◌, ◌∙◌, ◌⊎◌}
-use Rattle.migrator.proofs.PlacesApart.{frame_stays, mended_disk, touches_mended, place_inside, home_apart, spares_home, at_home}
+use Rattle.migrator.proofs.PlacesApart.{frame_stays, mended_disk, touches_mended, place_inside, home_apart, spares_home, at_home, no_entries}
 use Rattle.migrator.proofs.Kept.{nowhere_frozen, stored_stays, kept_on, goes_seen, goes_spared}
 use Rattle.migrator.proofs.Completing.{none_idle, without}
 use Rattle.migrator.proofs.Putting.{none_spares}
@@ -88,14 +87,14 @@ module _ {old : Disk} (new : Disk) {b : Books} (is : IsDurable old b) (some : b.
         record {
           books = ap (λ (n : ℕ). record b { moved = n }) same;
           stored = stored_new ∙ ap (λ (n : ℕ). record (stored_on old b) { to_move = b.header.entries - n }) same;
-          goes_on = goes_seen (goes_spared refl refl refl spares seen_touches);
+          goes_on = goes_seen (goes_spared refl refl refl refl spares seen_touches);
         }
 
     pub copied_moved : MovedBy old new b (moved_books b 1) 1
     copied_moved = record {
       books = refl;
       stored = ap (λ (s : Stored). record s { to_move = b.header.entries - (b.moved + 1) }) stored_new;
-      goes_on = goes_seen (goes_spared refl refl refl spares seen_touches);
+      goes_on = goes_seen (goes_spared refl refl refl refl spares seen_touches);
     }
 
     pub copied_durable : IsCopied old.seen new.seen b.plan b.header.generation b.directory (entry_at b.directory b.moved).object →
@@ -210,8 +209,8 @@ module _ {old mid : Disk} {a b : Books} {count some : ℕ} (few : a.moved ≤ a.
 no_directory : (p : Plan) → IsDirectory p.geometry []
 no_directory p = grind (arith, nat_tests)
 
-home_fits : {room : ℕ} {h : CheckpointHeader} → IsHeader room h → 0 < h.entries → IsHeader room (home_header h)
-home_fits {room} {h} is some = grind (arith, nat_tests)
+home_fits : {first room : ℕ} {h : CheckpointHeader} → IsHeader first room h → 0 < h.entries → IsHeader first room (home_header h)
+home_fits {first} {room} {h} is some = grind (arith, nat_tests)
 
 module _ {disk : Disk} {b : Books} (may : MayFinish disk b) where
   idle : b.frozen_size ≡ None
@@ -229,11 +228,16 @@ module _ {disk : Disk} {b : Books} (may : MayFinish disk b) where
   same_frame {n} lt = by (frame_slot_in b.plan b.directory n) refl where
     by : (o : Option ℕ) → frame_slot_in b.plan b.directory n ≡ o → frame_in disk.seen b.plan b.header.generation [] n
         ≡ frame_in disk.seen b.plan b.header.generation b.directory n
-    by None is = at_home disk.seen b.plan b.header.generation [] n refl ∙ sym
+    by None is = at_home disk.seen b.plan b.header.generation [] n (no_entries b.plan [] n refl) ∙ sym
         (at_home disk.seen b.plan b.header.generation b.directory n is)
     by (Some s) is =
         let entry = frame_slot_entry b.plan b.directory n s is in
-        at_home disk.seen b.plan b.header.generation [] n refl ∙ kept.moved entry.index (omega (arith, entry.within, kept.count, may.all)) n
+        at_home disk.seen b.plan b.header.generation [] n (no_entries b.plan [] n refl) ∙ kept.moved entry.index (omega (
+          arith,
+          entry.within,
+          kept.count,
+          may.all,
+        )) n
         lt
         (sym entry.home_is)
 
@@ -246,9 +250,9 @@ module _ {disk : Disk} {b : Books} (may : MayFinish disk b) where
   home_stored : stored_in disk.seen (with_header b header []) ≡ on_snapshots all_moved (stored_in disk.seen b)
   home_stored = grind (arith, nat_tests, read_same, same_frame)
 
-  pub may_finish : MayAdopt disk b (home_header b.header) []
+  pub may_finish : MayAdopt disk b (home_header b.header) b.root []
   may_finish = may_adopt_idle header [] may.stands idle refl (home_fits kept.header may.some) refl (no_directory b.plan) spelt_home apart
       may.sound refl
 
-  pub finished_stored : stored_on disk (adopted (home_header b.header) [] b) ≡ on_snapshots all_moved (stored_on disk b)
+  pub finished_stored : stored_on disk (adopted (home_header b.header) b.root [] b) ≡ on_snapshots all_moved (stored_on disk b)
   finished_stored = idle_stored header [] may.stands idle all_moved home_stored

@@ -5,14 +5,13 @@ use Rattle.migrator.proofs.Names.{IsSpelt, AreSpelt, frame_read, frames_read, st
 use Rattle.migrator.proofs.Names.{length, length-map-range_with_len, Stays, Option, Some, None, ap, option_map, frame_at, Place, Whole, place_at, slot_of}
 use Rattle.migrator.proofs.Names.{put_or, put_of, ArePut, Geometry, Failed, Agrees, Counts, IsFrameOf, one_frame, CountsOpen, IsRefused, Holds, Books}
 use Rattle.migrator.proofs.Names.{DurableState, frozen_generation, working_generation, below_at, frozen_put, frozen_of, newest, IsRunning, stored_in}
-use Rattle.migrator.proofs.Names.{saved_state, IsIntact, ReadsStore, IsDurable}
-use Rattle.migrator.proofs.Names.{frame_in, sectors_from, Result, append-nil, IfErr}
-use Rattle.migrator.proofs.Names.{BadImage, entry_at, AreRising, IsTooSmall, total_in, slot_in, IsPlan, superblock_bytes, own_slot, rising_to, no_slot}
-use Rattle.migrator.proofs.Names.{total_reported, HasNoPlan, IsUnplanned, take, replicate, length-replicate, length_read, Nowhere, Absent, IsSoundOn, IsRead}
-use Rattle.migrator.proofs.Names.{OpensDurable, OnlyReads, first_books}
+use Rattle.migrator.proofs.Names.{saved_state, IsIntact, ReadsStore, IsDurable, frame_in, sectors_from, Result, append-nil, IfErr, BadImage, entry_at}
+use Rattle.migrator.proofs.Names.{AreRising, IsTooSmall, total_in, slot_in, IsOpened, IsPlan, superblock_bytes, own_slot, rising_to, no_slot, total_reported}
+use Rattle.migrator.proofs.Names.{HasNoPlan, IsUnplanned, take, replicate, length-replicate, length_read, Nowhere, Absent, IsSoundOn, IsRead, OpensDurable}
+use Rattle.migrator.proofs.Names.{OnlyReads, first_books, SealedHeader, Sums, row, true, false, with_sums, no_sums, HasUnits, plain_to, false≢true}
+use Rattle.migrator.proofs.Names.{IsPlanRefused}
 use Rattle.std.specs.Prelude.{map}
 use Rattle.std.proofs.Common.{◌≡◌, ◌+◌, ◌<◌, ◌∷◌, ◌++◌, ◌∙◌, ◌≤◌}
-use Rattle.layout.specs.Superblock.{IsPlanRefused}
 use Rattle.migrator.proofs.Putting.{put_is}
 use Rattle.migrator.proofs.Kept.{GoesOnSeen, goes_seen, holds}
 use Rattle.migrator.proofs.PlacesApart.{reads_mended}
@@ -59,13 +58,13 @@ spelt_more image p age generation es k below here n lt = elim (cases_lt n k) [
 -- ---- why an image is refused: a frame
 
 -- if the frame of some object is malformed, the image is refused for reason 7
-pub bad_frame : {image : Image} {size : ℕ} {p : Plan} {h : CheckpointHeader} {es : List Entry} {n : ℕ} (e : OpenFault) →
-    HasPlan image size p → HasHeader image p h → HasDirectory image p h es → n < count_of p → IsBadAt image p h es n e →
+pub bad_frame : {image : Image} {size : ℕ} {p : Plan} {h : SealedHeader} {es : List Entry} {n : ℕ} (e : OpenFault) →
+    HasPlan image size p → HasHeader image p h → HasDirectory image p h es → n < count_of p → IsBadAt image p h.header es n e →
     IsBadFor image size e
 bad_frame refusal.Failed plan header directory lt is = tt
 bad_frame refusal.NoMemory plan header directory lt is = tt
 bad_frame {image} {size} {p} {h} {es} {n} (refusal.Bad reason) plan header directory lt is =
-    rw is.0 (p, h, es, plan, header, directory, (n, lt, is.1))
+    rw is.0 (p, h, es, plan, header, directory, inl (n, lt, is.1))
 
 -- a frame that is refused after other reads is refused because of its bytes in the image
 pub refused_same : (p : Plan) (h : CheckpointHeader) (es : List Entry) (n : ℕ) (old new : Image) (e : OpenFault) → new ≡ old →
@@ -78,11 +77,26 @@ refused_same p h es n old new (refusal.Bad reason) same is =
 -- ---- all of a device was read
 
 -- if all is durable, each crash leaves the state that was read
-pub opened_sound : (disk : Disk) {p : Plan} {h : CheckpointHeader} {es : List Entry} → Only disk.seen disk →
+-- an opened image isn't sealed: programs do not open version 3 yet
+pub no_units : {image : Image} {p : Plan} {root : Sums} {generation : ℕ} {es : List Entry} → IsOpened p.version →
+    (row p.version).sealed ≡ true → HasUnits image p root generation es
+no_units opened sealed = absurd (false≢true (sym opened ∙ sealed))
+
+pub opened_sound : (disk : Disk) {p : Plan} {h : SealedHeader} {es : List Entry} → Only disk.seen disk →
     HasPlan disk.seen disk.sectors p → HasHeader disk.seen p h → HasDirectory disk.seen p h es →
-    AreSpelt disk.seen p h.age h.generation es → LeavesState disk (state_in disk.seen p h es)
+    AreSpelt disk.seen p h.header.age h.header.generation es → LeavesState disk (state_in disk.seen p h.header es) h
 opened_sound disk {p} {h} {es} only plan header directory spelt c left =
-    rw (agrees_is c disk.seen (only c left)) (denotes disk.seen disk.sectors p h es plan header directory spelt)
+    rw (agrees_is c disk.seen (only c left))
+    (denotes disk.seen disk.sectors p h es plan header directory spelt (no_units plan.opened), header.committed)
+
+-- the committed header has the sums of its directory
+sums_known : {image : Image} {p : Plan} {h : SealedHeader} {es : List Entry} → HasDirectory image p h es →
+    h ≡ with_sums p.version h.header h.root es
+sums_known {h = h} is = ap (λ (sums : Sums). record { header = h.header; root = h.root; directory = sums }) (sym is.sums)
+
+-- without seals the root is zeros
+root_known : {image : Image} {p : Plan} {h : SealedHeader} → HasHeader image p h → (row p.version).sealed ≡ false → h.root ≡ no_sums
+root_known {image} {p} {h} is unsealed = (plain_to p.version unsealed image h is.committed).sums.root
 
 -- ---- frames with a valid encoding are read, and never refused
 
@@ -172,8 +186,8 @@ pub refused_plan : {T : Type 0} (result : Result T OpenFault) (image : Image) (s
 refused_plan {T} result image size none = grind (arith, nat_tests)
 
 pub plan_read : {image : Image} {size : ℕ} {bytes : List ℕ} {p : Plan} → image 0 ≡ bytes → 5 ≤ size → total_in bytes ≤ size →
-    bytes ≡ superblock_bytes p → IsPlan p → HasPlan image size p
-plan_read {image} {size} {bytes} {p} is least whole spelt fits = grind (arith, nat_tests, total_reported)
+    bytes ≡ superblock_bytes p → IsPlan p → IsOpened p.version → HasPlan image size p
+plan_read {image} {size} {bytes} {p} is least whole spelt fits opened = grind (arith, nat_tests, total_reported)
 
 -- ---- finding a slot by binary search
 
@@ -200,7 +214,7 @@ none_put : {image : Image} {p : Plan} {generation : ℕ} {ps : List Place} → p
     ArePut image p generation ps
 none_put {image} {p} {generation} {ps} blank = grind (arith, nat_tests, length-replicate, tally-blank, blank_table, blank_at)
 
-module _ {old new : Disk} {p : Plan} {h : CheckpointHeader} {es : List Entry} {fs ws : List Place} (only_reads : OnlyReads old new)
+module _ {old new : Disk} {p : Plan} {h : SealedHeader} {es : List Entry} {fs ws : List Place} (only_reads : OnlyReads old new)
     (plan : HasPlan old.seen old.sectors p) (read : IsRead old.seen p h es)
     (frozen : fs ≡ replicate (count_of p) Nowhere) (working : ws ≡ replicate (count_of p) Nowhere) where
   same : old.seen ≡ new.seen
@@ -216,11 +230,14 @@ module _ {old new : Disk} {p : Plan} {h : CheckpointHeader} {es : List Entry} {f
   first_kept = record {
     readable = record {
       plan = plan.fits;
+      opened = plan_new.opened;
       inside = plan_new.whole;
       header = read.header.fits;
       count = read.directory.count;
       directory = read.directory.fits;
       saved = read_new.spelt;
+      units = no_units plan_new.opened;
+      no_root = root_known read_new.header;
     };
     few = omega arith;
     moved = λ i lt. absurd (omega (arith, lt));
@@ -230,10 +247,13 @@ module _ {old new : Disk} {p : Plan} {h : CheckpointHeader} {es : List Entry} {f
   }
 
   first_state : Encodes old.seen old.sectors (saved_state new.seen (first_books p h es fs ws))
-  first_state = rw (← same) (denotes old.seen old.sectors p h (take h.entries es) plan read.header read.directory read.spelt)
+  first_state = rw (← same) (denotes old.seen old.sectors p h (take h.header.entries es) plan read.header read.directory read.spelt
+      (no_units plan.opened))
 
   first_sound : Only new.seen new → IsSoundOn new (first_books p h es fs ws)
-  first_sound only = opened_sound new only plan_new read_new.header read_new.directory read_new.spelt
+  first_sound only =
+      subst (LeavesState new (state_in new.seen p h.header (take h.header.entries es))) (sums_known read_new.directory)
+      (opened_sound new only plan_new read_new.header read_new.directory read_new.spelt)
 
   first_holds : Holds old.sectors old.seen (stored_in new.seen (first_books p h es fs ws)).saved
   first_holds = holds first_state
@@ -243,14 +263,15 @@ module _ {old new : Disk} {p : Plan} {h : CheckpointHeader} {es : List Entry} {f
   first_working = grind (arith, nat_tests, puts_blank, seen, blank_at, length_read)
 
   -- the frames that were read are those saved in the store
-  pub first_frames : frames_read old.seen p h.generation (take h.entries es) ≡ (stored_in new.seen (first_books p h es fs ws)).saved.frames
-  first_frames = ap (λ (i : Image). frames_read i p h.generation (take h.entries es)) same
+  pub first_frames : frames_read old.seen p h.header.generation (take h.header.entries es) ≡ (stored_in new.seen
+      (first_books p h es fs ws)).saved.frames
+  first_frames = ap (λ (i : Image). frames_read i p h.header.generation (take h.header.entries es)) same
 
   pub first_durable : IsDurable new (first_books p h es fs ws)
   first_durable = record { kept = first_kept; unwritten = tt }
 
 -- a store over a device that was read is open (`OpensDurable`)
-pub first_opens : {D : Type 0} {disk : D → Disk} {device back : D} {p : Plan} {h : CheckpointHeader} {es : List Entry} {fs ws : List Place}
+pub first_opens : {D : Type 0} {disk : D → Disk} {device back : D} {p : Plan} {h : SealedHeader} {es : List Entry} {fs ws : List Place}
     → OnlyReads (disk device) (disk back) → HasPlan (disk device).seen (disk device).sectors p
     → IsRead (disk device).seen p h es → fs ≡ replicate (count_of p) Nowhere → ws ≡ replicate (count_of p) Nowhere →
     Only (disk back).seen (disk back) → (disk back).failures ≡ (disk device).failures →

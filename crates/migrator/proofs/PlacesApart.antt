@@ -2,15 +2,18 @@
 use Rattle.migrator.proofs.Names.{ℕ, zero, suc, Bool, true, false, not, nat_eq, Option, Some, None, List, [], length, refl, sym, ap, subst, inl, inr, arith}
 use Rattle.migrator.proofs.Names.{cases_eq, cases_lt, eq-eqb, Entry, IsDirectory, AreRising, entry_at, home_place, shape_of, slot_in, slot_beside}
 use Rattle.migrator.proofs.Names.{frame_slot_in, count_of, Plan, IsPlan, found_slot, own_slot, rising_to, IsWhole, alone, IsFirstOf, beside_behind, beside_here}
-use Rattle.migrator.proofs.Names.{beside_frame_slot, own_frame_slot, same_Some, frame_slot_entry, home_between, IsFirst, Image, Extent}
-use Rattle.migrator.proofs.Names.{CheckpointHeader, place_length, bytes_at, frame_in, slot_sector, half_sector, sector_or, IsApart, IsInside, half_extent}
-use Rattle.migrator.proofs.Names.{itself, apart_inside, apart_turned, within_inside, home_extent, places_within, places_apart, places_spare_log, place_extent}
-use Rattle.migrator.proofs.Names.{directory_extent, slots_inside, frames_in_slots, directories_inside, halves_within, halves_apart, HomesAreBehind, slot_bytes}
-use Rattle.migrator.proofs.Names.{frame_extent, Spares, ⊎_elim, Frame, Disk, Elsewhere, IsTorn, LeavesOnly, elsewhere_same, elsewhere_on, leaves_weaker}
-use Rattle.migrator.proofs.Names.{leaves_on, Encodes, state_in, same_shaped, read_same, ReadsOnly, WritesAt, SameFrom, SameWhereRead, same_saved, LeavesState}
-use Rattle.migrator.proofs.Names.{SparesFrames, Touches, nat_le, nat_lt, nat_tests, image_of, Elapses, agrees_is, Geometry, Shape, IsFrameOf, frame_from}
-use Rattle.migrator.proofs.Names.{shape_bytes, one_frame, most, Unwritten, mended, unwritten_of, IsSpeltIn, directory_length}
-use Rattle.layout.proofs.Versions.{no_sectors}
+use Rattle.migrator.proofs.Names.{row, IsOpened, sealed_frame_slot, beside_frame_slot, own_frame_slot, same_Some, frame_slot_entry, home_between, IsFirst}
+use Rattle.migrator.proofs.Names.{Image, Extent, CheckpointHeader, place_length, bytes_at, frame_in, slot_sector, half_sector, sector_or, IsApart, IsInside}
+use Rattle.migrator.proofs.Names.{half_extent, itself, apart_inside, apart_turned, within_inside, home_extent, places_within, places_apart, places_spare_log}
+use Rattle.migrator.proofs.Names.{place_extent, directory_extent, slots_inside, frames_in_slots, directories_inside, halves_within, halves_apart}
+use Rattle.migrator.proofs.Names.{HomesAreBehind, slot_bytes, frame_extent, Spares, ⊎_elim, Frame, Disk, Elsewhere, IsTorn, LeavesOnly, elsewhere_same}
+use Rattle.migrator.proofs.Names.{elsewhere_on, leaves_weaker, leaves_on, Encodes, state_in, same_shaped, read_same, ReadsOnly, WritesAt, SameFrom}
+use Rattle.migrator.proofs.Names.{SameWhereRead, same_saved, LeavesState, SparesFrames, Touches, nat_le, nat_lt, nat_tests, image_of, Elapses, agrees_is}
+use Rattle.migrator.proofs.Names.{Geometry, Shape, IsFrameOf, frame_from, shape_bytes, one_frame, most, Unwritten, mended, unwritten_of, IsSpeltIn}
+use Rattle.migrator.proofs.Names.{directory_length, same_sectors, no_sectors, IfSummed, sectors_from, places_begin}
+use Rattle.migrator.proofs.Names.{EncodesBy, SealedHeader, first_some, half_behind}
+use Rattle.ckpt_log.proofs.Places.{opening_stays}
+use Rattle.ckpt_log.proofs.SavedStates.{same_header}
 use Rattle.std.proofs.Common.{◌≡◌, ◌-◌, ◌<◌, ◌≤◌, ◌∷◌, ◌∙◌, ◌%◌, ◌+◌}
 use Rattle.std.specs.Prelude.{if◌then◌else◌, ◌&&◌}
 
@@ -74,18 +77,13 @@ some_beside p (e ∷ es) n (suc i) lt is none = elim (cases_eq (home_place p e.o
   | inr other ↦ some_beside p es n i (omega (arith, lt)) is (sym (beside_behind p e es n other) ∙ none)
 ]
 
--- an object whose frame fills its block can only have a slot of its own
-pub alone_beside : {p : Plan} {es : List Entry} {n : ℕ} → IsPlan p → IsDirectory p.geometry es → n < count_of p → IsWhole (shape_of p n) →
-    slot_in es n ≡ None → slot_beside p es n ≡ None
-alone_beside {p} {es} {n} fits is lt own none = search (arith, none_beside, alone, own_slot)
-
 -- a page's frame fills its block
 pub page_own : (p : Plan) {n : ℕ} → p.geometry.nodes ≤ n → IsWhole (shape_of p n)
 page_own p {n} le = grind (arith, nat_tests)
 
 -- without entries no object has a slot
 pub no_entries : (p : Plan) (es : List Entry) (n : ℕ) → length es ≡ 0 → frame_slot_in p es n ≡ None
-no_entries p [] n size = refl
+no_entries p [] n size = beside_frame_slot p [] n refl
 no_entries p (e ∷ es) n size = absurd (omega (arith, size))
 
 -- an object without a frame slot shares no home with an object that has an entry
@@ -93,10 +91,12 @@ pub frame_slots_differ : (p : Plan) (es : List Entry) (n m : ℕ) {t : ℕ} → 
     home_place p n ≡ home_place p m → ⊥
 frame_slots_differ p es n m {t} has none same =
     let entry = found_slot es m t has in
-    some_beside p es n entry.index entry.within (ap (home_place p) entry.object_is ∙ sym same) (beside_none (slot_in es n) refl) where
-      beside_none : (o : Option ℕ) → slot_in es n ≡ o → slot_beside p es n ≡ None
-      beside_none None is = sym (beside_frame_slot p es n is) ∙ none
-      beside_none (Some s) is = let never : None ≡ Some s = sym none ∙ own_frame_slot p es n is in absurd cc
+    some_beside p es n entry.index entry.within (ap (home_place p) entry.object_is ∙ sym same)
+    (beside_none (row p.version).sealed refl (slot_in es n) refl) where
+      beside_none : (sealed : Bool) → (row p.version).sealed ≡ sealed → (o : Option ℕ) → slot_in es n ≡ o → slot_beside p es n ≡ None
+      beside_none true is_sealed o is = sym (sealed_frame_slot p es n is_sealed) ∙ none
+      beside_none false unsealed None is = sym (beside_frame_slot p es n is) ∙ none
+      beside_none false unsealed (Some s) is = let never : None ≡ Some s = sym none ∙ own_frame_slot p es n unsealed is in absurd cc
 
 -- a frame's slot is one of the log's
 pub frame_slot_fits : (p : Plan) {es : List Entry} (n : ℕ) {s : ℕ} → IsDirectory p.geometry es → frame_slot_in p es n ≡ Some s →
@@ -164,9 +164,9 @@ pub in_frame_slot : (image : Image) (p : Plan) (generation : ℕ) (es : List Ent
 in_frame_slot image p generation es n is = ap (λ (o : Option ℕ). bytes_at image (sector_or o (slot_sector p generation) (home_place p n)) p
     n) is
 
-pub in_slot : (image : Image) (p : Plan) (generation : ℕ) (es : List Entry) (n : ℕ) {s : ℕ} → slot_in es n ≡ Some s →
-    frame_in image p generation es n ≡ slot_bytes image p generation s n
-in_slot image p generation es n {s} is = in_frame_slot image p generation es n (own_frame_slot p es n is)
+pub in_slot : (image : Image) (p : Plan) (generation : ℕ) (es : List Entry) (n : ℕ) {s : ℕ} → IsOpened p.version →
+    slot_in es n ≡ Some s → frame_in image p generation es n ≡ slot_bytes image p generation s n
+in_slot image p generation es n {s} opened is = in_frame_slot image p generation es n (own_frame_slot p es n opened is)
 
 pub at_home : (image : Image) (p : Plan) (generation : ℕ) (es : List Entry) (n : ℕ) → frame_slot_in p es n ≡ None →
     frame_in image p generation es n ≡ bytes_at image (home_place p n) p n
@@ -206,8 +206,7 @@ pub spares_other : {p : Plan} (h : CheckpointHeader) {es : List Entry} (generati
     IsDirectory p.geometry es → h.entries ≤ p.geometry.log → (h.generation % 2 ≡ generation % 2 → ⊥) →
     IsInside e (half_extent p.version p.geometry (half_sector p generation)) → Spares p h es e
 spares_other {p} h {es} generation {e} fits is few differ inside = record {
-  headers = (within_inside p.total e (half_extent p.version p.geometry (half_sector p generation)) inside
-      (halves_within p generation fits)).0;
+  headers = let half = half_behind p generation fits in omega (arith, half, inside.starts);
   directory = inr (apart_inside (directory_extent p h.generation h.entries) e
       (half_extent p.version p.geometry (half_sector p h.generation))
       (half_extent p.version p.geometry (half_sector p generation))
@@ -221,8 +220,7 @@ spares_other {p} h {es} generation {e} fits is few differ inside = record {
 pub spares_log : {p : Plan} (h : CheckpointHeader) (es : List Entry) (generation : ℕ) {e : Extent} → IsPlan p → length es ≡ h.entries →
     h.entries ≡ 0 → IsInside e (half_extent p.version p.geometry (half_sector p generation)) → Spares p h es e
 spares_log {p} h es generation {e} fits count none inside = record {
-  headers = (within_inside p.total e (half_extent p.version p.geometry (half_sector p generation)) inside
-      (halves_within p generation fits)).0;
+  headers = let half = half_behind p generation fits in omega (arith, half, inside.starts);
   directory = inl none;
   frames = λ n lt. frame_apart p h.generation es n e (λ s slot. let never : None ≡ Some s = sym (no_entries p es n (count ∙ none)) ∙ slot in
       absurd cc)
@@ -236,6 +234,7 @@ unfolding directory_length
 spares_home {p} {h} {es} {m} {t} fits is few within has =
     search (
       arith,
+      places_begin,
       places_within,
       apart_inside,
       home_extent,
@@ -253,7 +252,7 @@ spares_home {p} {h} {es} {m} {t} fits is few within has =
 
 -- home frames lie after the headers
 pub homes_behind : {p : Plan} → IsPlan p → HomesAreBehind p
-homes_behind {p} fits n lt = (places_within p n fits lt).0
+homes_behind {p} fits n lt = places_begin p n fits lt
 
 -- ---- writes outside the sectors of a saved state
 
@@ -268,6 +267,13 @@ pub bytes_stay : {at : ℕ} (p : Plan) (n : ℕ) {e : Extent} {old new : Image} 
     bytes_at new at p n ≡ bytes_at old at p n
 bytes_stay {at} p n {e} {old} {new} apart change = same_shaped at (shape_of p n) old new (stays apart change)
 
+-- if a block doesn't overlap e, a change in e keeps its sums
+pub sums_stay : {at : ℕ} (p : Plan) (n : ℕ) {e : Extent} {old new : Image} →
+    IsApart (record { sector = at; length = place_length p n }) e → Elsewhere e.sector e.length old new →
+    IfSummed (shape_of p n) (sectors_from old at (place_length p n)) → IfSummed (shape_of p n) (sectors_from new at (place_length p n))
+sums_stay {at} p n {e} {old} {new} apart change =
+    subst (IfSummed (shape_of p n)) (sym (same_sectors at (place_length p n) old new (stays apart change)))
+
 pub frame_stays : (p : Plan) (generation : ℕ) (es : List Entry) (e : Extent) {old new : Image} → SparesFrames p generation es e →
     Elsewhere e.sector e.length old new → (n : ℕ) → n < count_of p → frame_in new p generation es n ≡ frame_in old p generation es n
 frame_stays p generation es e {old} {new} spares change n lt = bytes_stay p n (spares n lt) change
@@ -279,7 +285,7 @@ state_stays {p} {h} {es} {e} {old} {new} spares change = search (arith, read_sam
 spares_same : {p : Plan} {h : CheckpointHeader} {es : List Entry} {e : Extent} {old new : Image} → Spares p h es e →
     Elsewhere e.sector e.length old new → SameWhereRead p h es old new
 spares_same {p} {h} {es} {e} {old} {new} spares change = record {
-  headers = λ i lt. change.before (1 + i) (omega (arith, lt, spares.headers));
+  headers = opening_stays p.version e.sector e.length old new spares.headers change;
   directory = ⊎_elim (λ none i lt. absurd (omega (arith, lt, ap (directory_length p.version) none ∙ no_sectors p.version)))
       (λ apart. stays apart change) spares.directory;
   frames = λ n lt. stays (spares.frames n lt) change;
@@ -291,7 +297,7 @@ pub denotes_on : {p : Plan} {h : CheckpointHeader} {es : List Entry} {fs : List 
     → Encodes new size (record { plan = p; header = h; directory = es; frames = fs })
 denotes_on {p} {h} {es} {fs} {e} {size} {old} {new} spares change was =
     same_saved old new size (record { plan = p; header = h; directory = es; frames = fs })
-    (λ i lt. change.before (0 + i) (omega (arith, lt, spares.headers)))
+    (λ i lt. let some = first_some p.version in change.before (0 + i) (omega (arith, lt, spares.headers, some)))
     (spares_same spares change) was
 
 -- ---- the same on a device
@@ -312,18 +318,23 @@ module _ {old new : Disk} {p : Plan} {h : CheckpointHeader} {es : List Entry} {e
   pub state_spared : state_in new.seen p h es ≡ state_in old.seen p h es
   state_spared = state_stays spares.frames writes.elsewhere
 
-  left_spared : LeavesState old (state_in old.seen p h es) → (c : Image) → IsTorn e.sector e.length old c →
-      Encodes c old.sectors (state_in old.seen p h es)
-  left_spared sound c torn = denotes_on spares torn.2 (sound torn.0 torn.1)
+  module _ (g : SealedHeader) (sound : LeavesState old (state_in old.seen p h es) g) where
+    left_spared : (c : Image) → IsTorn e.sector e.length old c → EncodesBy c old.sectors (state_in old.seen p h es) g
+    left_spared c torn =
+        let was = sound torn.0 torn.1 in (
+          denotes_on spares torn.2 was.0,
+          same_header p.version torn.0 c (opening_stays p.version e.sector e.length torn.0 c spares.headers torn.2) g was.1,
+        )
 
-  -- after a write outside its sectors, each crash leaves the saved state
-  pub sound_spared : LeavesState old (state_in old.seen p h es) → LeavesState new (state_in new.seen p h es)
-  sound_spared sound c left = rw (writes.size, state_spared) (left_spared sound c (writes.crash c left))
+    -- after a write outside its sectors, each crash leaves the saved state
+    pub sound_spared : LeavesState new (state_in new.seen p h es) g
+    sound_spared c left = rw (writes.size, state_spared) (left_spared c (writes.crash c left))
 
-  -- at each moment of such a write, a crash leaves the saved state
-  pub moments_spared : LeavesState old (state_in old.seen p h es) → LeavesOnly old new
-      (λ c. Encodes c old.sectors (state_in old.seen p h es))
-  moments_spared sound = search (arith, leaves_weaker, left_spared)
+    -- at each moment of such a write, a crash leaves the saved state
+    pub moments_spared : LeavesOnly old new (λ c. Encodes c old.sectors (state_in old.seen p h es))
+    moments_spared =
+        leaves_weaker {old = old} {new = new} {P = λ c. IsTorn e.sector e.length old c}
+        (λ c. Encodes c old.sectors (state_in old.seen p h es)) (λ c torn. (left_spared c torn).0) writes.any_moment
 
 -- ---- the sectors of an unwritten cluster, and all others
 
@@ -436,3 +447,9 @@ pub apart_bytes : (image : Image) (u : Unwritten) {at : ℕ} (p : Plan) (n : ℕ
     IsApart (record { sector = at; length = place_length p n }) (record { sector = u.sector; length = 8 }) →
     bytes_at (mended image (Some u)) at p n ≡ bytes_at image at p n
 apart_bytes image u {at} p n apart = bytes_stay p n apart (mended_elsewhere u)
+
+pub apart_sums : (image : Image) (u : Unwritten) {at : ℕ} (p : Plan) (n : ℕ) →
+    IsApart (record { sector = at; length = place_length p n }) (record { sector = u.sector; length = 8 }) →
+    IfSummed (shape_of p n) (sectors_from image at (place_length p n)) →
+    IfSummed (shape_of p n) (sectors_from (mended image (Some u)) at (place_length p n))
+apart_sums image u {at} p n apart = sums_stay p n apart (mended_elsewhere u)

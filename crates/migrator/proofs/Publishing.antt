@@ -3,17 +3,21 @@ use Rattle.migrator.proofs.Names.{IfOk-from_err, nat_tests, Snapshots, generatio
 use Rattle.migrator.proofs.Names.{half_extent, half_sector, half_start, directories_inside, First, Second, ArePut, slot_bytes, bytes_at, ap, IsDurable}
 use Rattle.migrator.proofs.Names.{IsIntact, Books, MayAdopt, Option, Unwritten, mended, saved_state, stored_in, stored_on, ℕ, Result, Ok, Err, List, refl, sym}
 use Rattle.migrator.proofs.Names.{subst, inl, inr, ⊎_elim, OnOk, OnErr, Image, Disk, Elsewhere, Only, LeavesOnly, agrees_is, leaves_weaker, leaves_on, Entry}
-use Rattle.migrator.proofs.Names.{CheckpointHeader, directory_bytes, IsFrameOf, Encodes, SavedState, frame_in, directory_in, directory_sector, directory_length}
-use Rattle.migrator.proofs.Names.{state_in, Plan, length_read, read_at, spelt_same, WritesAt, header_sector, CommitsOne, Precedes, HasNew, IsOld, IsReady}
-use Rattle.migrator.proofs.Names.{directory_extent, next_follows, old_denoted, new_denoted, LeavesState, SavesOnly, IsErr, Extent, Touches, None, MayCommitAt}
-use Rattle.migrator.proofs.Names.{Stays, AreKeepable, AreComplete, Keeps, committed, next_saved, FrozenPuts, frozen_generation, frozen_of, next_header, seen_by}
-use Rattle.migrator.proofs.Names.{puts, on_snapshots, adopted, entries_of, arith, Counts, Publishes, SavedFrames, LeavesSaved, LeavesEither, Stored, IsSoundOn}
-use Rattle.migrator.proofs.Names.{zero, suc, [], length, replicate, Place, Nowhere, IsRunning, SparesKept, place_at, Spares, Frame, Geometry, IsKeepable}
-use Rattle.migrator.proofs.Names.{Commits, LeavesOneOf, same_Some, option_map, on_ok_weaker}
+use Rattle.migrator.proofs.Names.{CheckpointHeader, IsFrameOf, Encodes, SavedState, frame_in, directory_sector, directory_length, state_in, Plan, length_read}
+use Rattle.migrator.proofs.Names.{read_at, spelt_same, CommitsOne, Precedes, HasNew, IsOld, IsOldOrNew, IsReady, directory_extent, spares_opening, SparesRest}
+use Rattle.migrator.proofs.Names.{same_units, old_denoted, new_denoted, LeavesState, SavesOnly, IsErr, Extent, Touches, None, MayCommitAt, Stays, AreKeepable}
+use Rattle.migrator.proofs.Names.{AreComplete, Keeps, committed, next_saved, FrozenPuts, frozen_generation, frozen_of, next_header, seen_by, puts, on_snapshots}
+use Rattle.migrator.proofs.Names.{adopted, entries_of, arith, Counts, Publishes, SavedFrames, LeavesSaved, LeavesEither, Stored, IsSoundOn, zero, suc, []}
+use Rattle.migrator.proofs.Names.{length, replicate, Place, Nowhere, IsRunning, SparesKept, place_at, Spares, Frame, Geometry, IsKeepable, Commits, LeavesOneOf}
+use Rattle.migrator.proofs.Names.{same_Some, option_map, on_ok_weaker, EncodesBy, committed_header, with_sums, Sums, SealedHeader, Version, IsOpened, row, Bool}
+use Rattle.migrator.proofs.Names.{true, one_committed, AreEntriesOf, place_length, sectors_from, shape_of, IsSlotSummed, IfSummed, sums_if, TouchesAt}
+use Rattle.migrator.proofs.Names.{first_home_inside, false≢true}
 use Rattle.std.specs.Prelude.{if◌then◌else◌, ◌==◌}
 use Rattle.std.proofs.Common.{◌≡◌, ◌⊎◌, ◌∙◌, ◌+◌, ◌*◌, ◌%◌, ◌∷◌, ◌≤◌}
+use Rattle.layout.specs.Committed.{Commits as CommitsHeader}
+use Rattle.ckpt_log.specs.AnyVersion.{IsHeader as MayBeCommitted}
 use Rattle.migrator.proofs.Putting.{half_spares, homes_spare, idle_half, none_spares}
-use Rattle.migrator.proofs.PlacesApart.{touches, frame_stays, state_stays, state_spared, sound_spared, moments_spared, homes_behind}
+use Rattle.migrator.proofs.PlacesApart.{frame_stays, stays, state_stays, state_spared, sound_spared, moments_spared, homes_behind}
 use Rattle.migrator.proofs.Committing.{directory_spares, committed_stored, may_commit, kept_saves, state_saves, stored_saves}
 use Rattle.migrator.proofs.Completing.{IsCompleted, goes_after, has_after, keepable_at, kept_with, mid_kept, ready, stored_after, none_idle, without}
 use Rattle.migrator.proofs.Kept.{are_put_same, goes_seen, nowhere_frozen}
@@ -29,9 +33,12 @@ stored_raw disk b none c same = ap (λ (o : Option Unwritten). stored_in (mended
 
 -- ---- the calls of a publish
 
+pub touched_by : {at n : ℕ} {old new : Disk} → TouchesAt at n old new → Touches at n old new
+touched_by is = record { size = is.size; elsewhere = is.elsewhere; crash = is.crash; any_moment = is.any_moment }
+
 -- the directory was written outside all sectors that the saved states need
-module _ {old mid : Disk} {b : Books} {next : CheckpointHeader} {fs : List Entry} (may : MayAdopt old b next fs)
-    (writes : WritesAt (directory_sector b.plan next.generation) (directory_length b.plan.version next.entries) old mid) where
+module _ {old mid : Disk} {b : Books} {next : CheckpointHeader} {root : Sums} {fs : List Entry} (may : MayAdopt old b next root fs)
+    (touched : Touches (directory_sector b.plan next.generation) (directory_length b.plan.version next.entries) old mid) where
   abbrev p : Plan
   p = b.plan
 
@@ -50,81 +57,107 @@ module _ {old mid : Disk} {b : Books} {next : CheckpointHeader} {fs : List Entry
   abbrev is_next : Image → Type 0
   is_next c = Encodes c old.sectors (then_saved old.seen)
 
-  touched : Touches extent.sector extent.length old mid
-  touched = touches writes
+  abbrev v : Version
+  v = b.plan.version
 
-  sound : LeavesState old (saved old.seen)
-  sound = subst (λ (o : Option Unwritten). LeavesState old (saved (mended old.seen o))) may.written may.sound
+  -- the next header, with its root and the sums of its directory
+  abbrev then_header : SealedHeader
+  then_header = with_sums v next root fs
 
-  mid_sound : LeavesState mid (saved mid.seen)
-  mid_sound = sound_spared may.apart touched sound
+  sound : LeavesState old (saved old.seen) (committed_header b)
+  sound = subst (λ (o : Option Unwritten). LeavesState old (saved (mended old.seen o)) (committed_header b)) may.written may.sound
+
+  mid_sound : LeavesState mid (saved mid.seen) (committed_header b)
+  mid_sound = sound_spared may.apart touched (committed_header b) sound
 
   -- while the directory is being written, a crash leaves the old saved state
   pub either_before : LeavesOnly old mid (λ c. Encodes c old.sectors (saved_state old.seen b)
       ⊎ Encodes c old.sectors (state_in old.seen b.plan next fs))
   either_before = leaves_weaker {old = old} {new = mid} {P = is_saved} (λ c. is_saved c ⊎ is_next c) (λ c is. inl is)
-      (moments_spared may.apart touched sound)
+      (moments_spared may.apart touched (committed_header b) sound)
 
   module _ (left : mid.may_leave mid.seen) where
-    seen : Encodes mid.seen mid.sectors (saved mid.seen)
+    seen : EncodesBy mid.seen mid.sectors (saved mid.seen) (committed_header b)
     seen = mid_sound mid.seen left
 
     -- each crash leaves the same committed header as a read gives
-    pub commits_one : CommitsOne mid
-    commits_one c is = (mid_sound c is).header.spelt ∙ sym seen.header.spelt
+    pub commits_one : CommitsOne v mid
+    commits_one c is h has =
+        subst (CommitsHeader v c) (one_committed v mid.seen (committed_header b) h seen.1 has) (mid_sound c is).1
 
-    pub precedes_next : Precedes mid.seen next
-    precedes_next = next_follows mid.seen p.geometry.log b.header next may.stands.kept.header seen.header.spelt may.follows
+    pub precedes_next : Precedes v mid.seen then_header
+    precedes_next = (committed_header b, seen.1, may.follows)
 
-    module _ (written : directory_in mid.seen p next.generation next.entries ≡ directory_bytes fs) where
-      next_ready : IsReady mid.seen mid.sectors (then_saved mid.seen)
+    module _ (written : AreEntriesOf mid.seen p next.generation fs) where
+      next_ready : IsReady mid.seen mid.sectors (then_saved mid.seen) then_header
       next_ready = record {
-        plan = seen.plan;
+        same = refl;
+        plan = seen.0.plan;
         header = may.kept.header;
-        directory = record { count = may.kept.count; fits = may.kept.directory; spelt = written };
+        directory = record { count = may.kept.count; fits = may.kept.directory; spelt = written; sums = refl };
         count = length_read mid.seen p next.generation fs;
         each = λ n lt. subst (IsFrameOf p.geometry next.age n (frame_in mid.seen p next.generation fs n))
             (sym (read_at mid.seen p next.generation fs n lt))
             (spelt_same mid.seen old.seen p next.age next.generation next.generation fs fs n
-            (frame_stays p next.generation fs extent may.spares_next.frames writes.elsewhere n lt) (may.kept.saved n lt));
+            (frame_stays p next.generation fs extent may.spares_next.frames touched.elsewhere n lt) (may.kept.saved n lt));
+        units = λ sealed. same_units old.seen mid.seen p root next.generation fs
+            (λ n lt. stays (may.spares_next.frames n lt) touched.elsewhere) (may.kept.units sealed);
       }
 
       -- an image with the next header denotes the next saved state
-      new_state : {c : Image} → HasNew next mid.seen c → is_next c
+      new_state : {c : Image} → HasNew v then_header mid.seen c → is_next c
       new_state {c} has =
-          subst (λ (s : SavedState). Encodes c old.sectors s) (state_stays may.spares_next.frames writes.elsewhere)
-          (subst (λ (size : ℕ). Encodes c size (then_saved mid.seen)) writes.size
-          (new_denoted mid.seen c mid.sectors (then_saved mid.seen) (homes_behind may.kept.plan) next_ready has))
+          subst (λ (s : SavedState). Encodes c old.sectors s) (state_stays may.spares_next.frames touched.elsewhere)
+          (subst (λ (size : ℕ). Encodes c size (then_saved mid.seen)) touched.size
+          (new_denoted mid.seen c mid.sectors (then_saved mid.seen) then_header (homes_behind may.kept.plan) next_ready has))
 
-      old_state : {c : Image} → IsOld next mid c → is_saved c
-      old_state {c} is = rw (← state_spared may.apart touched, ← writes.size)
-          (old_denoted mid.seen is.could_be.0 c mid.sectors (saved mid.seen) next (homes_behind may.kept.plan) seen
-          (mid_sound is.could_be.0 is.could_be.1) is.could_be.2 is.committed)
+      old_state : {c : Image} → IsOld v then_header mid c → is_saved c
+      old_state {c} is = rw (← state_spared may.apart touched, ← touched.size)
+          (old_denoted mid.seen is.could_be.0 c mid.sectors (saved mid.seen) then_header (homes_behind may.kept.plan) seen.0
+          (mid_sound is.could_be.0 is.could_be.1).0 (commits_one is.could_be.0 is.could_be.1) is.could_be.2 is.committed)
 
       -- during the whole call a crash leaves the old or the next saved state
-      pub either_run : {new : Disk} → LeavesOnly mid new (λ c. IsOld next mid c ⊎ HasNew next mid.seen c)
+      pub either_run : {new : Disk} → LeavesOnly mid new (λ c. IsOldOrNew v then_header mid c)
           → LeavesOnly old new (λ c. Encodes c old.sectors (saved_state old.seen b)
           ⊎ Encodes c old.sectors (state_in old.seen b.plan next fs))
       either_run {new} run =
           leaves_on {old = old} {mid = mid} {new = new} {P = λ c. is_saved c ⊎ is_next c} either_before
-          (leaves_weaker {old = mid} {new = new} {P = λ c. IsOld next mid c ⊎ HasNew next mid.seen c} (λ c. is_saved c ⊎ is_next c)
+          (leaves_weaker {old = mid} {new = new} {P = λ c. IsOldOrNew v then_header mid c} (λ c. is_saved c ⊎ is_next c)
           (λ c. ⊎_elim (λ is. inl (old_state is)) (λ has. inr (new_state has))) run)
 
       -- if the publish succeeded, each crash leaves the next saved state
-      pub saved_next : (new : Disk) → new.sectors ≡ mid.sectors → Only new.seen new → HasNew next mid.seen new.seen →
-          LeavesState new (state_in old.seen b.plan next fs)
-      saved_next new size only has c may_leave = rw (size ∙ writes.size, agrees_is c new.seen (only c may_leave)) (new_state has)
+      pub saved_next : (new : Disk) → new.sectors ≡ mid.sectors → Only new.seen new → HasNew v then_header mid.seen new.seen →
+          LeavesState new (state_in old.seen b.plan next fs) (with_sums b.plan.version next root fs)
+      saved_next new size only has c may_leave =
+          rw (size ∙ touched.size, agrees_is c new.seen (only c may_leave)) (new_state has, has.committed)
+
+  -- the next header may be committed
+  pub may_be_committed : MayBeCommitted v p.geometry.log then_header
+  may_be_committed = record {
+    fits = may.kept.header;
+    unsealed = λ plain. record { root = may.kept.no_root plain; directory = ap (λ (sealed : Bool). sums_if sealed fs) plain };
+  }
+
+  pub opening_inside : (row b.plan.version).first_home ≤ mid.sectors
+  opening_inside =
+      let within = first_home_inside p may.kept.plan in
+      let all = may.kept.inside in
+      omega (arith, within, all, touched.size)
 
   -- only the directory, and then the header slot, were written
   pub only_directory : SavesOnly p next old.seen mid.seen
   only_directory = record {
     between = mid.seen;
-    directory = writes.elsewhere;
+    directory = touched.elsewhere;
     header = record { before = λ i lt. refl; after = λ i le. refl };
   }
 
-  pub only_both : (new : Disk) → Elsewhere (header_sector next) 2 mid.seen new.seen → SavesOnly p next old.seen new.seen
-  only_both new published = record { between = mid.seen; directory = writes.elsewhere; header = published }
+  pub only_both : (new : Disk) → SparesRest v then_header mid.seen new.seen → SavesOnly p next old.seen new.seen
+  only_both new published = record {
+    between = mid.seen;
+    directory = touched.elsewhere;
+    header = spares_opening v then_header mid.seen new.seen published;
+  }
 
 pub on_err : {T E P : Type 0} (r : Result T E) → P → OnErr r P
 on_err {T} {E} {P} r p = grind (arith, nat_tests)
@@ -158,14 +191,14 @@ module _ {old mid : Disk} {b : Books} {o : Option Unwritten} {k age : ℕ} (may 
     keepable : AreKeepable b.plan.geometry age (next_saved puts age (frozen_of mid.seen b k) (stored_in mid.seen b).saved).frames
     keepable = keepable_at now may.keepable
 
-    pub may_commit_now : MayAdopt mid (record b { unwritten = o }) (next_header age b) (entries_of b.frozen)
+    pub may_commit_now : MayAdopt mid (record b { unwritten = o }) (next_header age b) b.root (entries_of b.frozen)
     may_commit_now = may_commit mid k kept may.running may.stable complete may.later may.most keepable mid_stays.stands none
         (mid_stays.goes_on.sound may.sound)
 
-    pub commit_stored : stored_on mid (adopted (next_header age b) (entries_of b.frozen) (record b { unwritten = o })) ≡ on_snapshots
+    pub commit_stored : stored_on mid (adopted (next_header age b) b.root (entries_of b.frozen) (record b { unwritten = o })) ≡ on_snapshots
         (committed puts age (frozen_of (seen_by old.seen b) b k)) (stored_on old b)
     commit_stored =
-        stored_raw mid books none (adopted (next_header age b) (entries_of b.frozen) books) refl
+        stored_raw mid books none (adopted (next_header age b) b.root (entries_of b.frozen) books) refl
         ∙ committed_stored mid k kept may.running may.stable complete may.later may.most keepable
         ∙ ap (λ (f : FrozenPuts). on_snapshots (committed puts age f) (stored_in mid.seen b)) now.frozen ∙
         ap (on_snapshots (committed puts age frozen)) now.stored
@@ -203,13 +236,14 @@ publishes_as {old = old} {new = new} {b = b} {c = c} {r = r} same is = subst (λ
 
 -- ---- the result of the call
 
-module _ {disk : Disk} {b : Books} {next : CheckpointHeader} {es : List Entry} (may : MayAdopt disk b next es) {new : Disk}
+module _ {disk : Disk} {b : Books} {next : CheckpointHeader} {root : Sums} {es : List Entry} (may : MayAdopt disk b next root es)
+    {new : Disk}
     (size : new.sectors ≡ disk.sectors)
     (only : SavesOnly b.plan next disk.seen new.seen)
     (run : LeavesOnly disk new (λ c. Encodes c disk.sectors (state_in disk.seen b.plan b.header b.directory) ⊎ Encodes c disk.sectors
     (state_in disk.seen b.plan next es))) where
   abbrev after : Books
-  after = adopted next es b
+  after = adopted next root es b
 
   raw_kept : IsIntact disk.sectors disk.seen b
   raw_kept = kept_raw may.written may.stands
@@ -221,8 +255,9 @@ module _ {disk : Disk} {b : Books} {next : CheckpointHeader} {es : List Entry} (
   moments : LeavesEither disk new (stored_on disk b).saved (stored_on disk after).saved
   moments = grind (arith, nat_tests)
 
-  pub adopted_publishes : {T E : Type 0} {value : T} → LeavesState new (state_in disk.seen b.plan next es) → new.failures ≡ disk.failures →
-      Publishes {T = T} {E = E} disk new b (adopted next es b) (stored_on disk (adopted next es b)) (Ok value)
+  pub adopted_publishes : {T E : Type 0} {value : T} →
+      LeavesState new (state_in disk.seen b.plan next es) (with_sums b.plan.version next root es) → new.failures ≡ disk.failures →
+      Publishes {T = T} {E = E} disk new b (adopted next root es b) (stored_on disk (adopted next root es b)) (Ok value)
   adopted_publishes saved none = record {
     stands = record {
       kept = kept_then refl (kept_saves may.kept only may.spares_next);
@@ -240,7 +275,7 @@ module _ {disk : Disk} {b : Books} {next : CheckpointHeader} {es : List Entry} (
 
   -- after a failure the books are unchanged
   pub left_publishes : {T E U F : Type 0} {e : E} {r : Result U F} → IsErr r → Counts {T = T} disk new (Err e) →
-      Publishes disk new b b (stored_on disk (adopted next es b)) r
+      Publishes disk new b b (stored_on disk (adopted next root es b)) r
   left_publishes {r} failed counts =
       search (
         kept_then refl (kept_saves raw_kept only may.spares),
@@ -272,6 +307,10 @@ commits_by {old = old} {new = new} {b = b} {c = c} {k = k} {age = age} {r = r} m
 
 -- ---- if no checkpoint is frozen
 
+-- programs do not open version 3 yet
+pub never_sealed : (v : Version) → IsOpened v → (row v).sealed ≡ true → ⊥
+never_sealed v opened sealed = false≢true (sym opened ∙ sealed)
+
 -- the books with this header and directory
 abbrev pub with_header : Books → CheckpointHeader → List Entry → Books
 with_header b next es =
@@ -286,11 +325,18 @@ pub slot_same : (image : Image) (plan : Plan) (g h : ℕ) → g % 2 ≡ h % 2 �
     slot_bytes image plan g s n ≡ slot_bytes image plan h s n
 slot_same image plan g h same s n = ap (λ (r : ℕ). bytes_at image (half_start plan (if r == 0 then First else Second) + 9 * s) plan n) same
 
+sums_same : (image : Image) (plan : Plan) (g h : ℕ) → g % 2 ≡ h % 2 → (s n : ℕ) → IsSlotSummed image plan h s n →
+    IsSlotSummed image plan g s n
+sums_same image plan g h same s n =
+    subst (λ (r : ℕ). IfSummed (shape_of plan n) (sectors_from image (half_start plan (if r == 0 then First else Second) + 9 * s)
+    (place_length plan n))) (sym same)
+
 pub after_same : (g h : ℕ) (o : Option ℕ) → g % 2 ≡ h % 2 → generation_after g o % 2 ≡ generation_after h o % 2
 after_same g h o same = grind (arith, nat_tests)
 
 half_put : {image : Image} {p : Plan} {g h : ℕ} {ps : List Place} → h % 2 ≡ g % 2 → ArePut image p g ps → ArePut image p h ps
-half_put {image} {p = plan} {g} {h} same are = are_put_same (λ n s lt is. slot_same image plan h g same s n) are
+half_put {image} {p = plan} {g} {h} same are =
+    are_put_same (λ n s lt is. slot_same image plan h g same s n) (λ n s lt is. sums_same image plan h g same s n) are
 
 module _ {disk : Disk} {b : Books} (next : CheckpointHeader) (es : List Entry) (is : IsDurable disk b) (idle : b.frozen_size ≡ None) where
   none : b.unwritten ≡ None
@@ -302,15 +348,16 @@ module _ {disk : Disk} {b : Books} (next : CheckpointHeader) (es : List Entry) (
   pub idle_kept : IsIntact disk.sectors disk.seen b
   idle_kept = kept_raw none is
 
-  idle_books : with_header b next es ≡ adopted next es b
+  idle_books : with_header b next es ≡ adopted next b.root es b
   idle_books = grind (arith, nat_tests, no_places, blank)
 
   pub idle_stored : (stage : Snapshots FrozenPuts → Snapshots FrozenPuts) →
       stored_in disk.seen (with_header b next es) ≡ on_snapshots stage (stored_in disk.seen b) →
-      stored_on disk (adopted next es b) ≡ on_snapshots stage (stored_on disk b)
+      stored_on disk (adopted next b.root es b) ≡ on_snapshots stage (stored_on disk b)
   idle_stored stage stored = grind (arith, nat_tests)
 
-  module _ (parity : next.generation % 2 ≡ b.header.generation % 2) (header : IsHeader b.plan.geometry.log next)
+  module _ (parity : next.generation % 2 ≡ b.header.generation % 2) (header : IsHeader
+      (row b.plan.version).first_sequence b.plan.geometry.log next)
       (count : length es ≡ next.entries)
       (directory : IsDirectory b.plan.geometry es) (spelt : AreSpelt disk.seen b.plan next.age next.generation es)
       (apart : Spares b.plan b.header b.directory (directory_extent b.plan next.generation next.entries)) where
@@ -322,7 +369,18 @@ module _ {disk : Disk} {b : Books} (next : CheckpointHeader) (es : List Entry) (
 
     kept_next : IsIntact disk.sectors disk.seen (with_header b next es)
     kept_next = record {
-      readable = search (header, count, directory, spelt);
+      readable = record {
+        plan = is.kept.plan;
+        opened = is.kept.opened;
+        inside = is.kept.inside;
+        header = header;
+        count = count;
+        directory = directory;
+        saved = spelt;
+        -- an opened image isn't sealed
+        units = λ sealed. absurd (never_sealed b.plan.version is.kept.opened sealed);
+        no_root = is.kept.no_root;
+      };
       few = omega arith;
       moved = λ i less. absurd (omega (arith, less));
       frozen = half_put (omega (arith, parity)) idle_kept.frozen;
@@ -342,7 +400,7 @@ module _ {disk : Disk} {b : Books} (next : CheckpointHeader) (es : List Entry) (
           (idle_half (with_header b next es) idle next.generation refl) is.kept.working.table is.kept.working.few inside;
     }
 
-    pub may_adopt_idle : IsSoundOn disk b → b.header.sequence + 1 ≡ next.sequence → MayAdopt disk b next es
+    pub may_adopt_idle : IsSoundOn disk b → b.header.sequence + 1 ≡ next.sequence → MayAdopt disk b next b.root es
     may_adopt_idle sound follows = grind (arith, nat_tests, sound, none, seen, idle_books, kept_next, spares, spares_next)
 
 -- ---- a frame that may be kept at an age may be kept at a later one

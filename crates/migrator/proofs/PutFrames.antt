@@ -5,11 +5,11 @@ use Rattle.migrator.proofs.Names.{half_sector, place_length, slot_sector, count_
 use Rattle.migrator.proofs.Names.{Books, Place, Torn, Whole, slot_of, IsDurable, IsRunning, Stored, frozen_generation, seen_by, stored_in, stored_on}
 use Rattle.migrator.proofs.Names.{with_frozen, with_working, working_generation, Unwritten, mended, Put, Broken, Kept, HasFreeSlot, ArePut, puts_in, slot_bytes}
 use Rattle.migrator.proofs.Names.{slot_frame, Touches, entries_of, slot_for, Counts, IsIntact, Spares, SparesKept, on_err_weaker, get_or-set_same, same_Some}
-use Rattle.migrator.proofs.Names.{Err, IsErr, counts_on}
+use Rattle.migrator.proofs.Names.{Err, IsErr, counts_on, IsSlotSummed}
 use Rattle.std.proofs.Common.{◌≡◌, ◌⊎◌, ◌∙◌, ◌+◌, ◌<◌, ◌≤◌}
 use Rattle.std.specs.Prelude.{if◌then◌else◌}
 use Rattle.migrator.proofs.Completing.{entry_of, held_after, without, working_again, goes_after, kept_with, mid_kept, stored_after, keeps_written}
-use Rattle.migrator.proofs.Completing.{unwritten_inside}
+use Rattle.migrator.proofs.Completing.{unwritten_inside, working_sums}
 use Rattle.migrator.proofs.Committing.{frozen_fits}
 use Rattle.migrator.proofs.Kept.{GoesOnSeen, goes_seen, goes_spared, stored_stays, kept_on}
 use Rattle.migrator.proofs.PlacesApart.{unmended, writes_mended, place_inside, spares_other, touches}
@@ -144,14 +144,14 @@ module _ (since : Bool) {old new : Disk} {b : Books} {n : ℕ} (f : Frame) (kept
   stays_stored = stored_stays old.sectors spared writes.elsewhere ∙ tear_stored since kept lt has
 
   module _ (keepable : IsKeepable b.plan.geometry most n f) (written : slot_bytes new.seen b.plan g slot n
-      ≡ frame_bytes b.plan.geometry n f) where
+      ≡ frame_bytes b.plan.geometry n f) (summed : IsSlotSummed new.seen b.plan g slot n) where
     spelt : IsFrameOf b.plan.geometry most n (slot_bytes new.seen b.plan g slot n) (slot_frame new.seen b.plan g slot n)
         × (slot_frame new.seen b.plan g slot n ≡ f)
     spelt = bytes_spelt b.plan.geometry most n (slot_bytes new.seen b.plan g slot n) f keepable written
 
     put_kept : IsIntact new.sectors new.seen (with_places since b (set (places since b) n (Whole slot)))
     put_kept = kept_places n (Whole slot) kept since (set (places since b) n (Torn slot)) (in_list since kept lt has) has refl stays_kept
-        (mended_put (places since b) n slot (are_put since b (set (places since b) n (Torn slot)) stays_kept) lt spelt.0)
+        (mended_put (places since b) n slot (are_put since b (set (places since b) n (Torn slot)) stays_kept) lt spelt.0 summed)
 
     put_stored : stored_in new.seen (with_places since b (set (places since b) n (Whole slot)))
         ≡ putting since n (Kept f) (stored_in old.seen b)
@@ -161,16 +161,16 @@ module _ (since : Bool) {old new : Disk} {b : Books} {n : ℕ} (f : Frame) (kept
         ∙ ap (putting since n (Kept f)) stays_stored ∙ put_twice since (stored_in old.seen b) n Broken (Kept f)
 
   put_goes_on : (ps : List Place) → GoesOnSeen old new b (with_places since b ps)
-  put_goes_on ps = goes_spared refl refl refl (saved_spares since kept inside) (touches writes)
+  put_goes_on ps = goes_spared refl refl refl refl (saved_spares since kept inside) (touches writes)
 
   -- after the write the invariant holds, whether or not the device failed
   put_either : {T : Type 0} (r : Result T Failed) (ps : List Place) → IsKeepable b.plan.geometry most n f →
       OnOk r (ps ≡ set (places since b) n (Whole slot)) → OnErr r (ps ≡ set (places since b) n (Torn slot)) →
-      OnOk r (slot_bytes new.seen b.plan g slot n ≡ frame_bytes b.plan.geometry n f) →
+      OnOk r (slot_bytes new.seen b.plan g slot n ≡ frame_bytes b.plan.geometry n f) → OnOk r (IsSlotSummed new.seen b.plan g slot n) →
       IsIntact new.sectors new.seen (with_places since b ps)
       × OnOk r (stored_in new.seen (with_places since b ps) ≡ putting since n (Kept f) (stored_in old.seen b))
       × OnErr r (stored_in new.seen (with_places since b ps) ≡ putting since n Broken (stored_in old.seen b))
-  put_either {T} r ps keepable ok err written = grind (arith, nat_tests, put_kept, put_stored, stays_kept, stays_stored)
+  put_either {T} r ps keepable ok err written summed = grind (arith, nat_tests, put_kept, put_stored, stays_kept, stays_stored)
 
 -- ---- working frames
 
@@ -185,11 +185,13 @@ module _ {old : Disk} {b : Books} {n : ℕ} (is : IsDurable old b) (lt : n < cou
       {ps : List Place} → IsKeepable b.plan.geometry most n f → OnOk r (ps ≡ set b.working n (Whole (slot_for b.working n)))
       → OnErr r (ps ≡ set b.working n (Torn (slot_for b.working n)))
       → OnOk r (slot_bytes new.seen b.plan (working_generation b) (slot_for b.working n) n ≡ frame_bytes b.plan.geometry n f)
+      → OnOk r (IsSlotSummed new.seen b.plan (working_generation b) (slot_for b.working n) n)
       → PutsFrame old new b (record b { working = ps }) f (λ put. with_working n put (stored_on old b)) r
-  working_puts {new = new} {f = f} {r = r} writes counts {ps} keepable ok err written =
+  working_puts {new = new} {f = f} {r = r} writes counts {ps} keepable ok err written summed =
       let wrote = writes_mended b.unwritten writes in
       let read = on_ok_weaker r (λ is_written. working_again is new.seen n working_room ∙ is_written) written in
-      let both = put_either true f is.kept lt working_room wrote r ps keepable ok err read in
+      let sums = on_ok_weaker r (working_sums is new.seen n working_room) summed in
+      let both = put_either true f is.kept lt working_room wrote r ps keepable ok err read sums in
       search (goes_seen (put_goes_on true f is.kept lt working_room wrote ps), counts)
 
 -- ---- frames of the frozen checkpoint
@@ -226,7 +228,7 @@ module _ {old : Disk} {b : Books} {k n : ℕ} (is : IsDurable old b) (size : b.f
           held_after b (Torn (slot_for b.frozen n)) (omega (arith, lt, is.kept.frozen.count)) refl is.unwritten either,
           tear_stored false mid lt has_slot ∙ ap (with_frozen n Broken) (stored_after is.kept size keeps),
           goes_seen (goes_after is.kept size keeps {c = record b { frozen = set b.frozen n (Torn (slot_for b.frozen n)); unwritten = o }}
-              refl refl refl),
+              refl refl refl refl),
         )
 
 pub frozen_puts : {T : Type 0} {old new : Disk} {b : Books} {n k : ℕ} {f : Frame} {r : Result T Failed} → MayPut old b k n f →
@@ -234,8 +236,9 @@ pub frozen_puts : {T : Type 0} {old new : Disk} {b : Books} {n k : ℕ} {f : Fra
     Counts old new r → {ps : List Place} → OnOk r (ps ≡ set b.frozen n (Whole (slot_for b.frozen n))) →
     OnErr r (ps ≡ set b.frozen n (Torn (slot_for b.frozen n)))
     → OnOk r (slot_bytes new.seen b.plan (frozen_generation b) (slot_for b.frozen n) n ≡ frame_bytes b.plan.geometry n f)
+    → OnOk r (IsSlotSummed new.seen b.plan (frozen_generation b) (slot_for b.frozen n) n)
     → PutsFrame old new b (record b { frozen = ps }) f (λ put. with_frozen n put (stored_on old b)) r
-frozen_puts {old = old} {new = new} {b = b} {n = n} {k = k} {f = f} {r = r} may none writes counts {ps} ok err written =
+frozen_puts {old = old} {new = new} {b = b} {n = n} {k = k} {f = f} {r = r} may none writes counts {ps} ok err written summed =
     let is = may.stands in
     let has : (j : ℕ) × (b.frozen_size ≡ Some j) × (slot_for b.frozen n < j) =
     (k, may.running, frozen_low is may.running may.object may.room) in
@@ -243,7 +246,9 @@ frozen_puts {old = old} {new = new} {b = b} {n = n} {k = k} {f = f} {r = r} may 
     let read = on_ok_weaker r (λ is_written. ap (λ (image : Image). slot_bytes image b.plan (frozen_generation b) (slot_for b.frozen n) n)
     (unmended none)
     ∙ is_written) written in
-    let both = put_either false f is.kept may.object has wrote r ps may.keepable ok err read in
+    let sums = on_ok_weaker r (subst (λ (image : Image). IsSlotSummed image b.plan (frozen_generation b) (slot_for b.frozen n) n)
+    (sym (unmended none))) summed in
+    let both = put_either false f is.kept may.object has wrote r ps may.keepable ok err read sums in
     search (without (record b { frozen = ps }) none, goes_seen (put_goes_on false f is.kept may.object has wrote ps), counts)
 
 -- the unwritten cluster's sectors exist on the device

@@ -4,8 +4,8 @@ use Rattle.migrator.proofs.Names.{same_lists, length-set, length-map-range_with_
 use Rattle.migrator.proofs.Names.{count_of, entry_at, Plan, IsPlan, IsApart, IsInside, half_extent, apart_inside, home_extent, slot_extent, place_extent}
 use Rattle.migrator.proofs.Names.{frames_in_slots, slots_apart, Place, Nowhere, Torn, Whole, place_at, slot_of, has_slot, has_frame, tally, taken_count}
 use Rattle.migrator.proofs.Names.{whole_count, slot_or, slot_for, IsTable, Put, Absent, Kept, put_at, kept_frame, held_slot, sum_of, kept_count, HasFreeSlot}
-use Rattle.migrator.proofs.Names.{slot_bytes, slot_frame, put_of, puts_in, ArePut, most, Books, frozen_generation, generation_after, IsRunning, IsIntact}
-use Rattle.migrator.proofs.Names.{Spares, SparesPuts, working_generation, replicate, length-replicate, get_or-replicate, stored_in, freezing_puts}
+use Rattle.migrator.proofs.Names.{IsSlotSummed, slot_bytes, slot_frame, put_of, puts_in, ArePut, most, Books, frozen_generation, generation_after, IsRunning}
+use Rattle.migrator.proofs.Names.{IsIntact, Spares, SparesPuts, working_generation, replicate, length-replicate, get_or-replicate, stored_in, freezing_puts}
 use Rattle.std.proofs.Common.{◌≡◌, ◌⊎◌, ◌+◌, ◌%◌, ◌<◌, ◌≤◌, ◌∷◌, ◌∙◌}
 use Rattle.migrator.proofs.Tables.{some_has, tally-set, table_set, set_here, set_there}
 use Rattle.migrator.proofs.Kept.{map_set, nowhere_frozen}
@@ -112,12 +112,18 @@ module _ {image : Image} {p : Plan} {generation : ℕ} {ps : List Place} {n : �
           (ap (place_at (set ps n (Torn (slot_for ps n)))) same ∙ set_here ps in_table) ∙ is in absurd cc
       | inr other ↦ are.spelt m s within (sym (set_there ps (Torn (slot_for ps n)) other) ∙ is)
     ];
+    summed = λ m s within is. elim (cases_eq m n) [
+      | inl same ↦ let never : Torn (slot_for ps n) ≡ Whole s = sym
+          (ap (place_at (set ps n (Torn (slot_for ps n)))) same ∙ set_here ps in_table) ∙ is in absurd cc
+      | inr other ↦ are.summed m s within (sym (set_there ps (Torn (slot_for ps n)) other) ∙ is)
+    ];
   }
 
   -- once a valid frame is in the slot, the table with it is valid
   pub whole_put : IsFrameOf p.geometry most n (slot_bytes image p generation (slot_for ps n) n)
-      (slot_frame image p generation (slot_for ps n) n) → ArePut image p generation (set ps n (Whole (slot_for ps n)))
-  whole_put spelt = record {
+      (slot_frame image p generation (slot_for ps n) n) → IsSlotSummed image p generation (slot_for ps n) n →
+      ArePut image p generation (set ps n (Whole (slot_for ps n)))
+  whole_put spelt summed = record {
     count = length-set ps n (Whole (slot_for ps n)) ∙ are.count;
     few = taken_set ps (Whole (slot_for ps n)) in_table refl are.few room;
     table = table_set (Whole (slot_for ps n)) are.table in_table refl;
@@ -130,6 +136,15 @@ module _ {image : Image} {p : Plan} {generation : ℕ} {ps : List Place} {n : �
           (subst (λ (t : ℕ). IsFrameOf p.geometry most n (slot_bytes image p generation t n) (slot_frame image p generation t n)) slot
           spelt)
       | inr other ↦ are.spelt m s within (sym (set_there ps (Whole (slot_for ps n)) other) ∙ is)
+    ];
+    summed = λ m s within is. elim (cases_eq m n) [
+      | inl same ↦
+          let here : Whole (slot_for ps n) ≡ Whole s = sym (ap (place_at (set ps n (Whole (slot_for ps n)))) same ∙ set_here ps in_table)
+          ∙ is in
+          let slot : slot_for ps n ≡ s = cc in
+          subst (λ (k : ℕ). IsSlotSummed image p generation s k) (sym same)
+          (subst (λ (t : ℕ). IsSlotSummed image p generation t n) slot summed)
+      | inr other ↦ are.summed m s within (sym (set_there ps (Whole (slot_for ps n)) other) ∙ is)
     ];
   }
 
@@ -227,8 +242,8 @@ module _ {image : Image} {p : Plan} {generation : ℕ} (ps : List Place) (n s : 
     slot_low = let less = are.table.few n s (ap slot_of here) in omega (arith, less, are.few, slot_here)
 
     pub mended : IsFrameOf p.geometry most n (slot_bytes image p generation s n) (slot_frame image p generation s n) →
-        ArePut image p generation (set ps n (Whole s))
-    mended spelt = grind (arith, nat_tests, set_twice, slot_here, whole_put, slot_low)
+        IsSlotSummed image p generation s n → ArePut image p generation (set ps n (Whole s))
+    mended spelt summed = grind (arith, nat_tests, set_twice, slot_here, whole_put, slot_low)
 
     pub puts_mended : {f : Frame} → slot_frame image p generation s n ≡ f →
         puts_in image p generation (set ps n (Whole s)) ≡ set (puts_in image p generation (set ps n (Torn s))) n (Kept f)

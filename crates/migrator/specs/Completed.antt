@@ -5,7 +5,7 @@ use Rattle.migrator.specs.Names.{shape_bytes, Plan, IsObject}
 use Rattle.std.specs.Prelude.{◌≡◌, ◌*◌, ◌<◌}
 use Rattle.migrator.specs.Gathered.{IsFirst}
 use Rattle.migrator.specs.Mended.{Unwritten, mended, IfUnwritten}
-use Rattle.migrator.specs.Put.{slot_bytes}
+use Rattle.migrator.specs.Put.{IsSlotSummed, slot_bytes}
 use Rattle.migrator.specs.Spared.{Touches}
 
 -- the bytes of a cluster contain the frame in the entry's slot, and the home frames of the other objects in the
@@ -29,20 +29,25 @@ AreComplete image p generation es =
     (n s : ℕ) → IsObject p.geometry n → slot_in es n ≡ None → slot_beside p es n ≡ Some s →
     slot_bytes image p generation s n ≡ bytes_at image (home_place p n) p n
 
--- slots of a half were written, and the frames of these entries didn't change
+-- slots of a half were written, and the frames of these entries didn't change, with their sums
 pub record Keeps (p : Plan) (generation : ℕ) (es : List Entry) (old : Disk) (was : Option Unwritten) (new : Disk)
     (is : Option Unwritten) : Type 0 where
   pub touches : Touches (half_sector p generation) (9 * p.geometry.log) old new
   pub elsewhere : Elsewhere (half_sector p generation) (9 * p.geometry.log) (mended old.seen was) (mended new.seen is)
   pub frames : (i : ℕ) → i < length es → slot_bytes (mended new.seen is) p generation (entry_at es i).slot
       (entry_at es i).object ≡ slot_bytes (mended old.seen was) p generation (entry_at es i).slot (entry_at es i).object
+  pub sums : (i : ℕ) → i < length es →
+      IsSlotSummed (mended old.seen was) p generation (entry_at es i).slot (entry_at es i).object →
+      IsSlotSummed (mended new.seen is) p generation (entry_at es i).slot (entry_at es i).object
   pub unwritten : IfUnwritten p generation es is
 
--- the slot of one entry was written, and the entry's frame didn't change
+-- the slot of one entry was written, and the entry's frame didn't change, with its sums
 pub record KeepsOne (p : Plan) (generation : ℕ) (es : List Entry) (i : ℕ) (old new : Disk) (is : Option Unwritten) :
     Type 0 where
   pub touches : Touches (slot_sector p generation (entry_at es i).slot) 8 old new
   pub elsewhere : Elsewhere (slot_sector p generation (entry_at es i).slot) 8 old.seen (mended new.seen is)
   pub own : slot_bytes (mended new.seen is) p generation (entry_at es i).slot (entry_at es i).object ≡ slot_bytes
       old.seen p generation (entry_at es i).slot (entry_at es i).object
+  pub sums : IsSlotSummed old.seen p generation (entry_at es i).slot (entry_at es i).object →
+      IsSlotSummed (mended new.seen is) p generation (entry_at es i).slot (entry_at es i).object
   pub unwritten : IfUnwritten p generation es is

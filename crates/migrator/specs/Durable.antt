@@ -1,12 +1,14 @@
 -- A durable store: its invariant over the device and the books in memory, and the frames that it stores.
 use Rattle.migrator.specs.Names.{⊤, ℕ, Option, Some, None, List, length, option_map, slice_set, replicate, Frame}
 use Rattle.migrator.specs.Names.{frame_at, Image, Disk, Agrees, Narrows, Peeks, Entry, CheckpointHeader, IsDirectory}
-use Rattle.migrator.specs.Names.{entry_at, IsHeader, place_length, SavedState, Encodes, slot_sector, AreSpelt}
-use Rattle.migrator.specs.Names.{state_in, Plan, IsPlan, SavedFrames, kept_of, LeavesSaved, FrozenView, Snapshots}
-use Rattle.migrator.specs.Names.{freezing, IsObject, IsKeepable, most, Counts, LeavesEither, Result, OnOk, OnErr, moved}
-use Rattle.migrator.specs.Names.{moved_saved, LeavesOneOf, committed, next_saved}
+use Rattle.migrator.specs.Names.{entry_at, IsHeader, place_length, SavedState, Encodes, slot_sector, AreSpelt, state_in}
+use Rattle.migrator.specs.Names.{Plan, IsPlan, SavedFrames, kept_of, LeavesSaved, FrozenView, Snapshots, freezing}
+use Rattle.migrator.specs.Names.{IsObject, IsKeepable, most, Counts, LeavesEither, Result, OnOk, OnErr, moved}
+use Rattle.migrator.specs.Names.{moved_saved, LeavesOneOf, committed, next_saved, true, false, HasUnits, IsOpened, Sums}
+use Rattle.migrator.specs.Names.{SealedHeader, Version, no_sums, row, sums_if}
 use Rattle.std.specs.Prelude.{◌≡◌, ◌⊎◌, ◌+◌, ◌-◌, ◌^◌, ◌<◌, ◌≤◌}
 use Rattle.model.specs.declared.object.Role.TheVariants as role
+use Rattle.layout.specs.Committed.{Commits as CommitsHeader}
 use Rattle.migrator.specs.Gathered.{IsCopied}
 use Rattle.migrator.specs.Mended.{Unwritten, mended}
 use Rattle.migrator.specs.declared.books.Books.{Books}
@@ -117,19 +119,23 @@ abbrev pub IsRunning : Books → Option ℕ → Type 0
 IsRunning b o = MayRun b.header.entries b.plan.geometry.log b.frozen o
 
 -- superblock, header and directory are valid and fit `size` sectors, and all saved frames can be read: those of
--- entries in slots, the others at home
-pub record IsReadable (size : ℕ) (image : Image) (p : Plan) (h : CheckpointHeader) (es : List Entry) : Type 0 where
+-- entries in slots, the others at home; in version 3 their units are sealed, and add up to the root
+pub record IsReadable (size : ℕ) (image : Image) (p : Plan) (h : CheckpointHeader) (root : Sums) (es : List Entry)
+    : Type 0 where
   pub plan : IsPlan p
+  pub opened : IsOpened p.version
   pub inside : p.total ≤ size
-  pub header : IsHeader p.geometry.log h
+  pub header : IsHeader (row p.version).first_sequence p.geometry.log h
   pub count : length es ≡ h.entries
   pub directory : IsDirectory p.geometry es
   pub saved : AreSpelt image p h.age h.generation es
+  pub units : (row p.version).sealed ≡ true → HasUnits image p root h.generation es
+  pub no_root : (row p.version).sealed ≡ false → root ≡ no_sums
 
 -- an image of `size` sectors has all frames that the books name, even after a failure; its header and superblock
 -- aren't checked
 pub record IsIntact (size : ℕ) (image : Image) (b : Books) : Type 0 where
-  pub readable : IsReadable size image b.plan b.header b.directory
+  pub readable : IsReadable size image b.plan b.header b.root b.directory
   pub open readable use *
   pub few : b.moved ≤ b.header.entries
   pub moved : (i : ℕ) → i < b.moved → IsHome image b.plan b.header.generation b.directory i
@@ -167,13 +173,25 @@ pub record IsDurable (disk : Disk) (b : Books) : Type 0 where
   pub kept : IsIntact disk.sectors (seen_by disk.seen b) b
   pub unwritten : MayHaveUnwritten b b.unwritten
 
--- each crash now leaves this saved state
-abbrev pub LeavesState : Disk → SavedState → Type 0
-LeavesState disk s = (c : Image) → disk.may_leave c → Encodes c disk.sectors s
+-- a header with the root and the directory sums of its state; both are zeros in versions 1 and 2
+abbrev pub with_sums : Version → CheckpointHeader → Sums → List Entry → SealedHeader
+with_sums v h root es = record { header = h; root = root; directory = sums_if (row v).sealed es }
+
+-- the committed header
+abbrev pub committed_header : Books → SealedHeader
+committed_header b = with_sums b.plan.version b.header b.root b.directory
+
+-- an image encodes this saved state, and has this committed header
+abbrev pub EncodesBy : Image → ℕ → SavedState → SealedHeader → Type 0
+EncodesBy c size s h = Encodes c size s × CommitsHeader s.plan.version c h
+
+-- each crash now leaves this saved state, with this committed header
+abbrev pub LeavesState : Disk → SavedState → SealedHeader → Type 0
+LeavesState disk s h = (c : Image) → disk.may_leave c → EncodesBy c disk.sectors s h
 
 -- each crash now leaves the saved state; true until a publish fails
 abbrev pub IsSoundOn : Disk → Books → Type 0
-IsSoundOn disk b = LeavesState disk (saved_state (seen_by disk.seen b) b)
+IsSoundOn disk b = LeavesState disk (saved_state (seen_by disk.seen b) b) (committed_header b)
 
 -- the stored frames after a working frame of object n was written; after a frozen one was
 abbrev pub with_working : ℕ → Put → Stored → Stored

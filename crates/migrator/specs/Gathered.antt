@@ -1,6 +1,6 @@
 -- The frames of objects that share a home.
-use Rattle.migrator.specs.Names.{ℕ, List, Image, Entry, entry_at, home_place, shape_of, bytes_at, frame_in}
-use Rattle.migrator.specs.Names.{shape_bytes, Plan, IsObject}
+use Rattle.migrator.specs.Names.{ℕ, List, Image, Entry, entry_at, home_place, shape_of, bytes_at, frame_in, shape_bytes}
+use Rattle.migrator.specs.Names.{Plan, IsObject}
 use Rattle.std.specs.Prelude.{◌≡◌, ◌<◌}
 
 -- these bytes contain the saved frame of each object that shares the home of `number`

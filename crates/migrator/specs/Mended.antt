@@ -1,7 +1,7 @@
 -- A cluster that a device failed to write.
 use Rattle.migrator.specs.Names.{⊤, ℕ, nat_le, nat_lt, Option, Some, None, List, length, Geometry, Image, image_of}
-use Rattle.migrator.specs.Names.{Entry, Shape, entry_at, place_length, IsFrameOf, frame_from, slot_sector}
-use Rattle.migrator.specs.Names.{shape_bytes, most, Plan, IsObject, IsShapeFor}
+use Rattle.migrator.specs.Names.{Entry, Shape, entry_at, place_length, IsFrameOf, frame_from, slot_sector, shape_bytes}
+use Rattle.migrator.specs.Names.{most, Plan, IsObject, IsShapeFor}
 use Rattle.std.specs.Prelude.{◌≡◌, ◌+◌, ◌-◌, ◌<◌, ◌&&◌, if◌then◌else◌}
 
 -- a cluster that the device failed to write: its bytes, and the first sector of the slot where they belong

@@ -4,37 +4,44 @@ pub use Rattle.checkpoint.specs.Opened.{OnlyReads}
 pub use Rattle.checkpoint.specs.Saved.{Holds, LeavesEither, LeavesOneOf, LeavesSaved, SavedFrames, kept_of, most}
 pub use Rattle.checkpoint.specs.Snapshots.{FrozenView, Snapshots, committed, freezing, moved, moved_saved, next_saved}
 pub use Rattle.checkpoint.specs.Store.{View}
-pub use Rattle.ckpt_log.specs.Commit.{header_sector}
 pub use Rattle.ckpt_log.specs.Places.{directory_extent, place_extent}
 pub use Rattle.device.specs.Calls.{Agrees, Counts, Elsewhere, IsTorn, Narrows, Only, Tears, image_of}
 pub use Rattle.device.specs.Disk.{Disk, Image}
 pub use Rattle.device.specs.Moments.{LeavesOnly, Peeks}
 pub use Rattle.home_ranges.specs.Laws.{home_extent}
+pub use Rattle.layout.specs.Committed.{no_sums}
+pub use Rattle.layout.specs.Denoted.{Encodes, HasDirectory, HasHeader, IsBadBy, SavedState, sums_if}
 pub use Rattle.layout.specs.Directory.{IsDirectory, entry_at}
 pub use Rattle.layout.specs.Frame.{IsFrameOf}
 unfoldable pub use Rattle.layout.specs.FrameReader.{frame_from}
 pub use Rattle.layout.specs.Frames.{IsObject}
 pub use Rattle.layout.specs.Header.{IsHeader}
 pub use Rattle.layout.specs.Homes.{home_place, place_length, shape_of}
-pub use Rattle.layout.specs.Image.{Encodes, HasDirectory, HasHeader, IsBadBy, SavedState, bytes_at}
-pub use Rattle.layout.specs.Image.{directory_sector, frame_in, frame_sector, half_sector, slot_beside}
+pub use Rattle.layout.specs.Image.{bytes_at, directory_sector, frame_in, frame_sector, half_sector, slot_beside}
 pub use Rattle.layout.specs.Image.{slot_in, slot_sector}
+unfoldable pub use Rattle.layout.specs.Image.{sectors_from}
 pub use Rattle.layout.specs.Shape.{IsShapeFor, shape_bytes}
 pub use Rattle.layout.specs.Spelt.{AreSpelt, count_of, state_in}
 unfoldable pub use Rattle.layout.specs.Spelt.{frames_read}
-unfoldable pub use Rattle.layout.specs.Version.{directory_length}
 pub use Rattle.layout.specs.Superblock.{IsApart, IsPlan, Plan}
+pub use Rattle.layout.specs.Version.{IsOpened, row}
+unfoldable pub use Rattle.layout.specs.Version.{directory_length}
 pub use Rattle.layout.specs.declared.bad_image.BadImage.{BadImage}
 pub use Rattle.layout.specs.declared.bad_image.BadImage.TheVariants.{BadFrame}
 pub use Rattle.layout.specs.declared.directory.Entry.{Entry}
 pub use Rattle.layout.specs.declared.extent.Extent.{Extent}
 pub use Rattle.layout.specs.declared.header.CheckpointHeader.{CheckpointHeader}
 pub use Rattle.layout.specs.declared.open_fault.OpenFault.{OpenFault}
+pub use Rattle.layout.specs.declared.sealed.header.SealedHeader.{SealedHeader}
 pub use Rattle.layout.specs.declared.shape.Shape.{Shape}
+pub use Rattle.layout.specs.declared.version.Version.{Version}
+pub use Rattle.layout.specs.sealed.Summed.{IfSummed}
+pub use Rattle.layout.specs.sealed.Units.{HasUnits}
 pub use Rattle.model.specs.Frame.{frame_at}
 pub use Rattle.model.specs.Keepable.{AreKeepable, IsKeepable}
 pub use Rattle.model.specs.declared.frame.Frame.{Frame}
 pub use Rattle.model.specs.declared.geometry.Geometry.{Geometry}
+pub use Rattle.seal.specs.declared.sums.Sums.{Sums}
 pub use Rattle.std.specs.List.{range_with_len}
 pub use Rattle.std.specs.Prelude.{Bool, List, None, OnErr, OnOk, Option, Result, Some, [], false, length, map, nat_le}
 pub use Rattle.std.specs.Prelude.{nat_lt, option_map, replicate, slice_index_or, slice_set, take, true, vec_capacity, ℕ}

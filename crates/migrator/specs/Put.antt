@@ -1,6 +1,7 @@
 -- The frames that were written to a half of the log.
 use Rattle.migrator.specs.Names.{ℕ, List, [], length, map, slice_index_or, range_with_len, Frame, frame_at, Image}
-use Rattle.migrator.specs.Names.{IsFrameOf, frame_from, bytes_at, slot_sector, count_of, Plan, most}
+use Rattle.migrator.specs.Names.{IsFrameOf, IfSummed, frame_from, bytes_at, sectors_from, shape_of, place_length}
+use Rattle.migrator.specs.Names.{slot_sector, count_of, Plan, most}
 use Rattle.std.specs.Prelude.{◌≡◌, ◌≢◌, ◌⊎◌, ◌+◌, ◌<◌, ◌≤◌, ◌∷◌}
 use Rattle.migrator.specs.declared.table.Place.{Place}
 use Rattle.migrator.specs.declared.table.Place.TheVariants.{Nowhere, Torn, Whole}
@@ -55,6 +56,11 @@ slot_bytes image p generation slot n = bytes_at image (slot_sector p generation 
 abbrev pub slot_frame : Image → Plan → ℕ → ℕ → ℕ → Frame
 slot_frame image p generation slot n = frame_from p.geometry n (slot_bytes image p generation slot n)
 
+-- the block of an object in a slot has the sums of its words, if frames of this shape have sums
+abbrev pub IsSlotSummed : Image → Plan → ℕ → ℕ → ℕ → Type 0
+IsSlotSummed image p generation slot n =
+    IfSummed (shape_of p n) (sectors_from image (slot_sector p generation slot) (place_length p n))
+
 abbrev pub put_of : Image → Plan → ℕ → ℕ → Place → Put
 put_of image p generation n Nowhere = Absent
 put_of image p generation n (Torn slot) = Broken
@@ -64,10 +70,11 @@ put_of image p generation n (Whole slot) = Kept (slot_frame image p generation s
 unfoldable pub puts_in : Image → Plan → ℕ → List Place → List Put
 puts_in image p generation ps = map (λ n. put_of image p generation n (place_at ps n)) (range_with_len 0 (count_of p))
 
--- the table is valid, and each slot that it calls whole encodes a frame of its object
+-- the table is valid, and each slot that it calls whole encodes a frame of its object, with its sums
 pub record ArePut (image : Image) (p : Plan) (generation : ℕ) (ps : List Place) : Type 0 where
   pub count : length ps ≡ count_of p
   pub few : taken_count ps ≤ p.geometry.log
   pub table : IsTable ps
   pub spelt : (n s : ℕ) → n < count_of p → place_at ps n ≡ Whole s →
       IsFrameOf p.geometry most n (slot_bytes image p generation s n) (slot_frame image p generation s n)
+  pub summed : (n s : ℕ) → n < count_of p → place_at ps n ≡ Whole s → IsSlotSummed image p generation s n

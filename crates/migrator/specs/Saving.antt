@@ -1,9 +1,9 @@
 -- The conditions for writing a directory and publishing a header.
 use Rattle.migrator.specs.Names.{ℕ, None, List, length, replicate, Image, Disk, Elsewhere, Entry, Extent}
 use Rattle.migrator.specs.Names.{CheckpointHeader, entry_at, directory_sector, directory_length, count_of, Plan}
-use Rattle.migrator.specs.Names.{IsApart, header_sector, directory_extent, place_extent, home_extent, AreKeepable}
-use Rattle.migrator.specs.Names.{IsFrameOf, next_saved, Some}
-use Rattle.std.specs.Prelude.{◌≡◌, ◌+◌, ◌<◌, ◌≤◌, ◌^◌}
+use Rattle.migrator.specs.Names.{IsApart, directory_extent, place_extent, home_extent, AreKeepable, IsFrameOf}
+use Rattle.migrator.specs.Names.{next_saved, Some, Sums, row}
+use Rattle.std.specs.Prelude.{◌≡◌, ◌+◌, ◌-◌, ◌<◌, ◌≤◌, ◌^◌}
 use Rattle.migrator.specs.declared.books.Books.{Books}
 use Rattle.migrator.specs.declared.table.Place.{Place}
 use Rattle.migrator.specs.declared.table.Place.TheVariants.{Nowhere, Whole}
@@ -12,11 +12,11 @@ use Rattle.migrator.specs.Durable.{first_bytes, first_frame, puts, seen_by, stor
 use Rattle.migrator.specs.Table.{place_at, whole_count}
 use Rattle.migrator.specs.Spared.{Spares, SparesFrames}
 
--- only the directory, and then the slot of the header, may differ
+-- only the directory, and then header slots, may differ
 pub record SavesOnly (p : Plan) (next : CheckpointHeader) (old new : Image) : Type 0 where
   pub between : Image
   pub directory : Elsewhere (directory_sector p next.generation) (directory_length p.version next.entries) old between
-  pub header : Elsewhere (header_sector next) 2 between new
+  pub header : Elsewhere 1 ((row p.version).first_home - 1) between new
 
 -- no frame written to this half overlaps the extent e
 abbrev pub SparesPuts : Plan → ℕ → List Place → Extent → Type 0
@@ -30,11 +30,12 @@ pub record SparesKept (b : Books) (e : Extent) : Type 0 where
   pub frozen : SparesPuts b.plan (frozen_generation b) b.frozen e
   pub working : SparesPuts b.plan (working_generation b) b.working e
 
--- the books after this header and directory were adopted: nothing is frozen
-abbrev pub adopted : CheckpointHeader → List Entry → Books → Books
-adopted next es b = record {
+-- the books after this header, root and directory were adopted: nothing is frozen
+abbrev pub adopted : CheckpointHeader → Sums → List Entry → Books → Books
+adopted next root es b = record {
   plan = b.plan;
   header = next;
+  root = root;
   directory = es;
   moved = 0;
   frozen = replicate (length b.frozen) Nowhere;
@@ -43,17 +44,17 @@ adopted next es b = record {
   unwritten = b.unwritten;
 }
 
--- this header and directory may be adopted: all their frames are written
-pub record MayAdopt (disk : Disk) (b : Books) (next : CheckpointHeader) (es : List Entry) : Type 0 where
+-- this header, root and directory may be adopted: all their frames are written
+pub record MayAdopt (disk : Disk) (b : Books) (next : CheckpointHeader) (root : Sums) (es : List Entry) : Type 0 where
   pub stands : IsDurable disk b
   pub written : b.unwritten ≡ None
   pub sound : IsSoundOn disk b
   pub follows : b.header.sequence + 1 ≡ next.sequence
-  pub kept : IsIntact disk.sectors disk.seen (adopted next es b)
+  pub kept : IsIntact disk.sectors disk.seen (adopted next root es b)
   -- the new directory overlaps neither the saved state nor any frame that the old or the new books name
   pub apart : Spares b.plan b.header b.directory (directory_extent b.plan next.generation next.entries)
   pub spares : SparesKept b (directory_extent b.plan next.generation next.entries)
-  pub spares_next : SparesKept (adopted next es b) (directory_extent b.plan next.generation next.entries)
+  pub spares_next : SparesKept (adopted next root es b) (directory_extent b.plan next.generation next.entries)
 
 -- ---- the conditions of the three adoptions: a commit, the end of a migration, a journaled page
 

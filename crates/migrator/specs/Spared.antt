@@ -1,6 +1,6 @@
 -- Sectors outside a saved state.
 use Rattle.migrator.specs.Names.{ℕ, List, Disk, Elsewhere, Tears, IsTorn, LeavesOnly, Entry, Extent, CheckpointHeader}
-use Rattle.migrator.specs.Names.{place_length, frame_sector, count_of, Plan, IsApart, directory_extent}
+use Rattle.migrator.specs.Names.{place_length, frame_sector, count_of, Plan, IsApart, directory_extent, row}
 use Rattle.std.specs.Prelude.{◌≡◌, ◌⊎◌, ◌<◌, ◌≤◌}
 
 -- the sectors of an object's frame
@@ -13,7 +13,7 @@ SparesFrames p generation es e = (n : ℕ) → n < count_of p → IsApart (frame
 
 -- the extent e overlaps no sector that a saved state is read from
 pub record Spares (p : Plan) (h : CheckpointHeader) (es : List Entry) (e : Extent) : Type 0 where
-  pub headers : 5 ≤ e.sector
+  pub headers : (row p.version).first_home ≤ e.sector
   pub directory : (h.entries ≡ 0) ⊎ IsApart (directory_extent p h.generation h.entries) e
   pub frames : SparesFrames p h.generation es e
 

@@ -7,6 +7,7 @@ ghost use Rattle.layout.specs.Frame.{frame_bytes};
 ghost use Rattle.layout.specs.Header.{IsHeader};
 ghost use Rattle.layout.specs.Image.{sectors_from, slot_sector};
 ghost use Rattle.layout.specs.Homes.{place_length, shape_of};
+ghost use Rattle.layout.specs.Version.{row};
 ghost use Rattle.layout.specs.Calls.{WritesAt};
 ghost use Rattle.layout.specs.Shape.{HasZerosBeside};
 ghost use Rattle.layout.specs.Frames.{IsObject};
@@ -14,7 +15,7 @@ ghost use Rattle.checkpoint.specs.Saved.{most};
 ghost use Rattle.migrator.specs.Durable.{IsDurable, IsIntact, MayPut, PutsFrame, Stores, frozen_generation, left_of};
 ghost use Rattle.migrator.specs.Durable.{seen_by, stored_in};
 ghost use Rattle.migrator.specs.Durable.{stored_on, with_frozen, with_working, working_generation};
-ghost use Rattle.migrator.specs.Put.{Broken, HasFreeSlot, puts_in, slot_bytes};
+ghost use Rattle.migrator.specs.Put.{Broken, HasFreeSlot, IsSlotSummed, puts_in, slot_bytes};
 ghost use Rattle.migrator.specs.Table.{slot_for};
 
 mod access;
@@ -32,6 +33,7 @@ use ckpt_log::Log;
 use device::{Device, Failed};
 use layout::{CheckpointHeader, Superblock};
 use model::{Cap, ContentRef, ObjectHeader};
+use seal::Sums;
 use std::mem;
 
 /// The part of a durable store that is in memory: the superblock, the committed header and its directory, and the
@@ -40,6 +42,8 @@ use std::mem;
 pub(crate) struct Books {
     pub plan: Superblock,
     pub header: CheckpointHeader,
+    /// The root: sums over the saved frames' units. Zeros in versions 1 and 2.
+    pub root: Sums,
     /// The entries of the committed checkpoint.
     pub directory: Directory,
     /// How many of the directory's entries are home.
@@ -77,6 +81,8 @@ fn put_frame<D: Device>(
         ≡ frame_bytes plan.now.geometry number (record { header = header; content = content_behind content.entry })) }
     ensures beside { OnOk result (HasZerosBeside (shape_of plan.now number) (sectors_from (D.disk device.new).seen
         (slot_sector plan.now generation (slot_for table.old number)) (place_length plan.now number))) }
+    ensures summed { OnOk result
+        (IsSlotSummed (D.disk device.new).seen plan.now generation (slot_for table.old number) number) }
     ensures writes { WritesAt (slot_sector plan.now generation (slot_for table.old number))
         (place_length plan.now number) (D.disk device.old) (D.disk device.new) }
     ensures cause { Counts (D.disk device.old) (D.disk device.new) result }
@@ -92,7 +98,7 @@ fn put_frame<D: Device>(
 impl Books {
     // Returns the generation of the working frames.
     fn working_generation(&self) -> u64
-        requires { IsHeader self.now.plan.geometry.log self.now.header }
+        requires { IsHeader (row self.now.plan.version).first_sequence self.now.plan.geometry.log self.now.header }
         ensures { result ≡ working_generation self.now }
     {
         match self.frozen_size {

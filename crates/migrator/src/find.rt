@@ -1,5 +1,5 @@
 // Finds the slot of an object in a directory.
-ghost use Rattle.std.specs.Prelude.{◌≡◌, ◌<◌, ◌≤◌, ℕ, None, length};
+ghost use Rattle.std.specs.Prelude.{◌≡◌, ◌<◌, ◌≤◌, ℕ, length};
 ghost use Rattle.layout.specs.Directory.{AreRising, IsDirectory, entry_at};
 ghost use Rattle.layout.specs.Image.{frame_slot_in, slot_beside, slot_in};
 ghost use Rattle.layout.specs.Frames.{IsObject};
@@ -43,17 +43,12 @@ fn find(entries: &[Entry], number: u64) -> Option<u64>
     }
 }
 
-// Returns the slot of the first entry that shares the home of an object, or `None` if no entry does. The
-// object itself must have no entry.
+// Returns the slot of the first entry that shares the home of an object, or `None` if no entry does.
 fn find_beside(plan: &Superblock, entries: &[Entry], number: u64) -> Option<u64>
     requires directory { IsDirectory plan.now.geometry entries.now }
     requires object { IsObject plan.now.geometry number }
-    requires none { slot_in entries.now number ≡ None }
     ensures { result ≡ slot_beside plan.now entries.now number }
 {
-    if is_whole(plan.shape(number)) {
-        return None;
-    }
     let home = Home::new(plan);
     let at = first_from(entries, home.first(number));
     if at < entries.len() && home.place(entries[at].object) == home.place(number) {
@@ -63,13 +58,19 @@ fn find_beside(plan: &Superblock, entries: &[Entry], number: u64) -> Option<u64>
     }
 }
 
-/// Returns the slot that contains the frame of an object: that of its own entry, else that of the first entry
-/// in its cluster, else `None`.
+/// Returns the slot that contains the frame of an object, or `None` if none does. In a sealed version this is the slot
+/// of the first entry in its cluster, else that of its own entry if it has one. A page can only have its own.
 pub(crate) fn find_frame_slot(plan: &Superblock, entries: &[Entry], number: u64) -> Option<u64>
     requires directory { IsDirectory plan.now.geometry entries.now }
     requires object { IsObject plan.now.geometry number }
     ensures { result ≡ frame_slot_in plan.now entries.now number }
 {
+    if is_whole(plan.shape(number)) {
+        return find(entries, number);
+    }
+    if plan.version().row().sealed {
+        return find_beside(plan, entries, number);
+    }
     match find(entries, number) {
         Some(slot) => Some(slot),
         None => find_beside(plan, entries, number),

@@ -3,7 +3,7 @@ ghost use Rattle.std.specs.Prelude.{◌≡◌, ℕ, ◌+◌, ◌<◌, ◌≤◌,
 ghost use Rattle.model.specs.declared.frame.Frame.{Frame};
 ghost use Rattle.device.specs.Calls.{Only};
 ghost use Rattle.layout.specs.Directory.{IsDirectory};
-ghost use Rattle.layout.specs.Image.{HasPlan};
+ghost use Rattle.layout.specs.Denoted.{HasPlan};
 ghost use Rattle.layout.specs.Spelt.{count_of, IsSpelt, AreSpelt, frame_read, frames_read};
 ghost use Rattle.layout.specs.Calls.{ReadsOnly};
 ghost use Rattle.layout.specs.Frames.{IsObject};
@@ -15,7 +15,7 @@ use crate::intake::Intake;
 use crate::read::{read_saved, read_superblock};
 use ckpt_log::Log;
 use device::Device;
-use layout::{CheckpointHeader, Entry, OpenFault, Scratch, Superblock};
+use layout::{CheckpointHeader, Entry, OpenFault, Scratch, SealedHeader, Superblock};
 use std::alloc::Global;
 
 // Reads the saved frame of an object, and passes it to the intake.
@@ -105,14 +105,15 @@ pub(crate) fn read_image<D: Device, I: Intake>(
     directory: &mut [Entry],
     scratch: &mut Scratch,
     taken: &mut I,
-) -> Result<CheckpointHeader, OpenFault>
+) -> Result<SealedHeader, OpenFault>
     requires plan { HasPlan (D.disk device.old).seen (D.disk device.old).sectors plan.now }
     requires length { length directory.old ≡ plan.now.geometry.log }
     requires none { I.Took taken.old [] }
     requires room { count_of plan.now ≤ I.room taken.old }
     ensures found { IfOk result (λ h. IsRead (D.disk device.old).seen plan.now h directory.new) }
     ensures took { IfOk result (λ h. I.Took taken.new
-        (frames_read (D.disk device.old).seen plan.now h.generation (take h.entries directory.new))) }
+        (frames_read (D.disk device.old).seen plan.now h.header.generation
+        (take h.header.entries directory.new))) }
     ensures refused { IfErr result (λ e.
         IsBadFor (D.disk device.old).seen (D.disk device.old).sectors e) }
     ensures length { length directory.new ≡ length directory.old }
@@ -120,8 +121,8 @@ pub(crate) fn read_image<D: Device, I: Intake>(
     ensures cause { CountsOpen (D.disk device.old) (D.disk device.new) result }
 {
     let log = Log::new(plan);
-    let header = log.find_committed(device, directory)?;
-    let named = &directory[..header.entries as usize];
-    take_frames(alloc, device, plan, header, named, scratch, taken)?;
+    let header = log.read_committed(device, directory)?;
+    let named = &directory[..header.header.entries as usize];
+    take_frames(alloc, device, plan, header.header, named, scratch, taken)?;
     Ok(header)
 }

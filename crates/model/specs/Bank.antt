@@ -1,3 +1,4 @@
+-- Banks: their chains and their usages.
 use Rattle.model.specs.Names.{ℕ, zero, suc, Bool, not, List, [], nat_eq, list_any, count_by, enumerate_from}
 use Rattle.std.specs.Prelude.{◌==◌, ◌&&◌, if◌then◌else◌, ◌∷◌}
 use Rattle.model.specs.declared.object.Object.{Object}

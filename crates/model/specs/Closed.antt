@@ -1,3 +1,4 @@
+-- Closed sets of numbers: their members have no authority outside, except to read weakly.
 use Rattle.std.specs.Prelude.{◌≡◌, ◌⊎◌, ℕ, Bool, false, None, Some, List, IsTrue}
 use Rattle.model.specs.declared.capability.Capability.{Capability}
 use Rattle.model.specs.declared.object.Object.{Object}

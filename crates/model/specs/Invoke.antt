@@ -1,3 +1,4 @@
+-- The effect of an invocation.
 use Rattle.std.specs.Prelude.{ℕ, ◌==◌, Bool, true, false, ◌&&◌, ◌||◌, if◌then◌else◌, Option, None, Some, List, [], ◌∷◌}
 use Rattle.std.specs.Prelude.{◌++◌, map, slice_index, slice_index_or, slice_set}
 use Rattle.model.specs.declared.capability.Capability.{Capability}

@@ -1,3 +1,4 @@
+-- The state of the machine: its present, frozen and saved worlds.
 use Rattle.model.specs.Names.{ℕ, Bool, true, false, Option, None, List, [], length, map, replicate, slice_index_or}
 use Rattle.model.specs.Names.{slice_set, count_by, range_with_len}
 use Rattle.std.specs.Prelude.{◌+◌, ◌||◌, ◌∷◌}
@@ -19,8 +20,8 @@ pub record Frozen : Type 0 where
   pub left : ℕ
 
 -- a machine that is up. `touched` says of each number whether it was written since the last checkpoint or restart, and
--- `renewed` whether its object was freed since; `to_move` counts the saved objects that aren't home, and after a
--- restart all entries
+-- `renewed` whether its object was freed since; `to_move` counts the saved objects that aren't home; a restart sets it
+-- to the number of entries
 pub record Running : Type 0 where
   pub now : World
   pub touched : List Bool

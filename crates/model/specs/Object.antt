@@ -1,3 +1,4 @@
+-- Objects and their contents.
 use Rattle.std.specs.Prelude.{ℕ, Bool, true, false, List, [], map, replicate, slice_set}
 use Rattle.model.specs.declared.capability.Capability.{Capability}
 use Rattle.model.specs.declared.capability.Capability.TheVariants.{Void}

@@ -1,3 +1,4 @@
+-- What each order of a kernel object does.
 use Rattle.std.specs.Prelude.{◌≡◌, ℕ, ◌==◌, nat_lt, Bool, true, false, not, ◌||◌, if◌then◌else◌, Option, None, Some}
 use Rattle.std.specs.Prelude.{List, slice_index, slice_set}
 use Rattle.model.specs.declared.access.Access.{Access}

@@ -1,3 +1,4 @@
+-- Making capabilities void: rescind and consume.
 use Rattle.model.specs.Names.{ℕ, Bool, false, not, None, Some, List, map, nat_eq, list_any, enumerate_from}
 use Rattle.std.specs.Prelude.{◌==◌, ◌&&◌, if◌then◌else◌}
 use Rattle.model.specs.declared.capability.Capability.{Capability}

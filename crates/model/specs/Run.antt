@@ -1,3 +1,4 @@
+-- Runs of a script by the machine.
 use Rattle.model.specs.Names.{ℕ, List, [], flat_map}
 use Rattle.std.specs.Prelude.{◌≡◌, ◌==◌, if◌then◌else◌, ◌∷◌}
 use Rattle.model.specs.declared.answer.Answer.{Answer}

@@ -1,3 +1,4 @@
+-- Sound worlds.
 use Rattle.model.specs.Names.{ℕ, true, List, length, slice_index, IsTrue, Contains}
 use Rattle.std.specs.Prelude.{◌≡◌, ◌≢◌, ◌+◌, ◌^◌, ◌<◌, ◌≤◌}
 use Rattle.model.specs.declared.capability.Capability.{Capability}

@@ -1,3 +1,4 @@
+-- A step of the machine: the answer to a command, and the machine after it.
 use Rattle.model.specs.Names.{ℕ, nat_lt, Bool, true, false, not, Option, None, Some, Result, Ok, Err, List, []}
 use Rattle.model.specs.Names.{slice_index_or, IsTrue, Contains}
 use Rattle.std.specs.Prelude.{◌≡◌, ◌⊎◌, ◌+◌, ◌-◌, ◌/◌, ◌%◌, ◌^◌, ◌==◌, ◌&&◌, if◌then◌else◌, ◌∷◌, ◌++◌}

@@ -1,3 +1,4 @@
+-- The lines of commands, and the text of answers.
 use Rattle.model.specs.Names.{ℕ, Option, None, Some, List, [], map, length, codes, decimal, All, join_with_byte}
 use Rattle.model.specs.Names.{flat_map, enumerate_from}
 use Rattle.std.specs.Prelude.{◌≡◌, ◌≢◌, ◌⊎◌, ◌^◌, ◌<◌, ◌≤◌, ◌==◌, if◌then◌else◌, ◌∷◌, ◌++◌}
@@ -28,7 +29,7 @@ use Rattle.model.specs.declared.object.State.TheVariants.{Available, Running, Wa
 abbrev pub spaced : List (List ℕ) → List ℕ
 spaced pieces = join_with_byte 32 pieces
 
--- Script lines
+-- ---- script lines
 
 abbrev pub operation_name : Operation → List ℕ
 operation_name Call = codes "call"
@@ -82,7 +83,7 @@ Says text line.Skip = (length text ≤ 256) × IsSkipped text
 Says text (line.Command c) = Fits c × (text ≡ spelling c)
 Says text line.Bad = (256 < length text) ⊎ ((IsSkipped text → ⊥) × ((c : Command) → Fits c → text ≢ spelling c))
 
--- Answers
+-- ---- answers
 
 -- a text as a line
 abbrev pub line_of : List ℕ → List ℕ

@@ -1,3 +1,4 @@
+-- The walk through an address space to a page.
 use Rattle.std.specs.Prelude.{ℕ, zero, suc, ◌+◌, ◌/◌, ◌%◌, ◌^◌, ◌==◌, nat_lt, if◌then◌else◌, List, [], ◌∷◌, Result, Ok}
 use Rattle.std.specs.Prelude.{Err}
 use Rattle.model.specs.declared.access.Access.{Access}

@@ -45,7 +45,7 @@ pub enum Refusal {
     Worn,
     /// The started process isn't available.
     Stalled,
-    /// More objects would be touched than half of the log has slots for.
+    /// More objects would be touched than a log half has slots.
     LogFull,
     /// There is a frozen state.
     CheckpointRunning,

@@ -59,7 +59,7 @@ pub struct Cap {
 }
 
 impl Capability {
-    /// The number of the object that it names, if it names one.
+    /// The number of the object that the capability names, if it names one.
     pub fn named(self) -> Option<u64>
         ensures { result ≡ named self }
     {
@@ -105,7 +105,7 @@ impl Capability {
         }
     }
 
-    /// Whether it may be the address space of a process: nothing, a page or a tree of nodes.
+    /// Whether the capability may be the address space of a process: nothing, a page or a tree of nodes.
     pub fn may_be_space(self) -> bool
         ensures value { result ≡ is_space self }
         ensures space { IsTrue result ↔ IsSpace self }
@@ -116,7 +116,7 @@ impl Capability {
         )
     }
 
-    /// Whether its access is valid, and its height is from 1 to 4.
+    /// Whether the capability's access is valid, and its height is from 1 to 4.
     #[inline(always)]
     pub fn is_well_formed(self) -> bool
         ensures { IsTrue result ↔ IsWellFormed self }

@@ -37,7 +37,7 @@ impl Register {
         }
     }
 
-    /// Its place among the registers of an annex.
+    /// The register's place among the registers of an annex.
     pub fn index(self) -> usize
         ensures value { result ≡ self }
         ensures within { result < 32 }

@@ -12,11 +12,11 @@ pub const MAX_AGE: u64 = 1 << 62;
 /// Nodes have the numbers below `nodes`, and pages the `pages` numbers after them.
 #[derive(Clone, Copy)]
 pub struct Geometry {
-    /// How many objects of 32 slots: nodes, the two halves of processes, and banks.
+    /// How many numbers there are for nodes, roots, annexes and banks.
     pub nodes: u64,
-    /// How many pages.
+    /// How many numbers there are for pages.
     pub pages: u64,
-    /// How many objects half of the log has slots for, and so the most that one checkpoint can write.
+    /// How many slots each half of the log has, and so the most objects that one checkpoint can write.
     pub log: u64,
 }
 

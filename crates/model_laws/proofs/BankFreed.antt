@@ -175,7 +175,7 @@ module _ (g : Geometry) (os : List Object) (h : IsFramed g os) (b : ℕ) (is : I
       is_member (under os b) n ≡ true
   under_chain n used passes = grind (arith, nat_tests, under_stands, used_within, under_owner)
 
-  -- a bank whose chain contains this bank is this bank, or under it
+  -- a bank whose chain contains b is b, or under b
   under_bank : (c : ℕ) → IsTrue (is_bank (content_at os c)) → is_member (chain os c) b ≡ true → is_member (under os b) c ≡ true
   under_bank c bank passes = grind (
     arith,
@@ -190,7 +190,7 @@ module _ (g : Geometry) (os : List Object) (h : IsFramed g os) (b : ℕ) (is : I
     tree,
   )
 
-  -- this bank is in its own chain, and in that of each bank under it
+  -- bank b is in its own chain, and in that of each bank under b
   bank_under : (c : ℕ) → IsTrue (is_bank (content_at os c)) → is_member (under os b) c ≡ true → is_member (chain os c) b ≡ true
   bank_under c bank e = elim (cases_eq c b) [
     | inl same ↦ subst (λ k. is_member (chain os k) b ≡ true) (sym same) (chain_itself os tree b is)
@@ -231,7 +231,7 @@ module _ (g : Geometry) (os : List Object) (h : IsFramed g os) (b : ℕ) (is : I
         | inr below ↦ grind (arith, nat_tests, above_alike, used_owner, tree, under_owner)
       ]
 
-  -- an object that isn't a bank is under this bank exactly if the chain of its owner contains this bank
+  -- an object that isn't a bank is under b exactly if the chain of its owner contains b
   under_other : (n : ℕ) → is_free (content_at os n) ≡ false → is_bank (content_at os n) ≡ false →
       is_member (under os b) n ≡ is_member (chain os (owner_at os n)) b
   under_other n used none = elim (cases_Bool (is_member (chain os (owner_at os n)) b)) [

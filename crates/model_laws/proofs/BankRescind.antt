@@ -34,7 +34,7 @@ pub used_owner : (os : List Object) → IsTree os → (n : ℕ) → is_free (con
     IsTrue (is_bank (content_at os (owner_at os n)))
 used_owner os tree n used = tree.owners n (λ gone. false≢true (sym used ∙ gone))
 
--- which objects stay, and which are rescinded
+-- ---- which objects stay, and which are rescinded
 
 module _ (os : List Object) (set : List ℕ) where
   went_object : (n : ℕ) → is_member set n ≡ true → object_at (rescind set os) n ≡ free
@@ -160,7 +160,7 @@ framed_rescind g os set h closed =
           rw (alike b kept).limit (omega (arith, usage_falls os set tree closed b kept, h.limits b was));
     }
 
--- what the objects hold after a rescind
+-- ---- what the objects hold after a rescind
 
 -- number n has the same role in both lists and, if it is a process, the same state
 pub record IsAsBefore (os us : List Object) (n : ℕ) : Type 0 where
@@ -216,7 +216,7 @@ rescinded_now g os set h closed = record {
   filled = λ n. filled_rescind os set n (h.filled n);
 }
 
--- how much usage is lost with a set
+-- ---- how much usage is lost with a set
 
 -- a list of numbers of objects without repetition is as long as the number of its members
 pub count_members : (os : List Object) (set : List ℕ) → AllDiffer set → ((n : ℕ) → is_member set n ≡ true → n < length os)

@@ -259,7 +259,7 @@ pub returned_fits : (g : Geometry) (os : List Object) (b : ℕ) → IsNow g os �
     → (x : ℕ) → x ≢ b → (if is_member (chain os (owner_at os b)) x then 1 else 0) ≤ usage os x
 returned_fits g os b h is on x differ = omega (arith, usage_returned_both g os b h is on x differ)
 
--- outcomes
+-- ---- outcomes
 
 -- an outcome with sound objects that gives no capability is valid
 void_keeps : (g : Geometry) (os : List Object) (written : List ℕ) → IsNow g os → IsOutcome g (made os written Void)

@@ -113,7 +113,7 @@ module _ (os : List Object) (t : IsTree os) where
         ]
       ]
 
-  -- a chain of a bank contains only banks
+  -- the chain of a bank contains only banks
   pub chain_banks : (b x : ℕ) → IsTrue (is_bank (content_at os b)) → is_member (chain os b) x ≡ true → IsTrue (is_bank (content_at os x))
   chain_banks b x is member = chain_climbs (λ c. IsTrue (is_bank (content_at os c))) (λ c bank on here. owner_bank c bank) b x is is member
 
@@ -129,7 +129,7 @@ module _ (os : List Object) (t : IsTree os) where
   pub chain_owner_length : (b : ℕ) → IsTrue (is_bank (content_at os b)) → b ≢ 0 → length (chain os (owner_at os b)) < 16
   chain_owner_length b is on = omega (arith, chain_longer b is on, chain_length os b)
 
-  -- a bank in the chain of another has no longer chain than that
+  -- if a bank is in the chain of another, its own chain isn't longer than that chain
   pub chain_shorter : (b x : ℕ) → IsTrue (is_bank (content_at os b)) → is_member (chain os b) x ≡ true →
       length (chain os x) ≤ length (chain os b)
   chain_shorter b x is member =
@@ -144,7 +144,7 @@ module _ (os : List Object) (t : IsTree os) where
   pub chain_itself : (b : ℕ) → IsTrue (is_bank (content_at os b)) → is_member (chain os b) b ≡ true
   chain_itself b is = grind (arith, nat_tests, chain_zero, member_head, chain_unfolds)
 
--- a new object at a free number
+-- ---- a new object at a free number
 
 -- the new object is at its number
 pub at_new : (os : List Object) (n b : ℕ) (c : Content Capability) → n < length os →

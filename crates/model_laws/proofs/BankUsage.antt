@@ -20,7 +20,7 @@ module _ (os : List Object) (n b : ℕ) (c : Content Capability) (t : IsTree os)
   under_kept : (x y : ℕ) → y ≢ n → is_under (with_new os n b c) x (object_at (with_new os n b c) y) ≡ is_under os x (object_at os y)
   under_kept x y differ = grind (arith, nat_tests, at_other, kept_chain)
 
-  -- nothing is under the new number before
+  -- before the new object is made, no object is under its number
   under_none : (y : ℕ) → is_under os n (object_at os y) ≡ false
   under_none y = grind (arith, nat_tests, bank_not_free, chain_banks)
 
@@ -57,7 +57,7 @@ module _ (os : List Object) (n b : ℕ) (c : Content Capability) (t : IsTree os)
             (under_kept n i differ ∙ under_none i)
       ])
 
--- If two lists of objects have the `SameFrame`, an order of a bank does the same in both.
+-- If two lists of objects agree in owners, roles, annexes and limits (`SameFrame`), an order of a bank does the same in both.
 
 module _ (os us : List Object) (s : SameFrame os us) where
   free_alike : (ns : List ℕ) → are_free us ns ≡ are_free os ns

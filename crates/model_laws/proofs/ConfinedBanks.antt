@@ -1,4 +1,5 @@
--- The order of a bank of a closed set stays in the set.
+-- The order of a bank of a closed set stays within the set: it keeps all objects outside. A
+-- capability stays inside a set if it names a member, is weak, or names no object.
 use Rattle.model_laws.proofs.Names.{nat_tests, inl, inr, ℕ, nat_eq, Bool, true, false, List, [], length, refl, sym, ap, subst, arith, IsTrue, slice_index_or}
 use Rattle.model_laws.proofs.Names.{range_with_len, false≢true, cases_eq, or_cases, or_right, eqb-true, eqb-false, Capability, Void, Bank, Geometry, Content}
 use Rattle.model_laws.proofs.Names.{Object, Arguments, BankOrder, ResultCode, chain, is_under, allocated, are_free, bank_allocated, free_nodes, free_pages}
@@ -57,7 +58,7 @@ module _ (g : Geometry) (inside : ℕ → Bool) (os : List Object) (h : IsNow g 
   owner_inside : (n : ℕ) → is_free (content_at os n) ≡ false → IsTrue (inside (owner_at os n)) → IsTrue (inside n)
   owner_inside n used is = k.closed.owned (owner_at os n) n is (tree.owners n (λ gone. false≢true (sym used ∙ gone))) used refl
 
-  -- new objects
+  -- ---- new objects
 
   -- each object is unchanged, or a member whose content has authority only over members
   changed_stays : (us : List Object) → ((n : ℕ) → (object_at us n ≡ object_at os n)
@@ -133,7 +134,7 @@ module _ (g : Geometry) (inside : ℕ → Bool) (os : List Object) (h : IsNow g 
         | inr no_annex ↦ grind (arith, nat_tests, fresh_root, at_other)
       ])
 
-  -- freeing objects of a bank
+  -- ---- freeing objects of a bank
 
   -- a rescind of members stays within the set
   gone_stays : (set : List ℕ) → ((n : ℕ) → is_member set n ≡ true → IsTrue (inside n)) → StaysWithin inside os (rescind set os)
@@ -186,7 +187,7 @@ module _ (g : Geometry) (inside : ℕ → Bool) (os : List Object) (h : IsNow g 
       )
     ])
 
-  -- the orders of a bank
+  -- ---- the orders of a bank
 
   module _ (b : ℕ) (args : Arguments) (kind : IsTrue (is_bank (content_at os b))) (is : IsTrue (inside b)) where
     page_made_stays : OutcomeStays inside os (on_bank g os b bank.NewPage args)

@@ -1,4 +1,5 @@
--- Invocations by a process of a set that encloses its members.
+-- Invocations by a process of a set that encloses its members: a closed set with all free numbers.
+-- A capability stays inside a set if it names a member, is weak, or names no object.
 use Rattle.model_laws.proofs.Names.{arith, nat_tests, inl, inr, ℕ, zero, suc, Bool, Some, List, [], map, IsTrue, slice_index, slice_index_or, slice_set}
 use Rattle.model_laws.proofs.Names.{and_parts, Capability, Void, Resume, Invocation, Message, Operation, Call, Geometry, Object, Root, State, Running}
 use Rattle.model_laws.proofs.Names.{StaysInside, Effect, after_gate, after_order, deliver, invoke, on_kernel_object, ordered, replied, reply_of, sent_by}
@@ -66,7 +67,7 @@ gate_sent_stays inside os i j by = go i.operation
     go Call = at_set (λ m c. StaysInside inside c) (sent_by os i) 3 j (Resume i.process) Void (inr by.member) (sent_stays inside os i j by)
     go o = sent_stays inside os i j by
 
--- the invoker's state
+-- ---- the invoker's state
 
 -- objects after the invoker's state changed
 record IsReady (g : Geometry) (inside : ℕ → Bool) (os us : List Object) : Type 0 where

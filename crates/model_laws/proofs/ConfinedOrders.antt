@@ -1,4 +1,5 @@
--- Orders on objects of a set that encloses its members.
+-- Orders on objects of a set that encloses its members: a closed set with all free numbers. A
+-- capability stays inside a set if it names a member, is weak, or names no object.
 use Rattle.model_laws.proofs.Names.{nat_tests, inl, ℕ, Bool, false, not, List, arith, IsTrue, nat_lt, Access, Capability, Void, Number, Page, Node, Space}
 use Rattle.model_laws.proofs.Names.{Process, Bank, Discrim, Geometry, Object, State, Available, Running, Arguments, NodeOrder, PageOrder, ProcessOrder, on_bank}
 use Rattle.model_laws.proofs.Names.{StaysInside, bank_order, fetched, is_space, node_order, on_node, on_page, on_process, order, page_order, process_order}
@@ -25,7 +26,7 @@ void_stays inside = inl tt
 refused_stays : (inside : ℕ → Bool) (os : List Object) → Encloses inside os → StaysWithin inside os os × StaysInside inside Void
 refused_stays inside os h = still inside os Void h (void_stays inside)
 
--- accesses
+-- ---- accesses
 
 -- an object that may be written through a capability that stays inside is a member
 writes : (inside : ℕ → Bool) (o : ℕ) (a : Access) → (a.0 ≡ 3) ⊎ IsTrue (inside o) → not (a.0 == 0) ≡ false → IsTrue (inside o)

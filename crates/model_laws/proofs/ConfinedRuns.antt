@@ -1,4 +1,5 @@
--- Runs by processes of a closed set: each step stays within the set and the free numbers.
+-- Runs by processes of a closed set: each step stays within the set and the free numbers. A
+-- capability stays inside a set if it names a member, is weak, or names no object.
 use Rattle.model_laws.proofs.Names.{nat_tests, inl, inr, ℕ, suc, Bool, true, false, Option, None, Some, Result, Ok, Err, List, [], map, refl, sym, ap, subst}
 use Rattle.model_laws.proofs.Names.{arith, IsTrue, nat_lt, bit_or, slice_index_or, and_parts, ltb-true, All-head, All-tail, le_or_l, le_or_r, Access, Answer}
 use Rattle.model_laws.proofs.Names.{MemoryFault, ReadOnly, Refusal, Capability, Void, Page, Node, Space, Command, Invocation, Geometry, Line, Content, Object}
@@ -44,7 +45,7 @@ content_alike f k (content.Root r) slots space = grind (arith, nat_tests)
 content_alike f k (content.Annex cs) slots space = ap content.Annex (map_alike f k cs slots)
 content_alike f k c slots space = refl
 
--- in a sound world, if an object `IsKept` relative to the set and the free numbers, it `IsKept` relative to the set alone
+-- in a sound world, an object that is kept (`IsKept`) relative to the set and the free numbers is kept relative to the set alone
 kept_inside : (g : Geometry) (os : List Object) (age : ℕ) (inside : ℕ → Bool) (n : ℕ) (new : Object) →
     IsSound g (record { objects = os; age = age }) → IsKept (with_free os inside) (object_at os n) new → IsKept inside (object_at os n) new
 kept_inside g os age inside n new sound k = (
@@ -61,7 +62,7 @@ kept_inside g os age inside n new sound k = (
     alike : (c : Capability) → NamesItsKind os c → void_where k.0 c ≡ void_where goes c
     alike c kind = grind (arith, nat_tests)
 
--- the pages that stores reach
+-- ---- the pages that stores reach
 
 -- a page found below a space: that of the rest of the walk, with the restrictions `a` added
 record IsBelow (a : Access) (rest : Result (ℕ × Access) MemoryFault) (found : ℕ × Access) : Type 0 where
@@ -117,14 +118,14 @@ writable_inside inside os p address page h in_p e = cases (reached os p address)
     cases : (r : Result (ℕ × Access) MemoryFault) → reached os p address ≡ r → writable r ≡ Ok page → IsTrue (inside page)
     cases r at e = grind (arith, nat_tests, full)
 
--- steps
+-- ---- steps
 
--- the world of a machine is sound, and each object outside the set `IsKept` since os
+-- the world of a machine is sound, and each object outside the set has been kept (`IsKept`) since os
 record IsWithin (g : Geometry) (inside : ℕ → Bool) (os : List Object) (s : Running) : Type 0 where
   sound : IsSound g s.now
   stays : StaysWithin inside os s.now.objects
 
--- the same for a machine that is up; a machine that is down has nothing to satisfy
+-- a machine that is up satisfies `IsWithin`; nothing is required of one that is down
 abbrev MachineWithin : Geometry → (ℕ → Bool) → List Object → Machine → Type 0
 MachineWithin g inside os (Up s) = IsWithin g inside os s
 MachineWithin g inside os (Down saved) = Unit {0}

@@ -51,7 +51,7 @@ confined_closed = record {
   spaces = members (λ p. StaysInside confined (root_at c0.objects p).space) (inl tt) (inl tt) (inl tt);
 }
 
--- a capability to node 5 that isn't weak doesn't stay inside
+-- a capability to node 5 that isn't weak doesn't stay inside the set (`StaysInside`)
 outward : (a : Access) → (a.0 ≡ 3 → ⊥) → StaysInside confined (Node 5 a) → ⊥
 outward a strong stays = ⊎_elim strong (λ named. cc) stays
 

@@ -20,7 +20,7 @@ use Rattle.model_laws.proofs.SoundOrders.{IsNow}
 use Rattle.model_laws.proofs.SoundParts.{nearly_from}
 use Rattle.model_laws.proofs.Usage.{SameFrame, tests_at}
 
--- if object n doesn't become free, it isn't given up
+-- if a number in use stays in use, its object wasn't freed (`is_given_up`)
 pub none_given_up : (os us : List Object) (n : ℕ) → (is_free (content_at os n) ≡ false → is_free (content_at us n) ≡ false) →
     is_given_up os us n ≡ false
 none_given_up os us n stays = grind (arith, nat_tests)
@@ -44,7 +44,7 @@ pub new_used : (os : List Object) (n b : ℕ) (c : Content Capability) → is_fr
 unfolding with_new
 new_used os n b c some m used = grind (arith, nat_tests, get_or-set_other, get_or-set_same, used_within)
 
--- if two lists of objects have the `SameFrame`, no number is given up between them
+-- if two lists of objects agree in owners, roles, annexes and limits (`SameFrame`), no object is freed between them
 pub none_in_frame : (os us : List Object) → SameFrame os us → (n : ℕ) → is_given_up os us n ≡ false
 none_in_frame os us frame n = none_given_up os us n (λ used. (tests_at os us frame n).free ∙ used)
 
@@ -98,7 +98,7 @@ gives_up_rescinded g w b requested args n sound is held = order_gives_up g w.obj
 pub gives_up_nothing : GivesUpNothing
 gives_up_nothing g w i e n sound fits runs other done = search (arith, nat_tests, none_in_frame, invocation_frame, nearly_from)
 
--- if no number is given up, none becomes renewed
+-- if no object is freed, no number becomes renewed
 pub renewing_none : (renewed : List Bool) (os us : List Object) → ((n : ℕ) → is_given_up os us n ≡ false) → renewing renewed os us ≡ renewed
 unfolding renewing
 renewing_none renewed os us none =

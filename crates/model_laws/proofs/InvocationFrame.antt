@@ -20,7 +20,7 @@ pub use Rattle.model_laws.proofs.SoundEdits.{root_frame, state_frame}
 use Rattle.model_laws.proofs.SoundOrders.{IsNow}
 use Rattle.model_laws.proofs.SoundGates.{after_state}
 
--- setting a word keeps owners, roles, annexes and limits: the `SameFrame`
+-- setting a word keeps owners, roles, annexes and limits (`SameFrame`)
 
 pub word_frame : (os : List Object) (n i w : ℕ) → SameFrame os (with_word os n i w)
 unfolding with_word
@@ -34,7 +34,7 @@ slots_frame : (os : List Object) (n i : ℕ) (cs : List Capability) → SameFram
 slots_frame os n i [] = frame_refl os
 slots_frame os n i (c ∷ cs) = search (arith, nat_tests, frame_trans, slot_frame, slots_frame (with_slot os n i c) n (i + 1) cs)
 
--- delivering a message keeps the `SameFrame`
+-- delivering a message keeps owners, roles, annexes and limits (`SameFrame`)
 pub deliver_frame : (os : List Object) (p : ℕ) (m : Message) → IsTrue (is_process os p) → SameFrame os (deliver os p m)
 unfolding deliver
 deliver_frame os p m is =
@@ -44,9 +44,9 @@ deliver_frame os p m is =
     frame_trans os us (with_slots_from us old.annex 28 m.capabilities) (root_frame os p new is refl)
     (slots_frame us old.annex 28 m.capabilities)
 
--- orders
+-- ---- orders
 
--- the objects of an outcome have the `SameFrame` as os
+-- the objects of an outcome have the owners, roles, annexes and limits of os (`SameFrame`)
 abbrev LeavesFrame : List Object → OrderOutcome → Type 0
 LeavesFrame os o = SameFrame os o.objects
 
@@ -101,7 +101,7 @@ bank_refused : (g : Geometry) (os : List Object) (b w : ℕ) (args : Arguments) 
 unfolding order
 bank_refused g os b w args is = grind (arith, nat_tests)
 
--- an order that isn't a bank's keeps the `SameFrame`
+-- an order that isn't a bank's keeps owners, roles, annexes and limits (`SameFrame`)
 pub order_frame : (g : Geometry) (W : ℕ → Type 0) (os : List Object) (c : Capability) (w : ℕ) (args : Arguments) → IsHeld os W c →
     IsNoBankOrder c w → SameFrame os (order g os c w args).objects
 unfolding order
@@ -121,13 +121,13 @@ order_frame g W os (Bank b) w args held other = subst (λ (o : OrderOutcome). Sa
 order_frame g W os Discrim w args held other = one_of (LeavesFrame os) (w == 1) _ _ (frame_refl os) (frame_refl os)
 order_frame g W os c w args held other = frame_refl os
 
--- a reply, delivered or dropped, keeps the `SameFrame`
+-- a reply, delivered or dropped, keeps owners, roles, annexes and limits (`SameFrame`)
 pub replied_frame : (i : Invocation) (o : OrderOutcome) → SameFrame o.objects (replied o.objects i o)
 replied_frame i o = replied_by (SameFrame o.objects) o.objects i o (frame_refl o.objects) (λ runs.
     deliver_frame o.objects i.process (reply_of o) (and_parts (is_process o.objects i.process) (is_running (state_at o.objects i.process))
     runs).0)
 
--- the change of the invoker's state keeps the `SameFrame`
+-- the change of the invoker's state keeps owners, roles, annexes and limits (`SameFrame`)
 
 after_gate_frame : (os : List Object) (i : Invocation) → IsTrue (is_process os i.process) → SameFrame os (after_gate os i)
 after_gate_frame os i is = after_gate_by (SameFrame os) os i (frame_refl os) (λ s. state_frame os i.process s is)
@@ -158,7 +158,7 @@ kernel_frame g W os i is held other =
     (held_on os us W W c frame (λ p w. w) held) other in
     frame_trans os us (replied o.objects i o) frame (frame_trans us o.objects (replied o.objects i o) by_order (replied_frame i o))
 
--- an invocation that is no order of a bank keeps the `SameFrame`
+-- an invocation that is no order of a bank keeps owners, roles, annexes and limits (`SameFrame`)
 pub invocation_frame : (g : Geometry) (os : List Object) (i : Invocation) (e : Effect) → IsNow g os → Fits (command.Invoke i) →
     IsTrue (is_running_process os i.process)
     → IsNoBankOrder (register_at os i.process i.register) (slice_index i.words 0) → invoke g os i ≡ Some e → SameFrame os e.objects

@@ -24,7 +24,7 @@ filled_page : (os : List Object) (W : ℕ → Type 0) (words : List ℕ) → len
     IsFilled os W (content.Page words)
 filled_page os W words count fit = grind (arith, nat_tests)
 
--- nearly sound objects stay nearly sound if the words of a page are replaced
+-- objects that satisfy `IsNearlySound` still do after the words of a page are replaced
 pub edited_page : (g : Geometry) (W : ℕ → Type 0) (os : List Object) (n : ℕ) (words : List ℕ) → IsNearlySound g W os →
     is_page (content_at os n) ≡ true → length words ≡ 512 → ((i : ℕ) → slice_index words i < 2 ^ 64) →
     IsEdited g W os (with_content os n (content.Page words))

@@ -1,4 +1,4 @@
--- Changes of objects that keep everything outside a set.
+-- Changes of objects that keep everything outside a set. A capability stays inside a set if it names a member, is weak, or names no object.
 use Rattle.model_laws.proofs.Names.{arith, nat_tests, inl, ℕ, suc, Bool, true, false, Option, None, Some, List, [], map, refl, sym, ap, subst, IsTrue}
 use Rattle.model_laws.proofs.Names.{slice_index_or, Capability, Void, Content, Object, Root, State, named, StaysInside, free, is_bank, is_free, is_root}
 use Rattle.model_laws.proofs.Names.{map_content, root_in, slots_in, with_slot_in, with_word_in, consume, is_member, names_member, rescind, resumes, void_where}

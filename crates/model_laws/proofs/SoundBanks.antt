@@ -136,7 +136,7 @@ module _ (g : Geometry) (os us : List Object) (h : IsNow g os) (k : IsGrown g os
     filled = at_each (λ n o. IsFilled us (Waits us) o.content) k.filled filled_grown;
   }
 
--- new contents
+-- ---- new contents
 
 -- a content in which all capabilities are void is filled
 filled_void : (us : List Object) (W : ℕ → Type 0) (c : Content Capability) → HasShape c → ((i : ℕ) → slice_index (words_in c) i < 2 ^ 64)
@@ -161,7 +161,7 @@ filled_bank us W limit fits = filled_void us W (content.Bank limit) fits (λ i. 
 free_filled : (us : List Object) (W : ℕ → Type 0) (c : Content Capability) → IsTrue (is_free c) → IsFilled us W c
 free_filled us W c e = grind (arith, nat_tests)
 
--- quotas and free numbers
+-- ---- quotas and free numbers
 
 -- a test that all members pass is passed by each member
 pub member_passes : (test : ℕ → Bool) (xs : List ℕ) (x : ℕ) → list_all test xs ≡ true → is_member xs x ≡ true → test x ≡ true
@@ -360,7 +360,7 @@ module _ (g : Geometry) (os : List Object) (p a b : ℕ) (h : IsNow g os) (bank 
       apart : (x n : ℕ) → x ≡ n → IsTrue (is_free (content_at os n)) → is_free (content_at os x) ≡ false → ⊥
       apart x n e gone old = let both : true ≡ false = sym gone ∙ (ap (λ (m : ℕ). is_free (content_at os m)) (sym e) ∙ old) in cc
 
--- the orders of a bank
+-- ---- the orders of a bank
 
 module _ (g : Geometry) (os : List Object) (b : ℕ) (args : Arguments) (h : IsNow g os) (is : IsTrue (is_bank (content_at os b)))
     (fits : AreArguments os args)

@@ -1,3 +1,4 @@
+-- Edits of objects keep sound objects sound.
 use Rattle.model_laws.proofs.Names.{nat_tests, inl, inr, ℕ, List, map, length, get_or, set, refl, sym, ap, subst, arith, IsTrue, slice_index, cases_eq}
 use Rattle.model_laws.proofs.Names.{get_or-set_same, get_or-set_other, set_past, length-set, length-map, get_or_past, Capability, Void, Geometry, Content}
 use Rattle.model_laws.proofs.Names.{Object, Root, State, free, is_root, is_annex, root_in, with_word_in, with_slot_in, map_content, object_at, content_at}
@@ -14,7 +15,7 @@ pub at_set : {X : Type 0} (P : ℕ → X → Type 0) (xs : List X) (n m : ℕ) (
     P m (get_or (set xs n x) m d)
 at_set {X} P xs n m x d new old = grind (arith, nat_tests, get_or-set_other, get_or-set_same, set_past)
 
--- replacing a content by one of the same role, annex and limit keeps the `SameFrame`
+-- replacing a content by one of the same role, annex and limit keeps these for all objects (`SameFrame`)
 
 pub frame_content : (os : List Object) (n : ℕ) (c : Content Capability) → AreAlike (object_at os n)
     (record { owner = owner_at os n; content = c }) → SameFrame os (with_content os n c)
@@ -45,7 +46,7 @@ pub record IsEdited (g : Geometry) (W : ℕ → Type 0) (os us : List Object) : 
 pub edited_trans : (g : Geometry) (W : ℕ → Type 0) (os us vs : List Object) → IsEdited g W os us → IsEdited g W us vs → IsEdited g W os vs
 edited_trans g W os us vs a b = search (arith, nat_tests, frame_trans)
 
--- an object is alike after one of its slots was set
+-- setting a slot of an object keeps its owner, role, annex and limit (`AreAlike`)
 
 pub alike_slot : (b i : ℕ) (k : Capability) (c : Content Capability) →
     AreAlike (record { owner = b; content = c }) (record { owner = b; content = with_slot_in c i k })
@@ -88,7 +89,7 @@ edited_slot g W os n i k h held differ =
           refl;
     }
 
--- an object is alike after one of its words was set
+-- setting a word of an object keeps its owner, role, annex and limit (`AreAlike`)
 
 pub alike_word : (b i w : ℕ) (c : Content Capability) → AreAlike (record { owner = b; content = c })
     (record { owner = b; content = with_word_in c i w })
@@ -123,7 +124,7 @@ edited_word g W os n i w h fits =
           refl;
     }
 
--- an object is alike after its root was replaced by one with the same annex
+-- replacing a root by one with the same annex keeps its object's owner, role, annex and limit (`AreAlike`)
 
 pub alike_root : (b : ℕ) (r : Root Capability) (c : Content Capability) → IsTrue (is_root c) → r.annex ≡ (root_in c).annex
     → AreAlike (record { owner = b; content = c }) (record { owner = b; content = content.Root r })
@@ -147,7 +148,7 @@ pub root_frame : (os : List Object) (p : ℕ) (r : Root Capability) → IsTrue (
 unfolding with_root
 root_frame os p r is same = frame_content os p (content.Root r) (alike_root (owner_at os p) r (content_at os p) is same)
 
--- changing the state of a process keeps the `SameFrame`
+-- changing the state of a process keeps owners, roles, annexes and limits (`SameFrame`)
 pub state_frame : (os : List Object) (p : ℕ) (s : State) → IsTrue (is_process os p) → SameFrame os (with_state os p s)
 unfolding with_state
 state_frame os p s is = root_frame os p _ is refl
@@ -167,7 +168,7 @@ pub root_other : (os : List Object) (p q : ℕ) (r : Root Capability) → q ≢ 
 unfolding with_root with_content
 root_other os p q r differ = grind (arith, nat_tests, get_or-set_other)
 
--- nearly sound objects stay nearly sound if a root is replaced by one of the same state
+-- objects that satisfy `IsNearlySound` still do after a root is replaced by one of the same state
 pub edited_root : (g : Geometry) (W : ℕ → Type 0) (os : List Object) (p : ℕ) (r : Root Capability) → IsNearlySound g W os →
     IsRootOf os W p r → r.state ≡ state_at os p → IsEdited g W os (with_root os p r)
 edited_root g W os p r h fits e = record {
@@ -180,7 +181,7 @@ edited_root g W os p r h fits e = record {
   ];
 }
 
--- contents with each capability changed, if the changed ones may be held
+-- Contents whose capabilities a function f has changed. The parameters: if a capability may be held, so may the one that f makes of it.
 
 module _ (os us : List Object) (W V : ℕ → Type 0) (f : Capability → Capability) (void : f Void ≡ Void)
     (held : (c : Capability) → IsHeld os W c → IsHeld us V (f c)) (space : (c : Capability) → IsSpace c → IsSpace (f c)) where

@@ -1,3 +1,4 @@
+-- Invocations keep sound objects sound.
 use Rattle.model_laws.proofs.Names.{nat_tests, ℕ, zero, suc, true, Some, List, [], map, length, get_or, refl, ap, subst, arith, IsTrue, slice_index}
 use Rattle.model_laws.proofs.Names.{slice_index_or, slice_set, and_parts, get_or_past, Capability, Void, Resume, Invocation, Operation, Call, Return, Send}
 use Rattle.model_laws.proofs.Names.{Geometry, Object, Root, State, Available, Running, Waiting, is_available, is_running, is_waiting, root_at, annex_at}
@@ -113,7 +114,7 @@ resumed_now g os p us s =
     nearly_weaken g (But (Waits os) p) (Waits (consume p us)) (consume p us)
     (λ x w. ap is_waiting (state_consume p us x ∙ s.others x w.1) ∙ w.0) (nearly_consume g (Waits os) p us s.sound)
 
--- the words and capabilities that an invocation sends
+-- ---- the words and capabilities that an invocation sends
 
 -- if all words fit, each of them is below 2^64
 pub all_words : (xs : List ℕ) → All (λ w. w < 2 ^ 64) xs → (i : ℕ) → slice_index xs i < 2 ^ 64

@@ -1,3 +1,4 @@
+-- Orders on pages, nodes, spaces and processes keep sound objects sound.
 use Rattle.model_laws.proofs.Names.{nat_tests, ℕ, true, not, List, [], length, refl, ap, arith, IsTrue, nat_lt, slice_index, eqb-false, or_parts, length-set}
 use Rattle.model_laws.proofs.Names.{Access, Capability, Number, Page, Node, Geometry, Content, Object, Root, State, Available, Running, ResultCode, PageOrder}
 use Rattle.model_laws.proofs.Names.{NodeOrder, ProcessOrder, diminished, is_root, is_node, is_annex, is_waiting, root_in, content_at, slot_at, root_at}
@@ -133,7 +134,7 @@ root_now g W os p h is =
       is_space = (h.filled p).is_space;
     }
 
--- nearly sound objects stay nearly sound if a process changes its state
+-- objects that satisfy `IsNearlySound` still do after a process changes its state
 pub nearly_state : (g : Geometry) (W : ℕ → Type 0) (os : List Object) (p : ℕ) (s : State) → IsNearlySound g W os →
     IsTrue (is_process os p) → IsNearlySound g W (with_state os p s)
 unfolding with_state

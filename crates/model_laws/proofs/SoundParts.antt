@@ -1,3 +1,4 @@
+-- The parts of soundness, and how they pass from some objects to others.
 use Rattle.model_laws.proofs.Names.{arith, nat_tests, ℕ, true, Some, List, length, sym, IsTrue, slice_index, slice_index_or, Contains, Capability, Void, Resume}
 use Rattle.model_laws.proofs.Names.{Geometry, Content, Object, State, IsWellFormed, named, is_free, is_annex, is_bank, is_waiting, role_of, words_in, slots_in}
 use Rattle.model_laws.proofs.Names.{limit_in, root_in, World, content_at, owner_at, root_at, annex_at, is_process, chain, usage, IsOfKind, HasShape, IsSpace}
@@ -94,7 +95,8 @@ framed_on g os us s h =
       limits = λ b is. rw (usage_same os us s b, (s.alike b).limit) (h.limits b (sym (t b).bank ∙ is));
     }
 
--- if os satisfies `IsFramed`, us has the `SameFrame`, and all contents of us are filled, us is nearly sound
+-- if os satisfies `IsFramed`, us has the same owners, roles, annexes and limits (`SameFrame`), and all
+-- contents of us satisfy `IsFilled`, us satisfies `IsNearlySound`
 pub nearly_on : (g : Geometry) (W : ℕ → Type 0) (os us : List Object) → SameFrame os us → IsFramed g os
     → ((n : ℕ) → IsFilled os W (content_at us n)) → IsNearlySound g W us
 nearly_on g W os us s h filled = record {
@@ -109,7 +111,7 @@ nearly_weaken g W V os f h = record {
   filled = λ n. filled_on os os W V (content_at os n) (frame_refl os) f (h.filled n);
 }
 
--- a sound world is nearly sound, with the waiting processes as those that may be resumed
+-- a sound world satisfies `IsNearlySound`, with the waiting processes as those that may be resumed
 pub nearly_from : (g : Geometry) (w : World) → IsSound g w → IsNearlySound g (Waits w.objects) w.objects
 nearly_from g w h = record {
   frame = grind (arith, nat_tests);

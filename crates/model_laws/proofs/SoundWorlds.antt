@@ -40,14 +40,14 @@ abbrev pub Each : (ℕ → Object → Type 0) → ℕ → List Object → Type 0
 Each P k [] = Unit {0}
 Each P k (o ∷ os) = P k o × Each P (k + 1) os
 
--- such a property holds at each number, if it holds of free objects at all numbers
+-- if `Each` holds of a list, and P of free objects at all numbers, P holds at each number
 pub each_at : (P : ℕ → Object → Type 0) (k : ℕ) (os : List Object) → Each P k os → ((m : ℕ) → P m free)
     → (n m : ℕ) → m ≡ k + n → P m (slice_index_or os n free)
 each_at P k [] each blank n m e = blank m
 each_at P k (o ∷ os) each blank zero m e = grind (arith, nat_tests)
 each_at P k (o ∷ os) each blank (suc n) m e = each_at P (k + 1) os each.1 blank n m (omega (arith, e))
 
--- such a property holds of m free objects followed by others
+-- if P holds of free objects at all numbers, and `Each` of a list, `Each` holds of m free objects and then the list
 pub each_after : (P : ℕ → Object → Type 0) (m k j : ℕ) (os : List Object) → ((n : ℕ) → P n free) → j ≡ k + m → Each P j os
     → Each P k (replicate m free ++ os)
 each_after P zero k j os blank e each = grind (arith, nat_tests)
@@ -74,7 +74,7 @@ record IsInPlace (g : Geometry) (os : List Object) (H : Capability → Type 0) (
   chains : IsTrue (is_bank o.content) → Contains (chain os n) 0
   limits : IsTrue (is_bank o.content) → usage os n ≤ limit_in o.content
 
--- a world is sound if each object is valid in this sense, and may hold its capabilities
+-- a world is sound if each object is valid (`IsInPlace`), and may hold its capabilities
 sound_from : (g : Geometry) (w : World) (H : Capability → Type 0) → length w.objects ≡ object_count g
     → IsTrue (is_bank (content_at w.objects 0)) → owner_at w.objects 0 ≡ 0 → w.age ≤ 2 ^ 62
     → ((c : Capability) → H c → MayBeHeld w.objects c) → ((n : ℕ) → IsInPlace g w.objects H n (object_at w.objects n)) → IsSound g w
@@ -98,7 +98,7 @@ sound_from g w H size bank own age may at = record {
 }
 
 module _ (g : Geometry) (os : List Object) (H : Capability → Type 0) (bank : IsTrue (is_bank (content_at os 0))) (void : H Void) where
-  -- an object that is no bank, root or annex is valid in this sense
+  -- an object that is no bank, root or annex is valid (`IsInPlace`)
   plain_in_place : (n : ℕ) (c : Content Capability) → is_bank c ≡ false → is_root c ≡ false → is_annex c ≡ false → (root_in c).space ≡ Void
       → IsOfKind g n c → HasShape c → ((i : ℕ) → slice_index (words_in c) i < 2 ^ 64) → ((i : ℕ) → H (slice_index_or (slots_in c) i Void))
       → IsInPlace g os H n (of_prime_bank c)

@@ -8,7 +8,7 @@ use Rattle.std.proofs.Common.{◌≡◌, ◌↔◌, ◌+◌, ◌*◌, ◌<◌, �
 use Rattle.model.specs.declared.command.Command.TheVariants as command
 use Rattle.model.specs.declared.line.Line.TheVariants as line
 
--- Words
+-- ---- words
 
 -- a text without a space
 abbrev pub IsSpaceless : List ℕ → Type 0
@@ -121,7 +121,7 @@ pub length-spelling : (c : Command) → Fits c → length (spelling c) ≤ 256
 unfolding spelling
 length-spelling c fits = grind (arith, nat_tests, length-spaced, words_are_words, words_count)
 
--- From the words to the command
+-- ---- from the words to the command
 
 -- the k-th word as a number
 abbrev pub number_at : List (List ℕ) → ℕ → ℕ
@@ -206,7 +206,7 @@ reads_spelling c fits = ap command_of (split_spelling c fits) ∙ reads_words c 
 pub spells_one : SpellsOne
 spells_one c d fits fits_too e = sym (reads_spelling c fits) ∙ ap (λ text. command_of (split text)) e ∙ reads_spelling d fits_too
 
--- Lines
+-- ---- lines
 
 -- a spelling is neither empty nor a comment
 spelling_is_no_skip : (c : Command) → IsSkipped (spelling c) → ⊥

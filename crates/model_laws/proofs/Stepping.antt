@@ -9,7 +9,7 @@ pub steps_allowed : StepsAllowed
 unfolding refusal_of
 steps_allowed g is c a after step = grind (arith, nat_tests)
 
--- The conditions of a command never refuse it with `NoMemory`.
+-- `refusal_of` never gives `NoMemory`
 refused_otherwise : (g : Geometry) (s : Running) (c : Command) → refusal_of g s c ≡ Some refusal.NoMemory → ⊥
 unfolding refusal_of
 refused_otherwise g s c is = grind arith

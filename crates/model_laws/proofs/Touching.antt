@@ -8,7 +8,7 @@ use Rattle.model.specs.Machine.{Running}
 use Rattle.model.specs.declared.answer.Refusal.TheVariants as refusal
 use Rattle.model.specs.declared.command.Command.TheVariants as command
 
--- a number that is marked after m was marked is m, or was marked before
+-- once m is marked, each marked number is m or was marked before
 marked : (xs : List Bool) (m n : ℕ) → slice_get (slice_set xs m true) n ≡ Some true → (slice_get xs n ≡ Some true) ⊎ (m ≡ n)
 marked [] m n e = inl e
 marked (x ∷ xs) zero zero e = inr refl

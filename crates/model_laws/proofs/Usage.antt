@@ -1,3 +1,4 @@
+-- Banks have the same chains and usages in lists of objects that agree in owners, roles, annexes and limits.
 use Rattle.model_laws.proofs.Names.{arith, nat_tests, ℕ, zero, suc, Bool, not, List, length, refl, ap, Capability, Geometry, Content, Object, free, is_free}
 use Rattle.model_laws.proofs.Names.{is_page, is_node, is_root, is_annex, is_bank, role_of, limit_in, root_in, object_at, content_at, owner_at, chain_within}
 use Rattle.model_laws.proofs.Names.{chain, is_under, usage, IsOfKind}
@@ -11,7 +12,7 @@ pub record AreAlike (x y : Object) : Type 0 where
   pub annex : (root_in y.content).annex ≡ (root_in x.content).annex
   pub limit : limit_in y.content ≡ limit_in x.content
 
--- two lists of objects have the same frame: at each number the objects are alike
+-- two lists of objects agree in owners, roles, annexes and limits: at each number the objects are alike
 pub record SameFrame (os us : List Object) : Type 0 where
   pub size : length us ≡ length os
   pub alike : (n : ℕ) → AreAlike (object_at os n) (object_at us n)
@@ -41,7 +42,7 @@ same_tests c d e = grind (arith, nat_tests)
 pub tests_at : (os us : List Object) → SameFrame os us → (n : ℕ) → SameTests (content_at os n) (content_at us n)
 tests_at os us s n = same_tests (content_at os n) (content_at us n) (s.alike n).role
 
--- chains and usages depend only on the frame
+-- chains and usages depend only on owners, roles, annexes and limits (`SameFrame`)
 chain_within_same : (k : ℕ) (os us : List Object) → SameFrame os us → (b : ℕ) → chain_within k us b ≡ chain_within k os b
 chain_within_same zero os us s b = refl
 chain_within_same (suc k) os us s b =

@@ -1,3 +1,4 @@
+-- Laws of the definitions of `model`.
 use Rattle.model_laws.specs.Names.{ℕ, Bool, true, false, None, Some, Ok, Err, List, [], length, slice_get, slice_index}
 use Rattle.model_laws.specs.Names.{IsTrue, Contains, Access, MemoryFault, Capability, Command, Invocation, Geometry}
 use Rattle.model_laws.specs.Names.{Line, Object, Arguments, BankOrder, freed_by, on_bank, under, IsWeak, diminished}
@@ -80,15 +81,15 @@ abbrev pub TouchesWritten : Type 0
 TouchesWritten = (touched : List Bool) (written : List ℕ) (n : ℕ) → n < length touched →
     (slice_get (touching touched written) n ≡ Some true) ↔ ((slice_get touched n ≡ Some true) ⊎ Contains written n)
 
--- an invocation that no earlier condition refuses is refused as log full exactly if the touched numbers, with those
--- that it writes, are more than half of the log has slots for
+-- an invocation that no earlier condition refuses is refused as log full exactly if the numbers touched before it
+-- and those that it writes are together more than the slots of a log half
 abbrev pub LogFullIsExact : Type 0
 LogFullIsExact = (g : Geometry) (s : Running) (i : Invocation) (e : Effect) →
     IsTrue (is_running_process s.now.objects i.process) → s.now.age < 2 ^ 62 → invoke g s.now.objects i ≡ Some e →
     (refusal_of g s (command.Invoke i) ≡ Some refusal.LogFull) ↔ (g.log < touched_count (touching s.touched e.written))
 
--- a store to a writable page is refused as log full exactly if the touched numbers, with that page, are more than half
--- of the log has slots for; a store with a memory fault isn't refused
+-- a store to a writable page is refused as log full exactly if the numbers touched before it and that page are
+-- together more than the slots of a log half; a store with a memory fault isn't refused
 abbrev pub StoreLogFullIsExact : Type 0
 StoreLogFullIsExact = (g : Geometry) (s : Running) (p address value : ℕ) → IsTrue (is_running_process s.now.objects p) →
     ((page : ℕ) → writable (reached s.now.objects p address) ≡ Ok page →
@@ -136,7 +137,7 @@ WantsMemoryToShow = (g : Geometry) (m : Machine) (c : Command) (after : Machine)
 abbrev pub SpellsOne : Type 0
 SpellsOne = (c d : Command) → Fits c → Fits d → spelling c ≡ spelling d → c ≡ d
 
--- a line says one thing
+-- a line has at most one meaning
 abbrev pub SaysOne : Type 0
 SaysOne = (text : List ℕ) (l m : Line) → Says text l → Says text m → l ≡ m
 

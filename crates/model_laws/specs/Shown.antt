@@ -8,7 +8,8 @@ process_1 state registers = "process 1 owner 0 annex 2 " ++ state ++ " space voi
 abbrev pub process_3 : String → String → String
 process_3 state registers = "process 3 owner 0 annex 4 " ++ state ++ " space void\n" ++ registers ++ "end"
 
--- the registers of process 1 as Worlds F0 and I0 begin, and in World S0 without and with a weak node in register 11
+-- the text of the registers of process 1: at the start in Worlds F0 and I0; in World S0 without and with a weak
+-- node in register 11
 abbrev pub f0_registers : String
 f0_registers = "register 5 node 5\nregister 6 page 16\n"
 

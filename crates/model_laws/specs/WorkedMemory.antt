@@ -47,7 +47,7 @@ reaches_deep = row (at_world s0) (
     ("load 1 51200", "memory fault 3") ∷ ("load 1 0", "memory fault 3") ∷
     [])
 
--- each space on the way is one less high
+-- a walk reaches a page only if each space capability on the way has a height one less than the one before
 abbrev pub descends_by_one : Row
 descends_by_one = row (at_world s0) (
     ("call 1 12 4 1 0 0 0 0 0 0", "done") ∷

@@ -1,3 +1,4 @@
+-- Worked steps of the machine, and worked revocations.
 use Rattle.model_laws.specs.Names.{Object, ℕ, List, [], map, replicate, slice_set, Answer, Capability, Void, Number}
 use Rattle.model_laws.specs.Names.{Page, Node, Space, Process, Start, Resume, Bank, Discrim, Command, Operation, Call}
 use Rattle.model_laws.specs.Names.{Send, Running, full, weak, free, all_slots, owner_at, chain, Saved, Up, Down}

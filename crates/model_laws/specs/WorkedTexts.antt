@@ -1,3 +1,4 @@
+-- Worked lines, runs and texts of refusals.
 use Rattle.model_laws.specs.Names.{ℕ, List, [], map, replicate, codes, flat_map, Return, NotPage, Renewed, Up, Turn}
 use Rattle.model_laws.specs.Names.{Reply, BadLine, Reported, IsRun, output_of, lines_of, shown, Says, printed, line_of}
 use Rattle.model_laws.specs.Names.{small, i0}

@@ -43,16 +43,16 @@ pub fn touches_written()
     ensures { TouchesWritten }
 {}
 
-/// An invocation that nothing else refuses is refused as log full exactly if the touched numbers, with those
-/// that it writes, are more than half of the log has slots for.
+/// An invocation that nothing else refuses is refused as log full exactly if the numbers touched before it
+/// and those that it writes are together more than the slots of a log half.
 #[tactic(auto, using(crate::proofs::Touching::log_full_is_exact))]
 pub fn log_full_is_exact()
     ensures { LogFullIsExact }
 {}
 
-/// A store to a page that it may write is refused as log full exactly if the touched numbers, with that page,
-/// are more than half of the log has slots for. If the store has a memory fault too, the answer is the memory
-/// fault.
+/// A store to a page that its process may write is refused as log full exactly if the numbers touched before
+/// it and that page are together more than the slots of a log half. A store with a memory fault isn't
+/// refused: its answer is the fault.
 pub fn store_log_full_is_exact()
     ensures { StoreLogFullIsExact }
 {}

@@ -1,3 +1,5 @@
 pub mod Tables
 pub mod Suffixes
 pub mod Named
+pub mod TypedNames
+pub mod Pieces

@@ -3,3 +3,4 @@ pub mod Texts
 pub mod Entries
 pub mod Refused
 pub mod Output
+pub mod Numbered

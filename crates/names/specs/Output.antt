@@ -1,5 +1,5 @@
 -- A writer that puts names after numbers.
-use Rattle.std.specs.Prelude.{◌+◌, ◌-◌, ◌==◌, ◌++◌, ℕ, Bool, List, None, Option, Some, drop, length, not, take}
+use Rattle.std.specs.Prelude.{◌≡◌, ◌+◌, ◌-◌, ◌==◌, ◌++◌, ℕ, Bool, List, None, Option, Some, drop, length, not, take}
 use Rattle.std.specs.List.{suffix_len}
 use Rattle.names.specs.Entries.{entries}
 use Rattle.names.specs.Texts.{named_text}
@@ -46,3 +46,9 @@ inner_output o = o.inner
 -- what adds names to the lines, or `None` if nothing does
 abbrev pub lines_in : {W : Type 0} → NamedOutput W → Option NamedLines
 lines_in o = o.lines
+
+-- both have the same names and the same begun line, or neither adds names
+abbrev pub HasSameNames : Option NamedLines → Option NamedLines → Type 0
+HasSameNames None new = new ≡ None
+HasSameNames (Some l) None = ⊥
+HasSameNames (Some l) (Some k) = (k.names ≡ l.names) × (k.line ≡ l.line)

@@ -48,3 +48,7 @@ writes n digits = bytes_eq (decimal n) digits
 -- the name of the number that has these digits
 abbrev pub name_at : List Name → List ℕ → Option (List ℕ)
 name_at names digits = option_map (λ n. string_bytes n.text) (find (λ n. writes n.number digits) names)
+
+-- the number with this name
+abbrev pub number_at : List Name → List ℕ → Option ℕ
+number_at names text = option_map (λ n. n.number) (find (λ n. bytes_eq (string_bytes n.text) text) names)

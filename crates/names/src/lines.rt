@@ -47,6 +47,15 @@ impl NamedLines {
         }
     }
 
+    /// Makes a number that of an object after one of the words `kinds`, and after no other.
+    pub(crate) fn set_kinds(&mut self, kinds: &'static [&'static [u8]])
+        ensures names { self.new.names ≡ self.old.names }
+        ensures kinds { self.new.kinds.now ≡ kinds.now }
+        ensures line { self.new.line ≡ self.old.line }
+    {
+        self.kinds = kinds;
+    }
+
     /// Adds a piece of text, and returns the lines that it completes, with names. Fails only if memory runs out.
     pub(crate) fn take(&mut self, text: &[u8]) -> Result<Vec<u8>, AllocError>
         ensures lines { IfOk result (λ named. named.items ≡ named_lines self.old (self.old.line.items ++ text.now)) }

@@ -1,6 +1,6 @@
 // A writer that adds names.
 ghost use Rattle.std.specs.Prelude.{◌≡◌, ◌++◌, [], None, OnOk, Option, Some};
-ghost use Rattle.names.specs.Output.{inner_output, lines_in, named_lines, waiting_by, written_by};
+ghost use Rattle.names.specs.Output.{HasSameNames, inner_output, lines_in, named_lines, waiting_by, written_by};
 ghost use Rattle.names.specs.declared.lines.NamedLines.{NamedLines};
 ghost use Rattle.script.specs.Writing.{Writes};
 
@@ -28,6 +28,19 @@ impl<W: Output> NamedOutput<W> {
             inner,
             lines,
             failures: Tally::new(),
+        }
+    }
+
+    /// Makes a number that of an object after one of the words `kinds`, and after no other.
+    pub fn set_kinds(&mut self, kinds: &'static [&'static [u8]])
+        ensures inner { inner_output self.new ≡ inner_output self.old }
+        ensures kinds { (l : NamedLines) → lines_in self.new ≡ Some l → l.kinds.now ≡ kinds.now }
+        ensures names { HasSameNames (lines_in self.old) (lines_in self.new) }
+        ensures written { written_by W.written self.new ≡ written_by W.written self.old }
+        ensures waiting { waiting_by W.waiting self.new ≡ waiting_by W.waiting self.old }
+    {
+        if let Some(lines) = &mut self.lines {
+            lines.set_kinds(kinds);
         }
     }
 }

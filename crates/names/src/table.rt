@@ -3,7 +3,7 @@ ghost use Rattle.std.specs.Prelude.{◌≡◌, ◌≢◌, ◌==◌, ◌++◌, �
 ghost use Rattle.std.specs.List.{list_any};
 ghost use Rattle.names.specs.Entries.{entries};
 ghost use Rattle.names.specs.Refused.{Adds, CannotAdd, IsRefused};
-ghost use Rattle.names.specs.Table.{AreNamesOf, name_at};
+ghost use Rattle.names.specs.Table.{AreNamesOf, name_at, number_at};
 ghost use Rattle.names.specs.Table as names;
 ghost use Rattle.toml.specs.Data.{integer};
 ghost use Rattle.toml.specs.View.{table_view, view};
@@ -73,6 +73,13 @@ impl Names {
         }
     }
 
+    /// Returns the names, in the order of the table that they were read from.
+    pub fn entries(&self) -> &[Name]
+        ensures { result.now ≡ entries self.now }
+    {
+        self.entries.as_slice()
+    }
+
     // Adds a name. Fails only if memory runs out.
     fn push(&mut self, name: Name) -> Result<(), AllocError>
         ensures { OnOk result (entries self.new ≡ entries self.old ++ name ∷ []) }
@@ -127,6 +134,20 @@ impl Names {
     {
         match self.entries.iter().find(|name| writes(name.number, digits)) {
             Some(name) => Some(name.text.as_str()),
+            None => None,
+        }
+    }
+
+    /// Returns the number with this name, or `None`.
+    pub fn number_of(&self, text: &[u8]) -> Option<u64>
+        ensures { result ≡ number_at (entries self.now) text.now }
+    {
+        match self
+            .entries
+            .iter()
+            .find(|name| name.text.as_bytes() == text)
+        {
+            Some(name) => Some(name.number),
             None => None,
         }
     }

@@ -85,7 +85,7 @@ module _ (trusted inside : ℕ → Bool) where
         (subst (λ (o : Object). MayStand trusted inside o.content c) (sym (h.same n in_n)) may);
   }
 
-  -- if a member's content is replaced in both lists by the same function of it, they stay linked
+  -- if a function is applied to a member's content in both lists, the lists stay linked
   module _ (os us : List Object) (n : ℕ) (h : Link trusted inside os us) (in_n : IsTrue (inside n)) where
     link_made : (f : Content Capability → Content Capability) → MayStand trusted inside (content_at os n) (f (content_at os n))
         → Link trusted inside (with_content os n (f (content_at os n))) (with_content us n (f (content_at us n)))
@@ -126,14 +126,14 @@ module _ (trusted inside : ℕ → Bool) where
     unfolding with_slot
     link_slot i k stays = link_made (λ c. with_slot_in c i k) (slot_may i k (content_at os n) stays may_stay)
 
-    -- if a member gets the same root in both lists, they stay linked
+    -- if a member gets the same root in both lists, the lists stay linked
     pub link_root : (r : Root Capability) → IsTrue (inside r.annex) → NamesBut trusted inside r.space
         → Link trusted inside (with_root os n r) (with_root us n r)
     unfolding with_root
     link_root r in_annex space = link_content os us n (content.Root r) h in_n
         (record { annex = λ e. in_annex; bank = λ e. cc; slots = λ i. void_names; space = space })
 
-    -- if a member's root is replaced in both lists by the same function of it, they stay linked
+    -- if a function is applied to a member's root in both lists, the lists stay linked
     pub link_of_root : (f : Root Capability → Root Capability) → IsTrue (inside (f (root_at os n)).annex)
         → NamesBut trusted inside (f (root_at os n)).space → Link trusted inside (with_root os n (f (root_at os n)))
         (with_root us n (f (root_at us n)))

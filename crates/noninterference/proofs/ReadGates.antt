@@ -1,4 +1,4 @@
--- If an invocation by a member doesn't look outside the set, it has the same effect in two linked lists of objects.
+-- If an invocation by a member doesn't look outside the set, it has the same effect in two lists of objects that agree on the set (`Link`).
 use Rattle.noninterference.proofs.Names.{inl, ℕ, zero, suc, Bool, false, List, Option, None, Some, [], refl, sym, ap, subst}
 use Rattle.noninterference.proofs.Names.{IsTrue, map, and_parts, Capability, Void, Start, Resume, Geometry, Object, Root, State, Available, Running, Waiting}
 use Rattle.noninterference.proofs.Names.{Invocation, Message, Operation, Call, Return, Send, Effect, after_gate, after_order, deliver, invoke, can_start}
@@ -27,7 +27,7 @@ module _ (trusted inside : ℕ → Bool) where
   abbrev AllStay : List Capability → Type 0
   AllStay cs = (j : ℕ) → NamesBut trusted inside (slice_index_or cs j Void)
 
-  -- if a message is delivered in both lists, they stay linked
+  -- if a message is delivered in two linked lists, they stay linked
   deliver_link : (os us : List Object) → Link trusted inside os us → (p : ℕ) (m : Message) → IsTrue (inside p) → IsTrue (is_process os p)
       → AllStay m.capabilities → Link trusted inside (deliver os p m) (deliver us p m)
   unfolding deliver

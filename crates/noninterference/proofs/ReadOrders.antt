@@ -1,4 +1,4 @@
--- An order on an object of a set that is closed for reading has the same outcome in two linked lists.
+-- An order on an object of a set that is closed for reading has the same outcome in two lists that agree on the set (`Link`).
 use Rattle.noninterference.proofs.Names.{nat_tests, inl, ℕ, Bool, false, not, List, Option, None, Some, arith, refl, sym, ap, subst, IsTrue, nat_lt}
 use Rattle.noninterference.proofs.Names.{Access, Capability, Void, Number, Page, Node, Space, Process, Bank, Discrim, Start, Geometry, Object, State, Available}
 use Rattle.noninterference.proofs.Names.{Running, Arguments, NodeOrder, PageOrder, ProcessOrder, BankOrder, bank_order, fetched, is_space, node_order}

@@ -59,7 +59,7 @@ module _ (trusted inside : ℕ → Bool) (os us : List Object) (h : Link trusted
       (along_inside c slots b.0 (h.left.slots o slot (member trusted inside os us h o stays)) b.1)
   along_inside c slots found stays e = cc
 
-  -- if a tested step of a walk found a page, its continuation found it
+  -- if a result guarded by a test is a page, the result without the test is that page
   if_found : (b : Bool) (r : Result (ℕ × Access) MemoryFault) (why : MemoryFault) (found : ℕ × Access) →
       (if b then r else Err why) ≡ Ok found → r ≡ Ok found
   if_found b r why found e = grind (arith, nat_tests)

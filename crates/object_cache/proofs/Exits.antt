@@ -23,7 +23,7 @@ counts_as r Q failed counts = err_counts (ap is_err (err_from_is_err_and r faile
 -- ---- calls that write frames and read bodies, one after another
 
 module _ {D : Type 0} where
-  -- a state that differs from s only in what `like` takes can be written as `like s` of itself
+  -- `like s t` is s with some parts of t; if t is `like s t`, a state u that equals t is `like s u`
   pub as_like : (like : StoreState D → StoreState D → StoreState D) (s : StoreState D) {t u : StoreState D} → u ≡ t → t ≡ like s t →
       u ≡ like s u
   as_like like s is same = is ∙ same ∙ ap (like s) (sym is)
@@ -45,7 +45,7 @@ module _ {D : Type 0} {disk : D → Disk} where
       Moves {E = E} disk like s s (Ok x)
   moves_none only_now s same = record { rest = same; continues = goes_on_same disk only_now s; cause = ok_counts refl }
 
-  -- if `?` returns a call's error, `Moves` holds as for the call
+  -- if a function returns a call's error by `?`, `Moves` holds for the function's result as for the call's
   pub moves_err : {like : StoreState D → StoreState D → StoreState D} {s t : StoreState D} {T U E : Type 0} {e : E} (r : Result U E)
       (Q : E → Type 0) → IsErrAnd r Q → Moves {T = T} disk like s t (Err e) → Moves disk like s t r
   moves_err r Q failed moves = record { rest = moves.rest; continues = moves.continues; cause = counts_as r Q failed moves.cause }

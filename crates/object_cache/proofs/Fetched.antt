@@ -189,7 +189,7 @@ module _ {s : Stored} {m : Memory} {all : Bool} {left count : ℕ} (is : IsCache
       λ h h_is. subst (λ g. mark_at m.pending g.number ≡ true) (same_Some (record { number = n; content = c }) h h_is) pending in
       search (clean_alike taken_alike is, unwritten_alike taken_alike is, keepable_alike taken_alike is)
 
--- the same facts for a store whose view is s
+-- facts about a store whose view is s
 module _ {D : Type 0} (disk : D → Disk) {d : DurableState D} {m : Memory} {all : Bool} {left count : ℕ} {order : List ℕ} {most_entries : ℕ}
     {s : StoreState D}
     (view : cache_of disk d m left order most_entries ≡ s) (is : IsCache all (stored_of disk d) m left count) (n : ℕ)

@@ -47,7 +47,7 @@ module _ (s : Stored) (m : Memory) where
   home_stands left count true k is = numbered_stands left count s.saved.generation 0 s.saved.age k is
   home_stands left count false k is = numbered_stands left count s.saved.generation s.saved.entries s.saved.age k is
 
--- the same facts for a store whose view is s
+-- facts about a store whose view is s
 module _ {D : Type 0} (disk : D → Disk) {d : DurableState D} {m : Memory} {all : Bool} {left count : ℕ} {order : List ℕ} {most_entries : ℕ}
     {s : StoreState D}
     (view : cache_of disk d m left order most_entries ≡ s) (is : IsCache all (stored_of disk d) m left count) (new : DurableState D)
@@ -139,7 +139,7 @@ module _ {s : Stored} {m : Memory} {all : Bool} {count : ℕ} (is : IsCache all 
     pub saved_stands : IsCache all after m 0 count
     saved_stands = search (arith, none-some, clean_alike, saved_alike, unwritten_alike, length_over, none_pending)
 
--- the same facts for a store whose view is s
+-- facts about a store whose view is s
 module _ {D : Type 0} (disk : D → Disk) {d : DurableState D} {m : Memory} {all : Bool} {left count : ℕ} {order : List ℕ} {most_entries : ℕ}
     {s : StoreState D}
     (view : cache_of disk d m left order most_entries ≡ s) (is : IsCache all (stored_of disk d) m left count) (f : FrozenFrames)

@@ -81,7 +81,7 @@ module _ {s : Stored} {m : Memory} {all : Bool} {left count : ℕ} (is : IsCache
     frozen_now : (k : ℕ) → frozen_at after m k ≡ below_at after k
     frozen_now k = rw (is.idle none k)
 
-    -- if the page is untouched, journaling it doesn't change the frame below its working one
+    -- if the page is untouched, journaling it doesn't change the frame that a fetch reads when there is no working frame
     unwritten_here : n < length m.headers → mark_at m.touched n ≡ false → below_at s n ≡ below_at after n
     unwritten_here inside untouched = search (arith, frozen_was, none, saved_below, page_is, below_here)
 
@@ -104,7 +104,7 @@ next_words : {F : Type 0} (age n : ℕ) (ws vs : List ℕ) (o : Option F) (saved
     ≡ next_journaled {F = F} age n vs o saved is_page is_saved
 next_words {F} age n ws vs o saved is_page is_saved same = search arith
 
--- the same facts for a store whose view is s
+-- facts about a store whose view is s
 module _ {D : Type 0} (disk : D → Disk) {d : DurableState D} {m : Memory} {all : Bool} {left count : ℕ} {order : List ℕ} {most_entries : ℕ}
     {s : StoreState D}
     (view : cache_of disk d m left order most_entries ≡ s) (is : IsCache all (stored_of disk d) m left count) (n : ℕ)

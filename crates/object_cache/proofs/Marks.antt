@@ -96,7 +96,7 @@ module _ {s : Stored} {m : Memory} {all : Bool} {left count : ℕ} (is : IsCache
       λ k below untouched. is.unwritten k below (unmarked m.touched k untouched) ∙ sym (frozen_stays k) in
       search (is, keepable_alike marked_alike is, length-touching m.touched ns ∙ is.marks, length-touching m.dirty ns ∙ is.dirty_marks)
 
--- the same facts for a store whose view is s
+-- facts about a store whose view is s
 module _ {D : Type 0} (disk : D → Disk) {d : DurableState D} {m : Memory} {all : Bool} {left count : ℕ} {order : List ℕ} {most_entries : ℕ}
     {s : StoreState D}
     (view : cache_of disk d m left order most_entries ≡ s) (is : IsCache all (stored_of disk d) m left count) (ns : List ℕ)

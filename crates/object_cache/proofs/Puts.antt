@@ -46,7 +46,7 @@ has_free_slot room ps ts n count each marked within = search (arith, held_short)
 
 -- ---- a working frame
 
--- the memory with these dirty marks
+-- the memory with these marks of dirty objects
 abbrev pub with_dirty : Memory → List Bool → Memory
 with_dirty m ds = record m { dirty = ds }
 
@@ -74,7 +74,7 @@ module _ {s : Stored} {m : Memory} {all : Bool} {left count : ℕ} (is : IsCache
   unfolding frozen_in
   put_cache = search (arith, of_each, get_or-set_same, present_stays, put_elsewhere, none-some, unwritten_alike, put_alike, length-set)
 
--- ---- the same facts for a store whose view is s
+-- ---- facts about a store whose view is s
 
 module _ {D : Type 0} (disk : D → Disk) {d : DurableState D} {m : Memory} {all : Bool} {left count : ℕ} {order : List ℕ} {most_entries : ℕ}
     {s : StoreState D}

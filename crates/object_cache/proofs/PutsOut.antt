@@ -25,7 +25,7 @@ none_frozen_state o touched = search arith
 abbrev pub with_pending : Memory → List Bool → List (Option Entry) → Option Held → Memory
 with_pending m ps es staging = record m { pending = ps; entries = es; staging = staging }
 
--- the slot of object n's frozen frame was written (p): its content, and its frozen frame, stay the same
+-- the slot of object n's frozen frame was written, with `p`: the object's content and its frozen frame stay the same
 pub record Releases (s : Stored) (m : Memory) (n : ℕ) (p : Put) (ps : List Bool) (es : List (Option Entry)) (staging : Option Held) :
     Type 0 where
   pub mark_count : length ps ≡ length m.pending
@@ -52,12 +52,12 @@ module _ {s : Stored} {m : Memory} {all : Bool} {left count : ℕ} (is : IsCache
   pub frozen_below : {f : FrozenPuts} → s.frozen ≡ Some f → n < length m.headers → (g : Frame) → below_at (with_frozen n (Kept g) s) n ≡ g
   frozen_below {f} f_is within g = search (arith, get_or-set_same)
 
-  -- if the write failed, nothing in memory changes
+  -- if writing the frozen frame failed, nothing in memory changes
   pub torn_releases : content_at (with_frozen n Broken s) m n ≡ content_at s m n →
       frozen_at (with_frozen n Broken s) m n ≡ frozen_at s m n → Releases s m n Broken m.pending m.entries m.staging
   torn_releases content frozen = search (arith, content, frozen, ap (λ b. b || false) pending, pending, is.held, is.apart n, is.freed n)
 
-  -- if it succeeded, the object is no longer pending and has no frozen copy
+  -- if the frozen frame was written, the object is no longer pending and has no frozen copy
   pub put_releases : {f : FrozenPuts} → s.frozen ≡ Some f → n < length m.headers → (g : Frame) → g ≡ frozen_at s m n →
       (es : List (Option Entry)) → length es ≡ length m.entries → ((k : ℕ) → k ≢ n → entry_at es k ≡ entry_at m.entries k) →
       ((e : Entry) → entry_at es n ≡ Some e → e.kept ≡ None) → (IsSome (entry_at m.entries n) → IsSome (entry_at es n)) →
@@ -161,7 +161,7 @@ released_others staging n k c other = search (arith, cases_eq, eq-eqb, ne_eqb)
 pub released_of : (staging : Option Held) (n : ℕ) (h : Held) → released n staging ≡ Some h → (h.number ≢ n) × (staging ≡ Some h)
 released_of staging n h is = search (arith, none-some, cases_eq, eq-eqb, ne_eqb, same_Some)
 
--- an entry without a frozen copy
+-- an entry, with its frozen copy dropped
 abbrev pub dropping : Entry → Entry
 dropping e = record e { kept = None }
 
@@ -282,7 +282,7 @@ module _ {s : Stored} {m : Memory} {all : Bool} {left count : ℕ} (is : IsCache
   own_content : (t : Stored) → content_at t m n ≡ e.present
   own_content t = ap (λ o. present_body o (header_at m.headers n).role (newest_body t m n)) at
 
--- the same facts for a store whose view is s
+-- facts about a store whose view is s
 module _ {D : Type 0} (disk : D → Disk) {d : DurableState D} {m : Memory} {all : Bool} {left count : ℕ} {order : List ℕ} {most_entries : ℕ}
     {s : StoreState D}
     (view : cache_of disk d m left order most_entries ≡ s) (is : IsCache all (stored_of disk d) m left count) {n : ℕ}
@@ -373,7 +373,7 @@ module _ {D : Type 0} (disk : D → Disk) {d : DurableState D} {m : Memory} {all
 
 -- ---- the body is in the staging buffer
 
--- masking by the frozen role first changes nothing, if an object frozen as free is still free
+-- a content masked by the frozen role, and then by r, is masked by r, if r is free where the frozen role is
 mask_under : (fr r : Role) (c : Content Cap) → (fr ≡ role.Free → r ≡ role.Free) → masked r (masked fr c) ≡ masked r c
 mask_under other r c free = search arith
 
@@ -422,7 +422,7 @@ module _ {s : Stored} {m : Memory} {all : Bool} {left count : ℕ} (is : IsCache
           ∙ ap (λ b. cond b h.content c) (ne_eqb h.number k (λ same. other (sym same))))) (λ g gone. absurd (none-some g gone))
           (content_put f_is g g_is (entry_at m.entries h.number) refl)
 
--- the same facts for a store whose view is s
+-- facts about a store whose view is s
 module _ {D : Type 0} (disk : D → Disk) {d : DurableState D} {m : Memory} {all : Bool} {left count : ℕ} {order : List ℕ} {most_entries : ℕ}
     {s : StoreState D}
     (view : cache_of disk d m left order most_entries ≡ s) (is : IsCache all (stored_of disk d) m left count) (h : Held)

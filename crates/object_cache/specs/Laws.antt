@@ -63,4 +63,4 @@ module _ {D : Type 0} (disk : D → Disk) where
 
   pub holds_by : (s : StoreState D) (c : Image) → is_sound disk s.durable → (disk s.durable.beneath).may_leave c →
       Holds (disk s.durable.beneath).sectors c (stored_of disk s.durable).saved
-  holds_by s c sound left = (saved_state (seen_of disk s.durable) s.durable.books, sound c left, refl)
+  holds_by s c sound left = (saved_state (seen_of disk s.durable) s.durable.books, (sound c left).0, refl)

@@ -104,7 +104,7 @@ impl<D: Device, P: Policy> Store<D, P> {
             scratch,
             ..
         } = self;
-        // Two drops of tuples: dropping each field by itself would be a step of this proof each.
+        // Drops the fields as two tuples, because each drop by itself would be one more step of this proof.
         drop((table, touched, dirty, pending));
         drop((frozen_headers, staging, scratch));
         (durable, entries)

@@ -25,7 +25,8 @@ module _ {D S : Type 0} {disk : D → Disk} (seen_left : (d : D) → (disk d).ma
       let beneath = (durable l.store).beneath in
       let reads : OnlyReads (disk device) (disk beneath) = rw (is_over l.store).beneath at wakes.only_reads in
       subst (λ (i : Image). Encodes i (disk device).sectors state_of) (agrees_is (disk beneath).seen (disk device).seen reads.seen)
-      (subst (λ (n : ℕ). Encodes (disk beneath).seen n state_of) reads.size ((is_over l.store).sound wakes.up.store _ (seen_left beneath)))
+      (subst (λ (n : ℕ). Encodes (disk beneath).seen n state_of) reads.size ((is_over l.store).sound wakes.up.store _
+      (seen_left beneath)).0)
 
   -- since it was opened, the device was only read
   pub reads_saved : (s : S) (back : D) → durable s ≡ durable l.store → back ≡ (view s).beneath → ReadsSaved disk device back state_of

@@ -6,7 +6,10 @@ use Rattle.queries.proofs.Names.{description_once, HasFields, described_once, Si
 use Rattle.queries.proofs.Names.{grown_geometry, CanBeSpelled, brief_grown, fields_grown, not_suited, grown_is_described, grown_to_itself, grown_spelled}
 use Rattle.queries.proofs.Names.{objects_plain, same_described, WroteFront, Fault, IsGrownFrom, TellsDescription, TellsGrown, TellsText, DescribesImage}
 use Rattle.queries.proofs.Names.{IsDescribedIn, ReadsSaved, TellsWhole, GrownIsDenoted, UnsizedIsWhole}
-use Rattle.std.proofs.Common.{◌≡◌, ◌∙◌}
+use Rattle.std.proofs.Common.{◌≡◌, ◌∙◌, inl, inr}
+use Rattle.names.specs.declared.name.Name.{Name}
+use Rattle.queries.specs.Images.{TellsGrownState}
+use Rattle.queries.specs.Naming.{DescribesNamed, TellsNamed, grown_names}
 use Rattle.jobs.specs.declared.fault.Fault.TheVariants as fault
 
 pub grown_is_denoted : GrownIsDenoted
@@ -107,23 +110,56 @@ module _ {D : Type 0} {disk : D → Disk} {device back : D} {s : SavedState} (re
       reported.2,
     )
 
-  -- if the text of the renumbered description was written, so was that of the image
+  -- if the text of the renumbered description was written, so was that of the saved state
+  tells_state : (output output_left : Written) (outcome : Result (Unit {0}) Fault) → TellsGrown d sizes output output_left outcome →
+      TellsGrownState sizes s output output_left outcome
+  tells_state output output_left (Ok a) tells = tells_grown tells.0 tells.1 (Wrote output output_left) tells.2
+  tells_state output output_left (Err fault.CannotWriteOutput) tells =
+      tells_grown tells.0 tells.1 (WroteFront output output_left) tells.2
+  tells_state output output_left (Err fault.NoMemory) tells = tells
+  tells_state output output_left (Err (fault.Sizes why)) tells = (
+    not_suited g (grown_geometry g sizes) d w whole.describes why
+        (subst (λ (h : Geometry). IsNotRenumbered d (grown_geometry h sizes) why) geometry_is tells.0),
+    tells.1,
+  )
+  tells_state output output_left outcome tells = absurd tells
+
+  -- the same about the image
   pub describes_image : (output output_left : Written) (outcome : Result (Unit {0}) Fault) → TellsGrown d sizes output output_left outcome →
       DescribesImage disk sizes device back output output_left outcome
-  describes_image output output_left (Ok a) tells = (s, reads, tells_grown tells.0 tells.1 (Wrote output output_left) tells.2)
+  describes_image output output_left (Ok a) tells = (s, reads, tells_state output output_left (Ok a) tells)
   describes_image output output_left (Err fault.CannotWriteOutput) tells =
-      (s, reads, tells_grown tells.0 tells.1 (WroteFront output output_left) tells.2)
+      (s, reads, tells_state output output_left (Err fault.CannotWriteOutput) tells)
   describes_image output output_left (Err fault.NoMemory) tells = (s, reads, tells)
-  describes_image output output_left (Err (fault.Sizes why)) tells = (
-    s,
-    reads,
-    (
-      not_suited g (grown_geometry g sizes) d w whole.describes why
-          (subst (λ (h : Geometry). IsNotRenumbered d (grown_geometry h sizes) why) geometry_is tells.0),
-      tells.1,
-    ),
-  )
+  describes_image output output_left (Err (fault.Sizes why)) tells =
+      (s, reads, tells_state output output_left (Err (fault.Sizes why)) tells)
   describes_image output output_left outcome tells = absurd tells
+
+  -- if names were written too, so were those of the image
+  module _ (names : List Name) where
+    same_names : grown_names d.geometry sizes names ≡ grown_names g sizes names
+    same_names = ap (λ (h : Geometry). grown_names h sizes names) geometry_is
+
+    pub describes_named : (output output_left : Written) (outcome : Result (Unit {0}) Fault) →
+        TellsNamed d sizes names output output_left outcome →
+        DescribesNamed disk sizes names device back output output_left outcome
+    describes_named output output_left (Ok a) tells = (
+      s,
+      reads,
+      (tells.0, tells_state output tells.0 (Ok a) tells.1, subst (Wrote tells.0 output_left) same_names tells.2),
+    )
+    describes_named output output_left (Err fault.CannotWriteOutput) tells = (
+      s,
+      reads,
+      elim tells [
+        | inl early ↦ inl (tells_state output output_left (Err fault.CannotWriteOutput) early)
+        | inr late ↦ inr (late.0, tells_state output late.0 (Ok tt) late.1, subst (WroteFront late.0 output_left) same_names late.2)
+      ],
+    )
+    describes_named output output_left (Err fault.NoMemory) tells = (s, reads, tells)
+    describes_named output output_left (Err (fault.Sizes why)) tells =
+        (s, reads, tells_state output output_left (Err (fault.Sizes why)) tells)
+    describes_named output output_left outcome tells = absurd tells
 
 -- The parameters: a description, and the same renumbered for other sizes.
 module _ (sizes : Sizes) (d e : Description) (grown : IsGrownFrom sizes d e) where
@@ -141,3 +177,9 @@ module _ (sizes : Sizes) (d e : Description) (grown : IsGrownFrom sizes d e) whe
     tells_text (Err fault.CannotWriteOutput) tells = (e, grown, tells)
     tells_text (Err (fault.Sizes why)) tells = absurd tells
     tells_text outcome tells = tells
+
+-- after a fault no name is written
+pub tells_fault : (sizes : Sizes) (d : Description) (names : List Name) (output output_left : Written) (why : Fault) →
+    TellsGrown d sizes output output_left (Err why) → TellsNamed d sizes names output output_left (Err why)
+tells_fault sizes d names output output_left fault.CannotWriteOutput tells = inl tells
+tells_fault sizes d names output output_left why tells = tells

@@ -37,7 +37,7 @@ pub use Rattle.image_writer.specs.Written.{first_saved}
 pub use Rattle.jobs.proofs.WrittenTexts.{text_written}
 pub use Rattle.jobs.specs.declared.fault.Fault.{Fault}
 pub use Rattle.json_lines.specs.declared.format.Format.{Format}
-pub use Rattle.layout.specs.Image.{Encodes, SavedState}
+pub use Rattle.layout.specs.Denoted.{Encodes, SavedState}
 pub use Rattle.layout.specs.Superblock.{Plan, version_number}
 pub use Rattle.layout.specs.declared.version.Version.{Version}
 pub use Rattle.migrator.specs.Durable.{DurableState, saved_by}

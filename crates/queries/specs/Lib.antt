@@ -7,3 +7,5 @@ pub mod Images
 pub mod Info
 pub mod Laws
 pub mod Reaching
+pub mod Naming
+pub mod Queries

@@ -27,7 +27,7 @@ pub use Rattle.image_explainer.specs.declared.fault.ImageFault.{ImageFault}
 pub use Rattle.jobs.specs.declared.fault.Fault.{Fault}
 pub use Rattle.json_lines.specs.Objects.{number_line, number_object}
 pub use Rattle.json_lines.specs.declared.format.Format.{Format}
-pub use Rattle.layout.specs.Image.{Encodes, SavedState}
+pub use Rattle.layout.specs.Denoted.{Encodes, SavedState}
 pub use Rattle.layout.specs.Superblock.{IsGeometry, Plan, version_number}
 pub use Rattle.layout.specs.Version.{IsOpened}
 pub use Rattle.layout.specs.declared.extent.HomeRange.{HomeRange}

@@ -44,8 +44,8 @@ fn grow_description(alloc: Global, description: &mut Description, sizes: Sizes) 
     }
 }
 
-// Writes the text of a description, renumbered for an image of other sizes, and drops the description.
-fn tell_grown<W: Output>(
+/// Writes the text of a description, renumbered for an image of other sizes, and drops the description.
+pub(crate) fn tell_grown<W: Output>(
     alloc: Global,
     description: Description,
     sizes: Sizes,

@@ -2,7 +2,7 @@
 ghost use Rattle.std.specs.Prelude.{◌≡◌, IfErr, IfOk, OnOk};
 ghost use Rattle.model.specs.Frame.{objects_of};
 ghost use Rattle.model.specs.Keepable.{IsSoundFrames};
-ghost use Rattle.layout.specs.Image.{SavedState};
+ghost use Rattle.layout.specs.Denoted.{SavedState};
 ghost use Rattle.checkpoint.specs.Saved.{kept_of};
 ghost use Rattle.capability.specs.Parts.{frames_of};
 ghost use Rattle.recovery.specs.Denotes.{saved_of};

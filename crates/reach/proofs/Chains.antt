@@ -17,7 +17,7 @@ use Rattle.reach.proofs.Finding.{some_of}
 abbrev IsIn : (ℕ → Bool) → Option ℕ → Type 0
 IsIn other o = elim o [ None ↦ Unit {0} | Some m ↦ IsTrue (other m) ]
 
--- if a capability stays inside a set, the object that it conveys is in the set
+-- if a capability stays inside a set (`StaysFor`), the object that it conveys is in the set
 pub named_inside : (follows : Links) (other : ℕ → Bool) (c : Capability) (n : ℕ) → Conveys follows c n → StaysFor follows other c →
     IsTrue (other n)
 named_inside follows other c n conveys stays = go follows.purpose conveys.0 stays

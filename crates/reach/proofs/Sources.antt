@@ -282,7 +282,7 @@ module _ (os : List Object) (follows : Links) (o : ℕ) (marks : List Bool) (sou
           let both : not true ≡ true = ap not (sym owner) ∙ out in absurd (cc)
       unowned b n out there owned false is = ap not is
 
-  -- so a number is a member exactly if it can change the object
+  -- after the last round a number is a member exactly if it can change the object
   pub sources_are : (n : ℕ) → IsTrue (is_marked marks n) ↔ CanChange os follows n o
   sources_are n = (sources.each n, λ can. member can (is_marked marks n) refl)
     where

@@ -24,7 +24,7 @@ words_of n o = elim o.content [
 abbrev pub kind_object : List ℕ → ℕ → List Member → List ℕ
 kind_object kind n rest = text_object (codes "kind") kind (member.Number key.Number n ∷ rest)
 
--- an object in JSON, with the same values as its words
+-- an object in JSON, with the values that its line in words has
 abbrev pub object_json : ℕ → Object → List ℕ
 object_json n o = elim o.content [
   | content.Free ↦ kind_object (codes "free") n []
@@ -61,15 +61,16 @@ held_text format.Text name n place i c = spaced
 held_text format.Json name n place i c = kind_object name n
     (member.Number place i ∷ member.Capability key.Capability c ∷ [])
 
--- the line of a capability, if it pulls
+-- the line of a capability, if it pulls another process or bank into the set
 abbrev pub pull_line : Format → List ℕ → ℕ → Key → ℕ × Capability → List ℕ
 pull_line f name n place p = if pulls n p.1 then line_of (held_text f name n place p.0 p.1) else []
 
--- a line for each of these capabilities that pulls
+-- a line for each of these capabilities that pulls a process or bank into the set
 abbrev pub pull_lines : Format → List ℕ → ℕ → Key → List Capability → List ℕ
 pull_lines f name n place capabilities = flat_map (pull_line f name n place) (enumerate_from 0 capabilities)
 
--- a line for each capability of an object that pulls; a process has its annex's registers
+-- a line for each capability of an object that pulls a process or bank into the set; a process has
+-- its annex's registers
 abbrev pub object_pulls : Format → List Object → ℕ → Object → List ℕ
 object_pulls f os n o = elim o.content [
   | content.Node slots ↦ pull_lines f (codes "node") n key.Slot slots
@@ -77,7 +78,7 @@ object_pulls f os n o = elim o.content [
   | _ ↦ []
 ]
 
--- these lines, if the object is a member
+-- the lines of `object_pulls`, if the object is a member
 abbrev pub member_pulls : Format → List Object → List Bool → ℕ × Object → List ℕ
 member_pulls f os marks p = if is_marked marks p.0 then object_pulls f os p.0 p.1 else []
 
@@ -90,7 +91,7 @@ counted_text f word os marks = flat_map (member_line f marks) (enumerate_from 0 
 abbrev pub changers_text : Format → List Object → List Bool → List ℕ
 changers_text f os marks = counted_text f (codes "processes") os marks
 
--- the lines of the members, `closed` and their count, then the capabilities that pull in processes and banks
+-- the lines of the members, `closed` and their count, then the capabilities that pull processes and banks into the set
 unfoldable pub reach_text : Format → List Object → List Bool → List ℕ
 reach_text f os marks = counted_text f (codes "closed") os marks
     ++ flat_map (member_pulls f os marks) (enumerate_from 0 os)

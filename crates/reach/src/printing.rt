@@ -145,7 +145,7 @@ pub(crate) fn line_of_held(
     }
 }
 
-// Writes the line of a capability if it pulls in another process or another bank.
+// Writes the line of a capability if it pulls another process or bank into the set.
 fn print_pull<W: Output>(
     format: Format,
     name: &[u8],
@@ -182,7 +182,7 @@ fn print_members<W: Output>(
     Ok(())
 }
 
-// Writes the lines of all capabilities of an object that pull in processes and banks.
+// Writes the lines of all capabilities of an object that pull processes and banks into the set.
 #[tactic(auto, using(script::proofs::NumberedLines::lines_all))]
 fn print_pulls<W: Output>(
     format: Format,
@@ -215,8 +215,8 @@ pub(crate) fn slots_of(objects: &[Object], number: u64) -> &[Capability]
     }
 }
 
-// Writes a line for each capability by which an object pulls in others. A process holds them in its annex's
-// registers.
+// Writes a line for each capability by which an object pulls another process or bank into the set. A process
+// holds them in its annex's registers.
 fn print_object_pulls<W: Output>(
     format: Format,
     objects: &[Object],
@@ -244,7 +244,7 @@ fn print_object_pulls<W: Output>(
     }
 }
 
-// If the object is a member, writes a line for each capability by which it pulls in others.
+// If the object is a member, writes a line for each capability by which it pulls another process or bank into the set.
 fn print_member_pulls<W: Output>(
     format: Format,
     objects: &[Object],
@@ -263,7 +263,7 @@ fn print_member_pulls<W: Output>(
     print_object_pulls(format, objects, number as u64, object, writer)
 }
 
-// Writes a line for each capability by which a member pulls in others.
+// Writes a line for each capability by which a member pulls another process or bank into the set.
 #[tactic(auto, using(script::proofs::NumberedLines::lines_all))]
 fn print_all_pulls<W: Output>(
     format: Format,

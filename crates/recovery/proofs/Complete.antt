@@ -2,8 +2,8 @@
 use Rattle.recovery.proofs.Names.{ℕ, zero, suc, List, [], length, refl, sym, ap, subst, inl, inr, arith, cases_lt, Frame, Image, BadImage, frame_at}
 use Rattle.recovery.proofs.Names.{AreKeepable, IsSoundFrames, IsBad, IsInconsistent, kept_of, saved_of, NotBadIsDenoted, Entry, CheckpointHeader, IsFrameOf}
 use Rattle.recovery.proofs.Names.{Encodes, HasDirectory, HasHeader, HasPlan, IsBadBy, IsTooSmall, SavedState, total_in, IsPlan, Plan, superblock_bytes}
-use Rattle.recovery.proofs.Names.{total_reported}
-use Rattle.std.proofs.Common.{◌≡◌, ◌<◌, ◌∷◌, ◌∙◌, ◌+◌}
+use Rattle.recovery.proofs.Names.{total_reported, opened_of, HasMark, Bool, true, false, false≢true, IsOpened, row, SealedHeader, HasUnits}
+use Rattle.std.proofs.Common.{◌≡◌, ◌<◌, ◌≤◌, ◌^◌, ◌∷◌, ◌∙◌, ◌+◌}
 use Rattle.layout.specs.Image.{frame_in}
 use Rattle.layout.specs.declared.bad_image.BadImage.TheVariants as bad
 use Rattle.recovery.proofs.Denoted.{denoted_by}
@@ -31,9 +31,10 @@ module _ (size : ℕ) (c : Image) (fair : (reason : BadImage) → IsBad size c r
   large : IsTooSmall c size → ⊥
   large = first bad.Small
 
-  planned : (p : Plan) → IsPlan p → c 0 ≡ superblock_bytes p → HasPlan c size p
-  planned p is spelt =
+  planned : HasMark (c 0) → (p : Plan) → IsPlan p → c 0 ≡ superblock_bytes p → HasPlan c size p
+  planned mark p is spelt =
       let total : total_in (c 0) ≡ p.total = ap total_in spelt ∙ total_reported p is in record {
+        opened = opened_of p is.few (subst HasMark spelt mark);
         least = elim (cases_lt size 5) [ inl less ↦ absurd (large (inl less)) | inr le ↦ le ];
         whole = elim (cases_lt size p.total) [
           | inl less ↦ absurd (large (inr (subst (λ (n : ℕ). size < n) (sym total) less)))
@@ -44,34 +45,49 @@ module _ (size : ℕ) (c : Image) (fair : (reason : BadImage) → IsBad size c r
       }
 
   with_plan : ((p : Plan) → HasPlan c size p → ⊥) → ⊥
-  with_plan none = first bad.NotASuperblock (large, λ mark. first bad.BadGeometry (large, mark, λ p is spelt. none p (planned p is spelt)))
+  with_plan none = first bad.NotASuperblock (
+    large,
+    λ mark. first bad.BadGeometry (
+      large,
+      mark,
+      λ p is spelt. none p
+          (planned mark p is spelt),
+    ),
+  )
 
   module _ (p : Plan) (plan : HasPlan c size p) where
-    with_header : ((h : CheckpointHeader) → HasHeader c p h → ⊥) → ⊥
-    with_header none = first bad.BadHeader (
-      p,
-      plan,
-      (λ no. first bad.NoHeader (p, plan, no)),
-      λ h is spelt. none h (record { fits = is; spelt = spelt }),
-    )
+    with_header : ((h : SealedHeader) → HasHeader c p h → ⊥) → ⊥
+    with_header none = first bad.BadHeader (p, plan, (λ no. first bad.NoHeader (p, plan, no)), none)
 
-    module _ (h : CheckpointHeader) (header : HasHeader c p h) where
+    module _ (h : SealedHeader) (header : HasHeader c p h) where
       with_directory : ((es : List Entry) → HasDirectory c p h es → ⊥) → ⊥
-      with_directory none = first bad.BadDirectory (
-        p,
-        h,
-        plan,
-        header,
-        λ es is count spelt. none es
-            (record { count = count; fits = is; spelt = spelt }),
-      )
+      with_directory none = first bad.BadDirectory (p, h, plan, header, none)
+
+      -- if the units are sealed, or the version has no seals, nothing of a saved state is missing but frames
+      module _ (es : List Entry) (directory : HasDirectory c p h es)
+          (units : (row p.version).sealed ≡ true → HasUnits c p h.root h.header.generation es) where
+        with_frames : ((s : SavedState) → Encodes c size s → ⊥) → ⊥
+        with_frames none = frames_there (p.geometry.nodes + p.geometry.pages)
+            (λ o f. IsFrameOf p.geometry h.header.age o (frame_in c p h.header.generation es o) f)
+            (λ o lt no. first bad.BadFrame (p, h, es, plan, header, directory, inl (o, lt, no)))
+            (λ fs long each. none (record { plan = p; header = h.header; directory = es; frames = fs })
+            (record {
+              plan = plan;
+              commit = h;
+              same = refl;
+              header = header;
+              directory = directory;
+              count = long;
+              each = each;
+              units = units;
+            }))
 
       with_state : (es : List Entry) → HasDirectory c p h es → ((s : SavedState) → Encodes c size s → ⊥) → ⊥
-      with_state es directory none = frames_there (p.geometry.nodes + p.geometry.pages)
-          (λ o f. IsFrameOf p.geometry h.age o (frame_in c p h.generation es o) f)
-          (λ o lt no. first bad.BadFrame (p, h, es, plan, header, directory, (o, lt, no)))
-          (λ fs long each. none (record { plan = p; header = h; directory = es; frames = fs })
-          (record { plan = plan; header = header; directory = directory; count = long; each = each }))
+      with_state es directory none = by (row p.version).sealed refl where
+        by : (b : Bool) → (row p.version).sealed ≡ b → ⊥
+        by true is = first bad.BadFrame
+            (p, h, es, plan, header, directory, inr (is, λ units. with_frames es directory (λ sealed. units) none))
+        by false is = with_frames es directory (λ sealed. absurd (false≢true (sym is ∙ sealed))) none
 
   encoded : ((s : SavedState) → Encodes c size s → ⊥) → ⊥
   encoded none = with_plan (λ p plan. with_header p plan (λ h header. with_directory p plan h header (λ es directory.
@@ -92,7 +108,8 @@ module _ (size : ℕ) (c : Image) (fair : (reason : BadImage) → IsBad size c r
         named,
         whole,
         λ banked.
-            none (consistent_is_sound s.plan.geometry s.header.age s.frames keepable e.header.fits.age named whole banked),
+            none (consistent_is_sound s.plan.geometry s.header.age s.frames keepable (subst (λ
+            (h : CheckpointHeader). h.age ≤ 2 ^ 62) e.same e.header.fits.age) named whole banked),
       ),
     ))
 

@@ -49,7 +49,7 @@ pub named_whole : (p : Parts) (hs : List ObjectHeader) (count n : ℕ) → hs �
     ((m : ℕ) → m < n → All (IsNamed (frames_of p)) (caps_in (frame_at (frames_of p) m).content)) → AreNamed (frames_of p)
 named_whole p hs count n table all past each m k d inside = grind (arith, nat_tests, frame_beyond)
 
--- one more capability of a list satisfies `IsNamed`
+-- if the first i capabilities of a list and the next satisfy `IsNamed`, the first i + 1 do
 pub named_more : (fs : List Frame) (held : List Cap) (i : ℕ) (e : Cap) → i < length held →
     ((k : ℕ) (d : Cap) → k < i → IsNamed fs (slice_index_or held k d)) → IsNamed fs (slice_index_or held i e) →
     (k : ℕ) (d : Cap) → k < i + 1 → IsNamed fs (slice_index_or held k d)
@@ -58,7 +58,7 @@ named_more fs held i e inside before here k d next = elim (cases_lt k i) [
   | inr later ↦ grind (arith, nat_tests, get_or_default)
 ]
 
--- the capabilities of one more object satisfy `IsNamed`
+-- if the capabilities of the first n objects and of the next satisfy `IsNamed`, those of the first n + 1 do
 pub named_next : (fs : List Frame) (n : ℕ) → ((m : ℕ) → m < n → All (IsNamed fs) (caps_in (frame_at fs m).content)) →
     All (IsNamed fs) (caps_in (frame_at fs n).content) → (m : ℕ) → m < n + 1 → All (IsNamed fs) (caps_in (frame_at fs m).content)
 named_next fs n before here m next = elim (cases_lt m n) [

@@ -18,16 +18,21 @@ pub use Rattle.device.specs.Disk.{Disk, Image}
 pub use Rattle.device.specs.Moments.{Peeks}
 pub use Rattle.layout.proofs.Denoted.{frames_not_bad}
 pub use Rattle.layout.proofs.Images.{one_state}
+pub use Rattle.layout.proofs.Superblocks.{opened_of}
 pub use Rattle.layout.proofs.Totals.{total_reported}
+pub use Rattle.layout.specs.Denoted.{Encodes, HasDirectory, HasHeader, HasPlan, IsBadBy, IsTooSmall, SavedState}
 pub use Rattle.layout.specs.Frame.{IsFrameOf}
-pub use Rattle.layout.specs.Image.{Encodes, HasDirectory, HasHeader, HasPlan, IsBadBy, IsTooSmall, SavedState, total_in}
-pub use Rattle.layout.specs.Superblock.{IsPlan, Plan}
+pub use Rattle.layout.specs.Image.{total_in}
+pub use Rattle.layout.specs.Superblock.{HasMark, IsPlan, Plan}
 unfoldable pub use Rattle.layout.specs.Superblock.{superblock_bytes}
+pub use Rattle.layout.specs.Version.{IsOpened, row}
 pub use Rattle.layout.specs.declared.bad_image.BadImage.{BadImage}
 pub use Rattle.layout.specs.declared.bad_image.BadImage.TheVariants.{BadBank, BadCapability, BadProcess}
 pub use Rattle.layout.specs.declared.directory.Entry.{Entry}
 pub use Rattle.layout.specs.declared.header.CheckpointHeader.{CheckpointHeader}
 pub use Rattle.layout.specs.declared.open_fault.OpenFault.{OpenFault}
+pub use Rattle.layout.specs.declared.sealed.header.SealedHeader.{SealedHeader}
+pub use Rattle.layout.specs.sealed.Units.{HasUnits}
 unfoldable pub use Rattle.model.specs.Bank.{chain, usage}
 pub use Rattle.model.specs.Capability.{IsWellFormed}
 pub use Rattle.model.specs.Frame.{blank_frame, conveyed, current_count, frame_at, header_at, headers, held_at, object_of, void_held}
@@ -56,7 +61,7 @@ pub use Rattle.space_bank.specs.Banks.{AreCounted, BanksState}
 pub use Rattle.std.proofs.Common.{Bool, List, None, Option, Some, [], ap, arith, false, inl, inr, length, map, not, refl, replicate, rules, slice_index}
 pub use Rattle.std.proofs.Common.{slice_index_or, subst, suc, sym, true, vec_len, zero, ℕ, ⊎_elim}
 pub use Rattle.std.proofs.Math.ListN.{get_or-map}
-pub use Rattle.std.proofs.lemmas.Bool.{cases_lt, eq-eqb, eqb-true, or_right}
+pub use Rattle.std.proofs.lemmas.Bool.{cases_lt, eq-eqb, eqb-true, false≢true, or_right}
 pub use Rattle.std.proofs.lemmas.Bool.Decides.{nat_tests}
 pub use Rattle.std.proofs.lemmas.List.{ext_get_or, get_or-replicate, get_or-set_other, get_or-set_same, get_or_default, get_or_past, length-map}
 pub use Rattle.std.proofs.lemmas.List.{length-replicate}
@@ -64,7 +69,7 @@ pub use Rattle.std.proofs.lemmas.List.Elements.{All-from_get_or}
 pub use Rattle.std.proofs.lemmas.List.FromFn.{get_or-map-range_with_len, length-map-range_with_len}
 pub use Rattle.std.proofs.lemmas.Map.Views.{Contains-from_any}
 pub use Rattle.std.specs.List.{All, Contains, list_any, range_with_len}
-pub use Rattle.std.specs.Prelude.{Err, IsErrOf, IsTrue, MatchOption, Ok, Result, nat_eq, nat_lt}
+pub use Rattle.std.specs.Prelude.{Err, IsErrOf, IsTrue, MatchOption, Result, nat_eq, nat_lt}
 pub use Rattle.std.specs.Vec.{vec_capacity}
 pub use Rattle.recovery.specs.Consistency.{AllBefore, IsAboveLimit, IsInconsistent, IsOwnedAt, IsUnbanked, Tells}
 pub use Rattle.recovery.specs.ConsistencyLaws.{ConsistentIsSound, InconsistentIsUnsound}

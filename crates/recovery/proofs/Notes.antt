@@ -8,7 +8,7 @@ use Rattle.model.specs.declared.object.Content.TheVariants as content
 pub unnoted : {C : Type 0} (c : Content C) → ((x : Root C) → c ≡ content.Root x → ⊥) → noted_in c ≡ None
 unnoted {C} c other = grind (arith, nat_tests)
 
--- the annex in a note is the one that the root names
+-- the annex in a note, if there is a note
 annex_of_note : Option Noted → Option ℕ
 annex_of_note None = None
 annex_of_note (Some note) = Some note.annex

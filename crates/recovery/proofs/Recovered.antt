@@ -1,9 +1,8 @@
 -- Opening a device, or refusing to.
-use Rattle.recovery.proofs.Names.{nat_tests, ℕ, None, List, refl, sym, ap, subst, inr, arith, Result, Err, IsErrOf, Frame, Geometry}
-use Rattle.recovery.proofs.Names.{IsSoundFrames, opened, touched_count, Only, Image, Disk, Peeks, CountsNow, ends, BadImage, OpenFault, OnlyReads, Holds}
-use Rattle.recovery.proofs.Names.{OnlyFetches, Parts, frames_of, objects_in, untouched_count, Snapshots, FrozenFrames, Continues, OpensStore, View, unrisen}
-use Rattle.recovery.proofs.Names.{AreCounted, BanksState, IsInconsistent, Live, saved_of, IsSoundSaved, IsWhy, Recovers, RefusesToOpen, AreSoundTogether}
-use Rattle.recovery.proofs.Names.{base_of, running}
+use Rattle.recovery.proofs.Names.{nat_tests, ℕ, None, List, refl, sym, ap, subst, inr, arith, Result, Err, IsErrOf, Frame, Geometry, IsSoundFrames, opened}
+use Rattle.recovery.proofs.Names.{touched_count, Only, Image, Disk, Peeks, CountsNow, ends, BadImage, OpenFault, OnlyReads, Holds, OnlyFetches, Parts}
+use Rattle.recovery.proofs.Names.{frames_of, objects_in, untouched_count, Snapshots, FrozenFrames, Continues, OpensStore, View, unrisen, AreCounted, BanksState}
+use Rattle.recovery.proofs.Names.{IsInconsistent, Live, saved_of, IsSoundSaved, IsWhy, Recovers, RefusesToOpen, AreSoundTogether, base_of, running}
 use Rattle.std.proofs.Common.{◌≡◌, ◌↔◌, ◌<◌, ◌≤◌, ◌∙◌}
 use Rattle.layout.specs.declared.open_fault.OpenFault.TheVariants as fault
 use Rattle.recovery.proofs.Denoted.{leaves_saved}

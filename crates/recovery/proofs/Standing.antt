@@ -23,7 +23,7 @@ pub length_is : (fs : List Frame) → length (objects_of fs) ≡ length fs
 unfolding objects_of
 length_is fs = length-map fs (object_of (headers fs))
 
--- Kinds by role.
+-- whether two roles are the same
 abbrev pub is : Role → Role → Bool
 is r s = role_number r == role_number s
 

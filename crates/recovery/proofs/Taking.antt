@@ -10,13 +10,13 @@ use Rattle.recovery.proofs.Tables.{frame_beyond}
 pub root_known : (p : Parts) (r a : ℕ) → IsRootOf (frames_of p) r a → r < length p.headers
 root_known p r a root = grind (arith, nat_tests, frame_beyond)
 
--- the roots below n have taken their annexes; facts about n
+-- the parameters: the roots below n have taken their annexes
 module _ (fs : List Frame) (n : ℕ) (old : List Bool) (before : AreTaken fs n old) where
   -- if n isn't a root, nothing more is taken
   pub taken_same : ((a : ℕ) → IsRootOf fs n a → ⊥) → AreTaken fs (n + 1) old
   taken_same other = grind (arith, nat_tests)
 
-  -- if n is a root and takes its annex, the roots below n + 1 have
+  -- if n is a root and takes its annex, the roots below n + 1 have taken theirs
   module _ (new : List Bool) (a : ℕ) (root : IsRootOf fs n a) (takes : IsTaking fs n a old new) (room : a < length old) where
     pub taken_more : AreTaken fs (n + 1) new
     taken_more = grind (arith, nat_tests, some_same, get_or-set_same, get_or-set_other)

@@ -84,7 +84,7 @@ module _ (g : Geometry) (age : ℕ) (p : Parts) (k : AreKeepable g age (frames_o
         let bank = role_bank (frames_of p) (keepable_roles g age (frames_of p) k) b is.0 in
         (is.0, is.1 ∙ used b bank, is.2 ∙ limit_there b (bank_counted b bank), is.3, owned, λ m less role. within m role (is.4 m less role))
 
-    -- the search finds the first bank whose usage is above its limit, or none is
+    -- the search finds the first bank whose usage is above its limit, if there is one
     pub limited : AreOwned (frames_of p) → (found : Option Unbanked)
         → MatchOption found ((b : ℕ) → role_at (frames_of p) b ≡ role.Bank → slice_index usages b ≤ slice_index limits b)
         (λ why. IsAboveLimit (frames_of p) usages limits why)

@@ -1,4 +1,5 @@
--- The three reasons why frames that may be kept can have no sound world, and the least that holds.
+-- The three reasons why frames that may be kept (they have encodings) can have no sound world, and
+-- the least that holds.
 use Rattle.recovery.specs.Names.{ℕ, List, Option, None, Some, slice_index, Contains, Bank, Frame, chain, usage}
 use Rattle.recovery.specs.Names.{frame_at, objects_of, limit_in, BadImage, BadCapability, BadProcess, BadBank, role_at}
 use Rattle.recovery.specs.Names.{owner_of, AreNamed, AreWholeProcesses, AreBanked, AreOwned}

@@ -4,7 +4,7 @@ use Rattle.recovery.specs.Names.{AreWholeProcesses}
 use Rattle.std.specs.Prelude.{◌^◌, ◌≤◌}
 use Rattle.recovery.specs.Consistency.{IsInconsistent}
 
--- frames that may be kept, and for which none of reasons 8 to 10 holds, are sound
+-- frames that have encodings, and for which none of reasons 8 to 10 holds, are sound
 abbrev pub ConsistentIsSound : Type 0
 ConsistentIsSound = (g : Geometry) (age : ℕ) (fs : List Frame) → AreKeepable g age fs → age ≤ 2 ^ 62 →
     AreNamed fs → AreWholeProcesses fs → AreBanked fs → IsSoundFrames g age fs

@@ -11,7 +11,7 @@ abbrev pub frozen_of : ℕ → Option FrozenFrames → Option Frozen
 frozen_of age None = None
 frozen_of age (Some f) = Some (record { world = world_at age f.frames; size = f.size; left = f.left })
 
--- the frames with which the last checkpoint or restart began
+-- the frames at the last checkpoint or restart
 abbrev pub base_of : Snapshots FrozenFrames → List Frame
 base_of a = elim a.frozen [ None ↦ a.saved.frames | Some f ↦ f.frames ]
 
@@ -31,7 +31,7 @@ running_of p snapshots age frozen_age = record {
   to_move = snapshots.to_move;
 }
 
--- frozen frames are sound at their age, which lies above the saved age and up to the present one
+-- frozen frames are sound at their age, which is above the saved age and at most the present age
 pub record IsSoundFrozen (g : Geometry) (saved_age frozen_age age : ℕ) (f : FrozenFrames) : Type 0 where
   pub after : saved_age < frozen_age
   pub before : frozen_age ≤ age

@@ -9,7 +9,7 @@ pub use Rattle.checkpoint.specs.Store.{FrozenFrames, View}
 pub use Rattle.device.specs.Calls.{Only}
 pub use Rattle.device.specs.Disk.{Disk, Image}
 pub use Rattle.device.specs.Moments.{LeavesOnly}
-pub use Rattle.layout.specs.Image.{IsBadBy}
+pub use Rattle.layout.specs.Denoted.{IsBadBy}
 pub use Rattle.layout.specs.declared.bad_image.BadImage.{BadImage}
 pub use Rattle.layout.specs.declared.bad_image.BadImage.TheVariants.{BadBank, BadCapability, BadProcess}
 pub use Rattle.layout.specs.declared.open_fault.OpenFault.{OpenFault}

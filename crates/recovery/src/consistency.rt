@@ -1,5 +1,5 @@
-// The consistency check of a checkpoint (EROS): whether the world of frames that may be kept is sound, and if
-// not, why.
+// The consistency check of a checkpoint (EROS): whether the world of frames that have encodings is sound, and
+// if not, why.
 mod banks;
 mod capabilities;
 mod checking;

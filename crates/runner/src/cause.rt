@@ -1,6 +1,6 @@
 // Telling a person why a command failed: the file and the cause.
-use crate::query::Query;
-use crate::{Streams, answer};
+use crate::reading::Reading;
+use crate::{Streams, read};
 use checkpoint::OpenFault;
 use command_line::{Job, Script};
 use devices::{FileDevice, FileFault};
@@ -161,7 +161,13 @@ fn tell_image(rt: &HostRuntime, file: &str) {
         return;
     };
     let mut line = line_in(rt);
-    match answer(rt, device, Query::Explain, &mut line) {
+    match read(
+        rt,
+        device,
+        Reading::Explain,
+        &mut line.output,
+        &mut line.errors,
+    ) {
         Ok(end) if end.status != 0 => tell_explained(rt, file, line.output.get_ref()),
         _ => {}
     }

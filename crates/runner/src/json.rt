@@ -1,6 +1,7 @@
 // Answers and faults as JSON.
 use crate::cause::{Refusal, line_in};
-use crate::{End, Stdio, explain};
+use crate::explaining::explain;
+use crate::{End, Stdio};
 use command_line::Job;
 use jobs::Fault;
 use json_lines::{Format, string_object};

@@ -2,31 +2,37 @@
 #![tactic(auto)]
 
 mod cause;
+mod explaining;
+mod inspection;
 mod json;
 mod making;
+mod named_input;
 mod naming;
-mod query;
+mod reading;
 
-use crate::cause::{Cause, NO_FILE, Refusal, tell_cause, tell_line};
+use crate::cause::{Cause, Refusal, tell_cause};
+use crate::explaining::explain;
+use crate::inspection::Inspection;
 use crate::json::{explain_in_json, format_of, is_json, tell_json};
 use crate::making::build;
+use crate::named_input::NamedInput;
 use crate::naming::{Naming, NoNames, naming_of};
-use crate::query::{Query, drawing, purpose_of, reaching, sizes_of, writing};
+use crate::reading::{Reading, writing};
 use checkpoint::ObjectStore;
-use command_line::{CommandLine, Job, JobFault, Run, Script, command_line};
+use command_line::{CommandLine, Job, JobFault, Run, Script, Sizes, command_line};
 use device::Device;
-use devices::{FileDevice, FileFault, Fuse};
+use devices::{FileDevice, Fuse, SharedDevice};
 use image_builder::NewLayout;
 use jobs::{Done, Fault, check_image, finish, run_and_save, run_image, run_shell, run_traced};
 use json_lines::Format;
-use names::{NamedLines, NamedOutput};
+use names::{NamedLines, NamedOutput, Names};
 use object_cache::{Capacity, KeepAll, KeepRecent, PlainStore, Policy, Store};
-use queries::explain_description;
+use queries::Query;
 use runs::{ScriptReader, TraceOptions, Tracer};
 use script::{BufferedOutput, CountedWriter, Output};
-use shell::{Shell, TOPICS, TypedLines};
+use shell::{Inspector, Shell, TOPICS, TypedLines};
+use shell_questions::{describing, drawing, reaching, telling};
 use std::alloc::Global;
-use std::fmt::Display;
 use std::fs::{self, File};
 use std::io::{self, BufWriter, ErrorKind, IsTerminal, Read, Stderr, Stdout};
 use std::os::unix::fs::FileTypeExt;
@@ -137,11 +143,12 @@ fn open_to_read(rt: &HostRuntime, image: &str) -> Result<FileDevice, Refusal> {
 
 // What is done with an image.
 #[derive(Clone, Copy)]
-enum Mode {
+enum Mode<'w> {
     Plain,
     // Run a script with a trace, as a strict run, or with saving at the end.
     Watched { options: TraceOptions, saves: bool },
-    Shell,
+    // Run a shell, which answers questions by this.
+    Shell(Inspection<'w>),
     // Check the image, without running a script.
     Check(Format),
 }
@@ -171,10 +178,18 @@ fn trace_by<D: Device, S: ObjectStore<D>, R: Read, W: Output, V: Output + Drop>(
 
 // Runs a shell over the image on a device, and returns the end of the command. If standard input and standard error
 // are a terminal, the shell writes prompts to `notes`.
-fn shell_by<D: Device, S: ObjectStore<D>, R: Read + Drop, W: Output, V: Output + Drop>(
+fn shell_by<
+    D: Device,
+    S: ObjectStore<D>,
+    Q: Inspector<D, W>,
+    R: Read + Drop,
+    W: Output,
+    V: Output + Drop,
+>(
     rt: &HostRuntime,
     device: D,
     setting: S::Setting,
+    inspector: &Q,
     input: R,
     notes: V,
     streams: &mut Streams<W, V>,
@@ -183,12 +198,13 @@ fn shell_by<D: Device, S: ObjectStore<D>, R: Read + Drop, W: Output, V: Output +
     let mut lines = TypedLines::new(input);
     let mut shell = Shell::new(notes, TOPICS, is_prompting);
     let Streams { output, errors } = streams;
-    let done = run_shell::<_, S, _, _, _, _>(
+    let done = run_shell::<_, S, _, _, _, _, _>(
         rt.alloc(),
         device,
         setting,
         &mut lines,
         &mut shell,
+        inspector,
         output,
         errors,
     );
@@ -196,14 +212,14 @@ fn shell_by<D: Device, S: ObjectStore<D>, R: Read + Drop, W: Output, V: Output +
 }
 
 // Carries out a mode over the image on a device, with a store of type `S`. Returns the end of the command.
-fn run_in_mode<D: Device, S: ObjectStore<D>, R: Read + Drop, W: Output, V: Output + Drop>(
+fn run_in_mode<D: SharedDevice, S: ObjectStore<D>, R: Read + Drop, B: Output, V: Output + Drop>(
     rt: &HostRuntime,
     device: D,
     setting: S::Setting,
     script: R,
-    mode: Mode,
+    mode: Mode<'_>,
     notes: V,
-    streams: &mut Streams<W, V>,
+    streams: &mut Streams<NamedOutput<B>, V>,
 ) -> End {
     match mode {
         Mode::Plain => {
@@ -231,7 +247,15 @@ fn run_in_mode<D: Device, S: ObjectStore<D>, R: Read + Drop, W: Output, V: Outpu
                 saves,
             )
         }
-        Mode::Shell => shell_by::<_, S, _, _, _>(rt, device, setting, script, notes, streams),
+        Mode::Shell(inspection) => shell_by::<_, S, _, _, _, _>(
+            rt,
+            device,
+            setting,
+            &inspection,
+            script,
+            notes,
+            streams,
+        ),
         Mode::Check(format) => {
             let alloc = rt.alloc();
             let Streams { output, errors } = streams;
@@ -243,28 +267,28 @@ fn run_in_mode<D: Device, S: ObjectStore<D>, R: Read + Drop, W: Output, V: Outpu
 
 // Carries out a mode, as `run_in_mode` does, with the store of a policy. Only this function names that store, because
 // each function that names one compiles slowly.
-fn run_by_policy<D: Device, P: Policy, R: Read + Drop, W: Output, V: Output + Drop>(
+fn run_by_policy<D: SharedDevice, P: Policy, R: Read + Drop, B: Output, V: Output + Drop>(
     rt: &HostRuntime,
     device: D,
     setting: P::Setting,
     script: R,
-    mode: Mode,
+    mode: Mode<'_>,
     notes: V,
-    streams: &mut Streams<W, V>,
+    streams: &mut Streams<NamedOutput<B>, V>,
 ) -> End {
     run_in_mode::<_, Store<_, P>, _, _, _>(rt, device, setting, script, mode, notes, streams)
 }
 
 // Carries out a mode, as `run_in_mode` does: with a bounded cache if there is a capacity, else with
 // all objects in memory.
-fn run_with_cache<D: Device, R: Read + Drop, W: Output, V: Output + Drop>(
+fn run_with_cache<D: SharedDevice, R: Read + Drop, B: Output, V: Output + Drop>(
     rt: &HostRuntime,
     device: D,
     cache: Option<Capacity>,
     script: R,
-    mode: Mode,
+    mode: Mode<'_>,
     notes: V,
-    streams: &mut Streams<W, V>,
+    streams: &mut Streams<NamedOutput<B>, V>,
 ) -> End {
     match cache {
         Some(most) => run_by_policy::<_, KeepRecent, _, _, _>(
@@ -275,12 +299,12 @@ fn run_with_cache<D: Device, R: Read + Drop, W: Output, V: Output + Drop>(
 }
 
 // Opens a script, runs it over the image on a device, and returns the end of the command.
-fn open_script_and_run<D: Device>(
+fn open_script_and_run<D: SharedDevice>(
     rt: &HostRuntime,
     device: D,
     script: &Script<'_>,
     cache: Option<Capacity>,
-    mode: Mode,
+    mode: Mode<'_>,
     notes: StandardError,
     stdio: &mut Stdio,
 ) -> Result<End, Refusal> {
@@ -300,7 +324,7 @@ fn open_image_and_run(
     image: &str,
     script: &Script<'_>,
     cache: Option<Capacity>,
-    mode: Mode,
+    mode: Mode<'_>,
     stop_after: Option<u64>,
     notes: StandardError,
     stdio: &mut Stdio,
@@ -331,30 +355,32 @@ fn check(rt: &HostRuntime, image: &str, format: Format, stdio: &mut Stdio) -> Re
     ))
 }
 
-/// Answers a query about the image on a device, and returns the end of the command. Only this function names a store
-/// type for `WholeStore`, because each function that names one compiles slowly.
-pub(crate) fn answer<D: Device, W: Output, V: Output>(
+/// Reads the image on a device, and returns the end of the command. Only this function names a store type for
+/// `WholeStore`, because each function that names one compiles slowly.
+pub(crate) fn read<D: Device, W: Output, V: Output>(
     rt: &HostRuntime,
     device: D,
-    query: Query<'_>,
-    streams: &mut Streams<W, V>,
+    reading: Reading<'_>,
+    output: &mut W,
+    errors: &mut V,
 ) -> Result<End, Refusal> {
-    query.answer::<_, PlainStore<_>, _, _>(rt, device, (), streams)
+    reading.read::<_, PlainStore<_>, _, _>(rt, device, (), output, errors)
 }
 
-// Answers a query about an image, and returns the end of the command.
+// Reads an image, and returns the end of the command.
 fn inspect(
     rt: &HostRuntime,
     image: &str,
-    query: Query<'_>,
+    reading: Reading<'_>,
     stdio: &mut Stdio,
 ) -> Result<End, Refusal> {
     let device = open_to_read(rt, image)?;
-    answer(rt, device, query, stdio)
+    let Stdio { output, errors } = stdio;
+    read(rt, device, reading, output, errors)
 }
 
 // Returns the mode for running a script with these options.
-fn mode_of(trace: bool, strict: bool, saves: bool) -> Mode {
+fn mode_of(trace: bool, strict: bool, saves: bool) -> Mode<'static> {
     if trace || strict || saves {
         Mode::Watched {
             options: TraceOptions { trace, strict },
@@ -362,86 +388,6 @@ fn mode_of(trace: bool, strict: bool, saves: bool) -> Mode {
         }
     } else {
         Mode::Plain
-    }
-}
-
-// Writes why a file can't be explained, and returns the end of the command.
-fn refuse_file<C: Display + Drop>(rt: &HostRuntime, file: &str, cause: C) -> End {
-    tell_line(rt, file, cause);
-    End::of_status(1)
-}
-
-// Writes why a file can't be explained, for an error of the system, and returns the end of the command. If memory ran
-// out, returns a fault instead.
-fn refuse_for(rt: &HostRuntime, file: &str, error: &io::Error) -> Result<End, Refusal> {
-    if error.kind() == ErrorKind::OutOfMemory {
-        Err(Refusal::from(Fault::NoMemory))
-    } else {
-        Ok(refuse_file(rt, file, error))
-    }
-}
-
-// Writes why the image in a file is refused, and returns the end of the command.
-fn explain_file<W: Output, V: Output>(
-    rt: &HostRuntime,
-    image: &str,
-    streams: &mut Streams<W, V>,
-) -> Result<End, Refusal> {
-    match FileDevice::open_to_read(rt, image) {
-        Ok(device) => answer(rt, device, Query::Explain, streams),
-        Err(FileFault::NoMemory) => Err(Refusal::from(Fault::NoMemory)),
-        Err(fault) => Ok(refuse_file(rt, image, fault)),
-    }
-}
-
-// Writes why the bytes of a file are refused as a description or an image, and returns the end of the command.
-// They are treated as an image if they aren't UTF-8 or one of them is zero.
-fn explain_bytes<W: Output, V: Output>(
-    rt: &HostRuntime,
-    file: &str,
-    bytes: &[u8],
-    streams: &mut Streams<W, V>,
-) -> Result<End, Refusal> {
-    match str::from_utf8(bytes) {
-        Ok(text) if !bytes.contains(&0) => {
-            let Streams { output, errors } = streams;
-            let status = explain_description(rt.alloc(), text, output, errors);
-            Ok(End::of_status(status))
-        }
-        _ => explain_file(rt, file, streams),
-    }
-}
-
-// Writes why a regular file is refused as a description or an image, and returns the end of the command.
-fn explain_regular<W: Output, V: Output>(
-    rt: &HostRuntime,
-    file: &str,
-    streams: &mut Streams<W, V>,
-) -> Result<End, Refusal> {
-    match fs::read(rt, file) {
-        Ok(bytes) => explain_bytes(rt, file, &bytes, streams),
-        Err(error) => refuse_for(rt, file, &error),
-    }
-}
-
-/// Writes why a file is refused as a description or an image, and returns the end of the command. A block device may
-/// hold an image. Any other irregular file, such as a FIFO, isn't opened, because reading it waits until somebody
-/// writes to it.
-pub(crate) fn explain<W: Output, V: Output>(
-    rt: &HostRuntime,
-    file: &str,
-    streams: &mut Streams<W, V>,
-) -> Result<End, Refusal> {
-    let kind = match fs::metadata(rt, file) {
-        Ok(found) => found.file_type(),
-        Err(error) => return refuse_for(rt, file, &error),
-    };
-    if kind.is_block_device() {
-        explain_file(rt, file, streams)
-    } else if kind.is_file() {
-        explain_regular(rt, file, streams)
-    } else {
-        Ok(refuse_file(rt, file, NO_FILE))
     }
 }
 
@@ -465,48 +411,82 @@ fn run_script(
     )
 }
 
+// Opens an image, serves a shell over it, and returns its end.
+fn open_shell(
+    rt: &HostRuntime,
+    image: &str,
+    cache: Option<Capacity>,
+    names: Option<Names>,
+    stdio: &mut Stdio,
+) -> Result<End, Refusal> {
+    let (device, notes, mode) = (
+        Fuse::mended(open(rt, image)?),
+        errors_of(rt),
+        Mode::Shell(Inspection::new(rt, image)),
+    );
+    match names {
+        Some(names) => {
+            let lines = NamedInput::new(rt, rt.stdin(), names);
+            Ok(run_with_cache(rt, device, cache, lines, mode, notes, stdio))
+        }
+        None => Ok(run_with_cache(rt, device, cache, rt.stdin(), mode, notes, stdio)),
+    }
+}
+
+// Returns the query of `describe`, with names if there are some.
+fn described<'n>(sizes: &Sizes, names: &'n Option<Names>) -> Query<'n> {
+    match (describing(sizes), names) {
+        (Query::Describe(sizes), Some(names)) => Query::DescribeNamed(sizes, names.entries()),
+        (query, _) => query,
+    }
+}
+
 // Does a job, and returns the end of the command. Traces are written to `notes`.
 fn serve(
     rt: &HostRuntime,
     job: &Job<'_>,
+    names: Option<Names>,
     notes: StandardError,
     stdio: &mut Stdio,
 ) -> Result<End, Refusal> {
-    let (image, query) = match job {
+    let (image, reading) = match job {
         Job::Build {
             description,
             image,
             is_new,
         } => return build(rt, description, image, *is_new, stdio),
         Job::Run(run) => return run_script(rt, run, notes, stdio),
-        Job::Shell { image, cache } => {
-            let (script, mode) = (Script::Input, Mode::Shell);
-            return open_image_and_run(rt, image, &script, *cache, mode, None, errors_of(rt), stdio);
-        }
+        Job::Shell { image, cache } => return open_shell(rt, image, *cache, names, stdio),
         Job::Check { image, json } => return check(rt, image, format_of(*json), stdio),
         Job::Explain { file, json: false } => return explain(rt, file, stdio),
         Job::Explain { file, json: true } => return explain_in_json(rt, file, stdio),
+        Job::Describe { image, sizes } => {
+            return inspect(rt, image, Reading::Answer(described(sizes, &names)), stdio);
+        }
         Job::Upgrade { old, new } => (*old, writing(old, new, NewLayout::Newest)),
         Job::Copy { image, new } => (*image, writing(image, new, NewLayout::Kept)),
-        Job::Describe { image, sizes } => (*image, Query::Describe(sizes_of(sizes))),
         Job::Draw {
             image,
             from,
             reads,
             to,
-        } => (*image, drawing(*from, purpose_of(*reads), *to)),
-        Job::Info { image, json } => (*image, Query::Info(format_of(*json))),
-        Job::Reach(reach) => (reach.image, reaching(reach)),
+        } => (*image, Reading::Answer(drawing(*from, *reads, *to))),
+        Job::Info { image, json } => (*image, Reading::Answer(telling(*json))),
+        Job::Reach(reach) => (reach.image, Reading::Answer(reaching(reach))),
     };
-    inspect(rt, image, query, stdio)
+    inspect(rt, image, reading, stdio)
 }
 
 // Does a job, passes on its output, and returns the end of the command.
 fn serve_whole(rt: &HostRuntime, job: &Job<'_>, naming: Naming) -> Result<End, Refusal> {
-    let Naming { output, trace } = naming;
+    let Naming {
+        output,
+        trace,
+        names,
+    } = naming;
     let mut stdio = stdio_of(rt, output)?;
     let notes = NamedOutput::new(CountedWriter::new(rt.stderr()), trace);
-    match serve(rt, job, notes, &mut stdio) {
+    match serve(rt, job, names, notes, &mut stdio) {
         Ok(end) => {
             let Stdio { output, errors } = &mut stdio;
             let status = finish(output, end.status, errors);

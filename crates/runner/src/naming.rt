@@ -13,11 +13,12 @@ pub(crate) enum NoNames {
     Told,
 }
 
-/// What adds names to the lines of a command's output, and to those of its trace.
+/// What names the lines of a command's output and of its trace, and the names that a shell takes and `describe` writes.
 #[derive(Drop)]
 pub(crate) struct Naming {
     pub(crate) output: Option<NamedLines>,
     pub(crate) trace: Option<NamedLines>,
+    pub(crate) names: Option<Names>,
 }
 
 // The message for a key that isn't a name.
@@ -79,15 +80,34 @@ fn lines_by(
     job: &Job<'_>,
     file: &str,
     table: &Table,
-) -> Result<NamedLines, NoNames> {
-    match names_of(rt, file, table) {
-        Ok(names) => Ok(NamedLines::new(rt.alloc(), names, kinds_of(job))),
-        Err(why) => Err(why),
+) -> Result<Option<NamedLines>, NoNames> {
+    match job {
+        Job::Describe { .. } => Ok(None),
+        _ => match names_of(rt, file, table) {
+            Ok(names) => Ok(Some(NamedLines::new(rt.alloc(), names, kinds_of(job)))),
+            Err(why) => Err(why),
+        },
     }
 }
 
-/// Returns what adds the names in a file to a job's lines. It is empty if there is no file, or if the job answers
-/// in JSON, which has no names.
+// The names that a shell takes and `describe` writes.
+fn taken_names(
+    rt: &HostRuntime,
+    job: &Job<'_>,
+    file: &str,
+    table: &Table,
+) -> Result<Option<Names>, NoNames> {
+    match job {
+        Job::Shell { .. } | Job::Describe { .. } => match names_of(rt, file, table) {
+            Ok(names) => Ok(Some(names)),
+            Err(why) => Err(why),
+        },
+        _ => Ok(None),
+    }
+}
+
+/// Returns what adds the names of a file to a job's lines. There is none without a file, or for JSON, which has no
+/// names.
 pub(crate) fn naming_of(
     rt: &HostRuntime,
     job: &Job<'_>,
@@ -98,6 +118,7 @@ pub(crate) fn naming_of(
         return Ok(Naming {
             output: None,
             trace: None,
+            names: None,
         });
     };
     let table = match table_in(rt, file) {
@@ -106,14 +127,17 @@ pub(crate) fn naming_of(
     };
     let output = lines_by(rt, job, file, &table)?;
     let trace = lines_by(rt, job, file, &table)?;
+    let names = taken_names(rt, job, file, &table)?;
     if is_json {
         return Ok(Naming {
             output: None,
             trace: None,
+            names: None,
         });
     }
     Ok(Naming {
-        output: Some(output),
-        trace: Some(trace),
+        output,
+        trace,
+        names,
     })
 }

@@ -382,7 +382,7 @@ module _ {D S O : Type 0} (disk : D → Disk) (view : S → View D) (parts : S �
   HasRead old new first seen line input input_left output output_left =
       (text : List ℕ) × Consumes input input_left text × RunsSoFar old new first seen text line output output_left
 
-  -- if answers were passed on, the run so far stays
+  -- passing answers on preserves `SoFar`
   kept_so_far : (g : Geometry) (m : Machine) (old new : Power D S) (first seen : O) (text : List ℕ) (line : LineBuffer)
       (output written kept : Written) → Wrote written kept [] →
       SoFar disk view parts sees g m old new first seen text line output written →

@@ -89,13 +89,14 @@ abbrev pub IsReportedBy : Disk → Disk → Reply → Type 0
 IsReportedBy old new reply = IsCounted (reply ≡ Reported (answer.Refused refusal.Fault)) old.failures new.failures
 
 -- An observer saw these turns one after another, and let the run go on after each but the last. The flag says whether
--- it let it go on after that too.
+-- the run went on after the last turn too.
 abbrev pub AreSeen : {O : Type 0} → (Turn → O → O → Bool → Type 0) → O → O → List Turn → Bool → Type 0
 AreSeen sees old new [] on = (new ≡ old) × (on ≡ true)
 AreSeen sees old new (t ∷ ts) on = ((next : _) × sees t old next true × AreSeen sees next new ts on) ⊎
     ((ts ≡ []) × (on ≡ false) × sees t old new false)
 
--- the observer ended the run exactly if the result is `Stopped`; if the writer failed, it may have too
+-- the observer ended the run exactly if the result is `Stopped`; if the writer failed, the observer
+-- may have ended it too
 abbrev pub EndsBy : Bool → Result (Unit {0}) RunFault → Type 0
 EndsBy on (Ok a) = on ≡ true
 EndsBy on (Err fault.Read) = on ≡ true
@@ -145,9 +146,9 @@ module _ {D S : Type 0} (disk : D → Disk) (view : S → View D) (parts : S →
       (turns : List Turn) × IsRunOf g m old new turns × Does turns input input_left output output_left result
       × (on : Bool) × AreSeen (sees g) before after turns on × EndsBy on result
 
-  -- The authority bound. Take a kernel that is up before and after. Every line that was read is by a process of a
-  -- closed set, or by one that these made from free numbers. Then each object outside the set that wasn't free is
-  -- kept.
+  -- The authority bound. Take a kernel that is up before and after. Let every line that was read be by a process
+  -- of a closed set, or by one that these made from free numbers. Then each object outside the set that wasn't
+  -- free is kept.
   abbrev pub IsConfined : Power D S → Power D S → Option (List ℕ) → Option (List ℕ) → Type 0
   IsConfined old new input input_left = (g : Geometry) (s t : Running) → Stands disk view parts g old (Up s) →
       Stands disk view parts g new (Up t) →

@@ -19,7 +19,7 @@ unsaved_after c (answer.Committed g) old = record { present = old.present; froze
 unsaved_after c (answer.At g age) old = nothing_unsaved
 unsaved_after c a old = old
 
--- what isn't committed after the reply to a turn; without a command it stays
+-- what isn't committed after the reply to a turn; a line without a command changes nothing
 abbrev pub NotesReply : Turn → Reply → Unsaved → Unsaved → Type 0
 NotesReply t (Reported a) old new = (c : Command) × Says t.line (line.Command c) × (new ≡ unsaved_after c a old)
 NotesReply t reply old new = new ≡ old

@@ -27,8 +27,8 @@ pub fn crashes_are_survived<D: Device, S: ObjectStore<D>>()
     ensures { CrashesAreSurvived D.disk S.view S.parts }
 {}
 
-/// The same for whole runs. After a crash at any moment of a run, the image denotes one of two: a state that one of
-/// the turns may save, or a candidate of the machine after the last turn.
+/// The main theorem for whole runs. After a crash at any moment of a run, the image denotes one of two: a state
+/// that one of the turns may save, or a candidate of the machine after the last turn.
 pub fn crashes_in_runs_are_survived<D: Device, S: ObjectStore<D>>()
     ensures { CrashesInRunsAreSurvived D.disk S.view S.parts }
 {}

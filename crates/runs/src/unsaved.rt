@@ -8,9 +8,9 @@ use model::{Answer, Command, ResultCode};
 /// An observer that records whether there are uncommitted invocations and stores. It never ends a run.
 #[derive(Clone, Copy)]
 pub struct Unsaved {
-    // Whether there are some since the last checkpoint or restart.
+    // Whether there are uncommitted invocations or stores since the last checkpoint or restart.
     present: bool,
-    // Whether there are some before the last checkpoint, which isn't committed.
+    // Whether there are some before the last checkpoint, because it isn't committed.
     frozen: bool,
 }
 

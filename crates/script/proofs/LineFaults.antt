@@ -156,7 +156,7 @@ module _ (k : Keyword) (all left : Words) (count : ℕ) (end : length (are_regis
       rw (← none) (has_word line k _ rest word place (names ∙ ap (λ (l : Words). keyword_name k ∷ l) split)
       (omega (arith, at, operands_length _ _ operands)))
 
--- the parameters: as above, for a table of operands equal to that of the keyword
+-- the parameters: a table of operands equal to that of the keyword, and the operands taken so far, which are valid
 module _ (registers : List Bool) (k : Keyword) (same : registers ≡ are_registers k) (all left : Words) (count : ℕ)
     (taken : Taken registers all count left)
   where

@@ -1,3 +1,4 @@
+-- The first words of commands.
 use Rattle.script.specs.Names.{ℕ, List, [], codes, length, slice_index_or, take, Command, command_words, operation_name}
 use Rattle.std.specs.Prelude.{◌≡◌, ◌+◌, ◌≤◌, ◌++◌}
 use Rattle.script.specs.declared.keyword.Keyword.{Keyword}

@@ -15,19 +15,19 @@ use model::Line;
 /// Why a line of a script is bad. Words have places from 1.
 #[derive(Clone, Copy)]
 pub enum LineFault {
-    /// It has more than 256 bytes.
+    /// The line has more than 256 bytes.
     Long,
-    /// It has a carriage return.
+    /// The line has a carriage return.
     CarriageReturn,
-    /// It has a tab.
+    /// The line has a tab.
     Tab,
     /// The word at this place is empty: the line has two spaces side by side, or a space at its start or end.
     EmptyWord(u64),
-    /// Its first word names no command.
+    /// The line's first word names no command.
     NoCommand,
-    /// It has fewer words than its command needs: this many.
+    /// The line has fewer words than its command needs, which is this number.
     FewWords(u64),
-    /// It has more words than its command has: this many.
+    /// The line has more words than its command has, which is this number.
     ManyWords(u64),
     /// The word at this place isn't a decimal number.
     NoNumber(u64),

@@ -153,8 +153,8 @@ fn longer_before(text: &[u8], at: usize) -> Short
     digits_before(text, at, at + 3, three)
 }
 
-/// Returns the number at `at` if a space follows it. `behind` is at most the number of bytes after that at `at`;
-/// so at least `behind - 2` bytes follow the first byte of the next word.
+/// Returns the number at `at` if a space follows it. At least `behind` bytes must follow the byte at `at`; then
+/// at least `behind - 2` follow the first byte of the next word.
 #[inline(always)]
 pub fn number_before(text: &[u8], at: usize, behind: usize) -> Option<Short>
     requires room { at + behind < length text.now }

@@ -157,7 +157,7 @@ three_told xs ys len few e =
     let runs : run (sums []) xs ≡ run (sums []) ys = run_is xs ∙ e ∙ sym (run_is ys) in
     three_left (sums []) xs ys len few (ap (λ (s : Sums). s.a) runs, ap (λ (s : Sums). s.b) runs, ap (λ (s : Sums). s.c) runs)
 
--- lists that differ in at most two numbers, and have the same b and c, are equal
+-- lists that differ in at most two numbers, and have the same sums b and c, are equal
 pub two_told : (xs ys : List ℕ) → length xs ≡ length ys → differences xs ys ≤ 2 → weighted place xs ≡ weighted place ys →
     weighted triangle xs ≡ weighted triangle ys → xs ≡ ys
 two_told xs ys len few b c =

@@ -19,12 +19,12 @@ use Rattle.script.specs.Writing.{Written, Wrote}
 use Rattle.script.specs.declared.fault.RunFault.{RunFault}
 use Rattle.shell.specs.Laws.{SessionsAreRuns}
 use Rattle.shell.specs.Listing.{AreListed, EndsList, Lists}
-use Rattle.shell.specs.Sessions.{AreServed, Finishes, HasServed, Serves, ServesFrom, Session, StepsBy}
+use Rattle.shell.specs.Sessions.{AreServed, Finishes, HasServed, Inspects, Serves, ServesFrom, Session, StepsBy}
 use Rattle.shell.specs.declared.help.Topic.{Topic}
 use Rattle.shell.specs.declared.request.Request.{Request}
 use Rattle.shell.specs.declared.request.Request.TheVariants as request
 
-module _ {D S : Type 0} (disk : D → Disk) (view : S → View D) (parts : S → Parts) where
+module _ {D S : Type 0} (disk : D → Disk) (view : S → View D) (parts : S → Parts) (inspects : Inspects D) where
   module _ (g : Geometry) where
     -- for each machine that the old kernel stands for, some turns are a run of it that ends at the new kernel
     abbrev Runs : Power D S → Power D S → Type 0
@@ -82,27 +82,28 @@ module _ {D S : Type 0} (disk : D → Disk) (view : S → View D) (parts : S →
         (ends_list (length answers) between new written output_left r ends)
 
     serves : (topics : List Topic) (prompts : Bool) (req : Request) (line : List ℕ) (s t : Session D S) (r : Result Bool RunFault) →
-        Serves disk view parts topics prompts req line s t r → Runs s.kernel t.kernel
+        Serves disk view parts inspects topics prompts req line s t r → Runs s.kernel t.kernel
     serves topics prompts request.Pass line s t r is = λ m stands. (let ran = is.1 g m stands in (ran.0 ∷ [], ran.2))
     serves topics prompts (request.Help word) line s t r is = stays s.kernel t.kernel is.3
     serves topics prompts request.List line s t r is = lists s.kernel t.kernel s.output t.output is.0 is.1
     serves topics prompts request.Save line s t r is =
         joins s.kernel is.1.0 t.kernel (stages commit_stages s.kernel is.1.0 is.1.1 is.1.2) (moves is.1.1 is.1.0 t.kernel is.0 is.1.3)
+    serves topics prompts request.Inspect line s t r is = stays s.kernel t.kernel is.6
     serves topics prompts request.Quit line s t r is = stays s.kernel t.kernel is.3
 
     step : (topics : List Topic) (prompts : Bool) (line : List ℕ) (s t : Session D S) (r : Result Bool RunFault) →
-        StepsBy disk view parts topics prompts line s t r → Runs s.kernel t.kernel
+        StepsBy disk view parts inspects topics prompts line s t r → Runs s.kernel t.kernel
     step topics prompts line s t r (prompted, noted, (req, requested, is)) =
         serves topics prompts req line (record s { notes = prompted }) t r is
 
     served : (topics : List Topic) (prompts : Bool) (lines : List (List ℕ)) (s t : Session D S) →
-        AreServed disk view parts topics prompts lines s t → Runs s.kernel t.kernel
+        AreServed disk view parts inspects topics prompts lines s t → Runs s.kernel t.kernel
     served topics prompts [] s t same = stays s.kernel t.kernel (ap (λ (x : Session D S). x.kernel) same)
     served topics prompts (l ∷ ls) s t is =
         joins s.kernel is.0.kernel t.kernel (step topics prompts l s is.0 (Ok true) is.1) (served topics prompts ls is.0 t is.2)
 
     finishes : (topics : List Topic) (prompts : Bool) (last : List (List ℕ)) (ahead : Option (List (List ℕ))) (s t : Session D S)
-        (r : Result (Unit {0}) RunFault) → Finishes disk view parts topics prompts last ahead s t r → Runs s.kernel t.kernel
+        (r : Result (Unit {0}) RunFault) → Finishes disk view parts inspects topics prompts last ahead s t r → Runs s.kernel t.kernel
     finishes topics prompts [] ahead s t (Ok u) is = stays s.kernel t.kernel (ap (λ (x : Session D S). x.kernel) is.4)
     finishes topics prompts [] ahead s t (Err e) is = stays s.kernel t.kernel (ap (λ (x : Session D S). x.kernel) is.2)
     finishes topics prompts (l ∷ []) ahead s t (Ok u) is = step topics prompts l s t (Ok false) is
@@ -110,17 +111,17 @@ module _ {D S : Type 0} (disk : D → Disk) (view : S → View D) (parts : S →
     finishes topics prompts (l ∷ k ∷ ls) ahead s t r is = absurd is
 
     has_served : (topics : List Topic) (prompts : Bool) (ahead ahead_left : Option (List (List ℕ))) (s t : Session D S)
-        (r : Result (Unit {0}) RunFault) → HasServed disk view parts topics prompts ahead ahead_left s t r → Runs s.kernel t.kernel
+        (r : Result (Unit {0}) RunFault) → HasServed disk view parts inspects topics prompts ahead ahead_left s t r → Runs s.kernel t.kernel
     has_served topics prompts ahead ahead_left s t r is =
         joins s.kernel is.2.kernel t.kernel (served topics prompts is.0 s is.2 is.4) (finishes topics prompts is.1 ahead_left is.2 t r is.5)
 
     begins : (topics : List Topic) (prompts : Bool) (ahead ahead_left : Option (List (List ℕ))) (s t : Session D S)
         (r : Result (Unit {0}) RunFault) → (begun : Written) × Wrote s.output begun []
-        × HasServed disk view parts topics prompts ahead ahead_left (record s { output = begun }) t r → Runs s.kernel t.kernel
+        × HasServed disk view parts inspects topics prompts ahead ahead_left (record s { output = begun }) t r → Runs s.kernel t.kernel
     begins topics prompts ahead ahead_left s t r (begun, wrote, is) =
         has_served topics prompts ahead ahead_left (record s { output = begun }) t r is
 
-  pub sessions_run : SessionsAreRuns disk view parts
+  pub sessions_run : SessionsAreRuns disk view parts inspects
   sessions_run topics prompts ahead ahead_left s t r serves g = ⊎_elim
       (begins g topics prompts ahead ahead_left s t r)
       (λ failed. stays g s.kernel t.kernel (ap (λ (x : Session D S). x.kernel) failed.3))

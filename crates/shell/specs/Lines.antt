@@ -1,7 +1,7 @@
 -- The lines that a shell reads, and what they ask for.
-use Rattle.std.specs.Prelude.{◌≡◌, ◌⊎◌, ◌||◌, ◌==◌, ◌<◌, ◌≤◌, ◌++◌, ◌∷◌, if◌then◌else◌, ℕ, Bool, true, false, List, [], codes, length, nat_lt, take}
+use Rattle.std.specs.Prelude.{◌≡◌, ◌⊎◌, ◌||◌, ◌&&◌, ◌==◌, ◌<◌, ◌≤◌, ◌++◌, ◌∷◌, if◌then◌else◌, ℕ, Bool, true, false, List, [], codes, length, nat_lt, take}
 use Rattle.std.specs.Prelude.{drop, map, Option, None, Some, option_map, unwrap_or, ⊤}
-use Rattle.std.specs.List.{filter, flat_map, position, slice_split}
+use Rattle.std.specs.List.{filter, flat_map, position, slice_split, starts_with}
 use Rattle.std.specs.Str.{bytes_eq}
 use Rattle.model.specs.Run.{lines_of, onto_first}
 use Rattle.model.specs.Text.{line_of, spaced}
@@ -47,14 +47,29 @@ requests_save line = bytes_eq line (codes "save")
 abbrev pub requests_list : List ℕ → Bool
 requests_list line = bytes_eq line (codes "list")
 
+-- whether nothing or a space follows a word
+abbrev pub ends_word : List ℕ → Bool
+ends_word [] = true
+ends_word (b ∷ bs) = b == 32
+
+-- whether this is the first word of a line
+abbrev pub is_first : List ℕ → List ℕ → Bool
+is_first word line = starts_with (λ a b. a == b) line word && ends_word (drop (length word) line)
+
+-- whether a line asks about what is saved, or copies it
+abbrev pub is_question : List ℕ → Bool
+is_question line = is_first (codes "reach") line || is_first (codes "describe") line || is_first (codes "draw") line
+    || is_first (codes "info") line || is_first (codes "copy") line
+
 -- what a line asks for; the word of `help` is what follows the space
 abbrev pub IsRequest : List ℕ → Request → Type 0
 IsRequest line request.Quit = ends_shell line ≡ true
 IsRequest line request.Save = requests_save line ≡ true
 IsRequest line request.List = requests_list line ≡ true
 IsRequest line (request.Help word) = (requests_help line ≡ true) × (word.now ≡ drop 5 line)
+IsRequest line request.Inspect = is_question line ≡ true
 IsRequest line request.Pass = (ends_shell line ≡ false) × (requests_save line ≡ false) × (requests_list line ≡ false)
-    × (requests_help line ≡ false)
+    × (requests_help line ≡ false) × (is_question line ≡ false)
 
 -- the lines of an input whose first line began with these bytes
 abbrev pub lines_from : List ℕ → List ℕ → List (List ℕ)

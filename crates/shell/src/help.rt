@@ -27,6 +27,8 @@ migrate N, journal O                copies N saved objects home; saves page O al
 restart, cut                        opens the image again; cuts the power first
 list                                lists the kind, number and owner of each object
 save                                saves all that was done
+reach, describe, draw, info         answer as eros does, about what is saved
+copy NEW                            writes what is saved to a new image
 quit, exit                          ends the shell
 help WORD                           explains a command, or the orders of number, page, node, space,
                                     discrim, process or bank
@@ -110,6 +112,37 @@ checkpoint must wait until none is left.
 save: saves all that was done. It carries out migrate, checkpoint, stabilize, commit and migrate for
 all objects. The answer is saved, or the first refusal.
 ",
+    },
+    Topic {
+        word: b"reach",
+        text: b"\
+reach [P ..]: lists what processes P can ever change, or all processes. --reads: what they can read.
+--shows O: a shortest chain of capabilities to object O. --to O: which of them can change O, or read it.
+--trust S: leaves out what is reached only by starting process S. --json: as JSON. It answers about
+what is saved, as eros reach IMAGE P does.
+",
+    },
+    Topic {
+        word: b"describe",
+        text: b"\
+describe: prints the description of what is saved, in TOML. --nodes N, --pages P, --log R: renumbered
+for an image of these sizes.
+",
+    },
+    Topic {
+        word: b"draw",
+        text: b"\
+draw: prints what is saved as a graph, in DOT. --from P: only what process P can ever change, with
+--reads what it can read. --to O: only object O and what holds a capability to it.
+",
+    },
+    Topic {
+        word: b"info",
+        text: b"info: prints the sizes of the image, its checkpoint and how many objects it has. --json: as JSON.\n",
+    },
+    Topic {
+        word: b"copy",
+        text: b"copy NEW: writes what is saved to a new image in file NEW, as a backup. An old file is replaced.\n",
     },
     Topic {
         word: b"quit",

@@ -2,6 +2,7 @@
 #![tactic(auto)]
 
 mod help;
+mod inspector;
 pub mod laws;
 mod listing;
 mod reading;
@@ -12,5 +13,6 @@ mod typed_lines;
 mod watch;
 
 pub use help::{TOPICS, Topic};
+pub use inspector::Inspector;
 pub use session::Shell;
 pub use typed_lines::TypedLines;

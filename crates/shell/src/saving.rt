@@ -1,8 +1,8 @@
-// Saving the present state in a shell.
-ghost use Rattle.std.specs.Prelude.{◌≡◌, ◌≤◌, [], OnOk, length};
+// Saving the present state in a shell, and passing answers on.
+ghost use Rattle.std.specs.Prelude.{◌≡◌, ◌≤◌, [], IfErr, OnOk, length};
 ghost use Rattle.model.specs.Text.{line_of};
 ghost use Rattle.script.specs.Writing.{Writes};
-ghost use Rattle.shell.specs.Sessions.{SavesAll, saved_text};
+ghost use Rattle.shell.specs.Sessions.{IsPassedOn, SavesAll, saved_text};
 
 use checkpoint::ObjectStore;
 use device::Device;
@@ -43,4 +43,23 @@ pub(crate) fn print_line<W: Output>(line: LineText, writer: &mut W) -> Result<()
 {
     line.write_to(writer)?;
     writer.pass_on()
+}
+
+/// Passes on an answer, if it was written. `RunFault::Write` if that fails, or it wasn't written.
+pub(crate) fn pass_on_if<W: Output>(
+    answered: Result<(), RunFault>,
+    writer: &mut W,
+) -> Result<bool, RunFault>
+    requires { IfErr answered (λ e. e ≡ RunFault.Write) }
+    ensures passes { IsPassedOn answered (W.written writer.old) (W.written writer.new) result }
+    ensures none_waits { OnOk result (W.waiting writer.new ≡ []) }
+    ensures fault { IfErr result (λ e. e ≡ RunFault.Write) }
+{
+    match answered {
+        Ok(()) => match writer.pass_on() {
+            Ok(()) => Ok(true),
+            Err(fault) => Err(fault),
+        },
+        Err(fault) => Err(fault),
+    }
 }

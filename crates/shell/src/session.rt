@@ -6,12 +6,13 @@ ghost use Rattle.runs.specs.Reader.{failed_reads};
 ghost use Rattle.runs.specs.Unsaved.{nothing_unsaved};
 ghost use Rattle.shell.specs.Lines.{ahead_of};
 ghost use Rattle.shell.specs.Served.{Notes, greeting, question};
-ghost use Rattle.shell.specs.Sessions.{HasServed, ListsIn, Quits, RunsIn, SavesIn, ServesFrom, ServesLine, session_at};
+ghost use Rattle.shell.specs.Sessions.{HasServed, InspectsIn, ListsIn, Quits, RunsIn, SavesIn, ServesFrom, ServesLine, session_at};
 
 use crate::help::{Topic, help_on};
+use crate::inspector::Inspector;
 use crate::listing::list;
 use crate::request::{Request, request_of};
-use crate::saving::{print_line, save_all, saved_line};
+use crate::saving::{pass_on_if, print_line, save_all, saved_line};
 use crate::typed_lines::TypedLines;
 use crate::watch::{Watch, note_remark};
 use checkpoint::ObjectStore;
@@ -20,8 +21,8 @@ use kernel::Kernel;
 use runs::{RawReader, Unsaved, run_line};
 use script::{Output, RunFault};
 
-/// A shell over a kernel. It carries out `help`, `help WORD`, `list`, `save`, `quit` and `exit` itself, and passes
-/// all other lines to the machine. Help, prompts and remarks go to `notes`.
+/// A shell over a kernel. It carries out `help`, `help WORD`, `list`, `save`, `quit` and `exit` itself. An `Inspector`
+/// answers questions about what is saved. All other lines go to the machine; help, prompts and remarks go to `notes`.
 #[derive(Drop)]
 pub struct Shell<V> {
     notes: V,
@@ -156,16 +157,38 @@ impl<V: Output> Shell<V> {
         asks
     }
 
+    // Answers a question about what is saved.
+    fn inspect<D: Device, S: ObjectStore<D>, Q: Inspector<D, W>, W: Output>(
+        &mut self,
+        line: &[u8],
+        kernel: &Kernel<D, S>,
+        inspector: &Q,
+        writer: &mut W,
+    ) -> Result<bool, RunFault>
+        ensures inspects { InspectsIn D.disk S.view S.parts (Q.inspects inspector.now) line.now
+            (session_at V.written self.old kernel.now (W.written writer.old))
+            (session_at V.written self.new kernel.now (W.written writer.new)) result }
+        ensures topics { self.new.topics ≡ self.old.topics }
+        ensures prompts { self.new.is_prompting ≡ self.old.is_prompting }
+        ensures none_waits { OnOk result (W.waiting writer.new ≡ []) }
+        ensures fault { IfErr result (λ e. e ≡ RunFault.Write) }
+    {
+        self.is_asked = false;
+        let answered = inspector.inspect(line, kernel.device(), writer, &mut self.notes);
+        pass_on_if(answered, writer)
+    }
+
     // Serves a line, and returns whether the shell goes on. Returns `RunFault::Write` if an answer couldn't be
     // written.
-    fn serve<D: Device, S: ObjectStore<D>, W: Output>(
+    fn serve<D: Device, S: ObjectStore<D>, Q: Inspector<D, W>, W: Output>(
         &mut self,
         line: &[u8],
         kernel: &mut Kernel<D, S>,
+        inspector: &Q,
         writer: &mut W,
     ) -> Result<bool, RunFault>
         requires { W.waiting writer.old ≡ [] }
-        ensures served { ServesLine D.disk S.view S.parts self.old.topics.now self.old.is_prompting line.now
+        ensures served { ServesLine D.disk S.view S.parts (Q.inspects inspector.now) self.old.topics.now self.old.is_prompting line.now
             (session_at V.written self.old kernel.old (W.written writer.old))
             (session_at V.written self.new kernel.new (W.written writer.new)) result }
         ensures topics { self.new.topics ≡ self.old.topics }
@@ -181,20 +204,22 @@ impl<V: Output> Shell<V> {
                 Ok(true)
             }
             Request::List => self.list(kernel, writer),
+            Request::Inspect => self.inspect(line, kernel, inspector, writer),
             Request::Save => self.save(kernel, writer),
             Request::Quit => Ok(self.asks()),
         }
     }
 
     // Serves lines up to one that ends the shell, or to the end of the input.
-    fn serve_lines<D: Device, S: ObjectStore<D>, R: RawReader, W: Output>(
+    fn serve_lines<D: Device, S: ObjectStore<D>, Q: Inspector<D, W>, R: RawReader, W: Output>(
         &mut self,
         lines: &mut TypedLines<R>,
         kernel: &mut Kernel<D, S>,
+        inspector: &Q,
         writer: &mut W,
     ) -> Result<(), RunFault>
         requires { W.waiting writer.old ≡ [] }
-        ensures served { HasServed D.disk S.view S.parts self.old.topics.now self.old.is_prompting (ahead_of R.rest lines.old)
+        ensures served { HasServed D.disk S.view S.parts (Q.inspects inspector.now) self.old.topics.now self.old.is_prompting (ahead_of R.rest lines.old)
             (ahead_of R.rest lines.new) (session_at V.written self.old kernel.old (W.written writer.old))
             (session_at V.written self.new kernel.new (W.written writer.new)) result }
         ensures none_waits { OnOk result (W.waiting writer.new ≡ []) }
@@ -206,7 +231,7 @@ impl<V: Output> Shell<V> {
             note(self.is_prompting, b"eros> ", &mut self.notes);
             match lines.next(writer)? {
                 Some(line) => {
-                    let goes_on = self.serve(line.as_slice(), kernel, writer)?;
+                    let goes_on = self.serve(line.as_slice(), kernel, inspector, writer)?;
                     if !goes_on {
                         return Ok(());
                     }
@@ -227,13 +252,14 @@ impl<V: Output> Shell<V> {
     ///
     /// Returns `RunFault::Read` exactly if a read failed: then the line that was being read isn't served. Returns
     /// `RunFault::Write` exactly if a call of the writer failed: then only the last answer may be cut short.
-    pub fn serve_all<D: Device, S: ObjectStore<D>, R: RawReader, W: Output>(
+    pub fn serve_all<D: Device, S: ObjectStore<D>, Q: Inspector<D, W>, R: RawReader, W: Output>(
         &mut self,
         lines: &mut TypedLines<R>,
         kernel: &mut Kernel<D, S>,
+        inspector: &Q,
         writer: &mut W,
     ) -> Result<(), RunFault>
-        ensures served { ServesFrom D.disk S.view S.parts self.old.topics.now self.old.is_prompting (ahead_of R.rest lines.old)
+        ensures served { ServesFrom D.disk S.view S.parts (Q.inspects inspector.now) self.old.topics.now self.old.is_prompting (ahead_of R.rest lines.old)
             (ahead_of R.rest lines.new) (session_at V.written self.old kernel.old (W.written writer.old))
             (session_at V.written self.new kernel.new (W.written writer.new)) result }
         ensures none_waits { OnOk result (W.waiting writer.new ≡ []) }
@@ -242,6 +268,6 @@ impl<V: Output> Shell<V> {
         ensures unstopped { IfErr result (λ e. e ≢ RunFault.Stopped) }
     {
         writer.pass_on()?;
-        self.serve_lines(lines, kernel, writer)
+        self.serve_lines(lines, kernel, inspector, writer)
     }
 }

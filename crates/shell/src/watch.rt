@@ -1,5 +1,6 @@
 // The observer of a shell's lines.
 ghost use Rattle.std.specs.Prelude.{◌≡◌, ◌≤◌, None, false, length};
+ghost use Rattle.shell.specs.Watching as watching;
 ghost use Rattle.shell.specs.Watching.{NotesRemark, Watches, remark_text};
 
 use model::{Answer, Command, ResultCode};
@@ -13,6 +14,8 @@ pub(crate) enum Remark {
     Fault(LineFault),
     /// The order had this result code.
     Code(ResultCode),
+    /// `migrate` had nothing to copy, and some invocations or stores are not committed.
+    Uncommitted,
 }
 
 /// Observes the lines of a shell. It never ends a run.
@@ -40,6 +43,9 @@ impl Remark {
                 add_code(&mut line, code);
                 line
             }
+            Remark::Uncommitted => LineText::new(
+                b"hint: migrate copies what is committed; some invocations or stores are not",
+            ),
         }
     }
 }
@@ -50,6 +56,34 @@ pub(crate) fn note_remark<V: Output>(remark: Option<Remark>, notes: &mut V)
 {
     if let Some(remark) = remark {
         let _reported = remark.line().write_to(notes);
+    }
+}
+
+// Whether a command and its answer say that `migrate` had nothing to copy.
+fn migrates_nothing(command: &Command, answer: &Answer) -> bool
+    ensures { result ≡ watching.migrates_nothing command.now answer.now }
+{
+    match (command, answer) {
+        (Command::Migrate { .. }, Answer::Left(left)) => *left == 0,
+        _ => false,
+    }
+}
+
+// Returns the remark about a command. `unsaved` is what isn't committed.
+fn remark_on(
+    command: &Command,
+    answer: &Answer,
+    code: Option<ResultCode>,
+    unsaved: Unsaved,
+) -> Option<Remark>
+    ensures { result ≡ watching.remark_on command.now answer.now code unsaved }
+{
+    if unsaved.is_some() && migrates_nothing(command, answer) {
+        return Some(Remark::Uncommitted);
+    }
+    match code {
+        Some(code) => Some(Remark::Code(code)),
+        None => None,
     }
 }
 
@@ -83,10 +117,7 @@ impl Observer for Watch {
     }
 
     fn answer(&mut self, command: &Command, answer: &Answer, code: Option<ResultCode>) -> bool {
-        self.remark = match code {
-            Some(code) => Some(Remark::Code(code)),
-            None => None,
-        };
+        self.remark = remark_on(command, answer, code, self.unsaved);
         self.unsaved.answer(command, answer, code)
     }
 }

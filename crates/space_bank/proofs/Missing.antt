@@ -31,7 +31,7 @@ module _ (os : List Object) (base : ℕ) (marks : List Bool) (same : (n : ℕ) �
       let next_is : IsNextMarked marks (from + 1) n = search (arith, nat_tests, next.least) in
       search (arith, nat_tests, free_one, next_by k (from + 1) n (omega arith) next_is)
 
-  -- the free numbers from a mark on are the next marked one, and then those after it
+  -- the free numbers from `from` on are the next marked one, and then the free numbers after it
   pub next_free : (from n : ℕ) → IsNextMarked marks from n → free_from from ≡ (base + n) ∷ free_from (n + 1)
   next_free from n next = next_by (n - from) from n (omega (arith, next.past)) next
 

@@ -165,7 +165,7 @@ pub allocating_is : (g : Geometry) (os : List Object) (b : ℕ) (order : BankOrd
 unfolding on_bank
 allocating_is g os b order args kind is = grind (arith, nat_tests)
 
--- if two lists of objects have the `SameFrame`, an order makes the same object in both
+-- if two lists of objects agree in owners, roles, annexes and limits (`SameFrame`), an order makes the same object in both
 module _ (os us : List Object) (frame : SameFrame os us) (g : Geometry) (b : ℕ) where
   pub made_alike : (kind : New) → made_for g us b kind ≡ made_for g os b kind
   made_alike kind = grind (arith, nat_tests, pages_alike, nodes_alike)
@@ -222,7 +222,7 @@ module _ (g : Geometry) (os : List Object) (b : ℕ) (args : Arguments) where
   unfolding on_bank
   remaining_replying = refl
 
--- the same effects in later objects that have the `SameFrame`
+-- orders that free objects have the same effects in later objects with the same owners, roles, annexes and limits (`SameFrame`)
 module _ (g : Geometry) (os : List Object) (b : ℕ) (args : Arguments) (us : List Object) (frame : SameFrame os us) where
   pub frees_none_there : (c : Capability) → args.capability ≡ c → freed_by os c ≡ [] →
       on_bank g us b bank.Free args ≡ refused us code.BadCapability
@@ -360,7 +360,7 @@ new_may : (g : Geometry) (os : List Object) (b : ℕ) (c : BankChange) → IsTru
 unfolding free_nodes free_pages
 new_may g os b c bank kind room some short = grind (arith, nat_tests, one_may, two_may, short_chain)
 
--- if os and us have the `SameFrame`, and a capability that frees an object names one of its kind in os, it does in us
+-- let os and us agree in roles (`SameFrame`): if a capability that frees an object fits that object's kind in os, it fits in us too
 names_there : (os us : List Object) → SameFrame os us → (c : Capability) (n : ℕ) (ns : List ℕ) → freed_by os c ≡ n ∷ ns →
     NamesItsKind os c → NamesItsKind us c
 names_there os us frame c n ns some names = grind (arith, nat_tests)

@@ -24,7 +24,7 @@ SameAllocations p q = (n : ℕ) → (header_at q.headers n).allocations ≡ (hea
 abbrev pub SameFree : Parts → Parts → Type 0
 SameFree p q = (n : ℕ) → is_free (content_at (objects_in q) n) ≡ is_free (content_at (objects_in p) n)
 
--- if a header is given up exactly if `gone` holds, its allocation count rises by one then, and else stays
+-- if `gone` says whether an object is freed, its allocation count rises by one if so, and else stays
 given_or_kept : (gone : Bool) (member : Bool) (h k : ObjectHeader) → gone ≡ member → k ≡ (if member then given_up h else h) →
     k.allocations ≡ h.allocations + (if gone then 1 else 0)
 given_or_kept gone member h k e is = grind (arith, nat_tests)
@@ -276,7 +276,7 @@ module _ {p : Parts} {s : BanksState} {b : ℕ} (asks : MayServe p s b) (on : b 
       let all = ap {B = ℕ} (λ t. if t then 1 else 0) member in
       omega (arith, asks.counted.usage x bank, returned_fits p.geometry before b (serve_now asks) asks.bank on x differ, all)
 
-  -- freeing a bank whose objects were transferred carries out the order
+  -- if the bank's objects were transferred and the bank was then freed, the order is carried out (`CarriesOut`)
   pub returned_carried : {q : Parts} {t : BanksState} {us : List Object} → AreTransferred (owned_by before b) (owner_at before b) before us
       → IsReleased (chain before (owner_at before b)) 1 s t (b ∷ []) → objects_in q ≡ rescind (b ∷ []) us → AreCurrent (frames_of q)
       → ((age : ℕ) → age + 1 < 2 ^ 64 → AreKeepable p.geometry age (frames_of p) → AreKeepable p.geometry (age + 1) (frames_of q)) →

@@ -237,7 +237,7 @@ AreMarked g os marks = (n : ℕ) → n < object_count g → is_marked marks n �
 pub marks_counted : {g : Geometry} {os : List Object} {s : BanksState} → AreCounted g os s → AreMarked g os (marks_of s)
 marks_counted {g} {os} {s} counted n known = grind (arith, nat_tests, inside, get_or_append_left, get_or-append_right)
 
--- both have lists of the same lengths, and memory for the same list of numbers
+-- two states have lists of the same lengths, and memory for the same list of numbers
 pub record IsAsWide (s t : BanksState) : Type 0 where
   pub nodes : length t.free_nodes ≡ length s.free_nodes
   pub pages : length t.free_pages ≡ length s.free_pages

@@ -30,7 +30,7 @@ pub record CarriesOut (old new : Parts) (s : BanksState) : Type 0 where
       AreKeepable old.geometry (age + 1) (frames_of new)
 
 -- A list may be freed: its numbers are in use, none occurs twice, and none is a bank in the chain of `above`. Each
--- bank outside the list has all of the list under it if it is in that chain, else none.
+-- bank outside the list has all of the list under it if this bank is in that chain, else none.
 pub record MayFree (os : List Object) (above : ℕ) (list : List ℕ) : Type 0 where
   pub once : IsOnce list
   pub used : (n : ℕ) → is_member list n ≡ true → is_free (content_at os n) ≡ false

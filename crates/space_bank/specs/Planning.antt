@@ -10,7 +10,7 @@ abbrev pub annex_of : List Object → Capability → List ℕ
 annex_of os (Process p) = annex_at os p ∷ []
 annex_of os _ = []
 
--- the same, looked up in the recorded annexes
+-- the annex of the process that a capability names, looked up in the recorded annexes
 abbrev pub annex_among : List ℕ → Capability → List ℕ
 annex_among annexes (Process p) = slice_index annexes p ∷ []
 annex_among annexes _ = []

@@ -62,8 +62,8 @@ fn list_all<F: Frames>(
 }
 
 impl Banks {
-    /// Replaces the list by the numbers that an invocation of a kernel object writes itself: for a call the
-    /// process and its annex, for a return the process, else none.
+    /// Replaces the list by the numbers that an invocation of a kernel object writes, without those that its
+    /// order writes: for a call the process and its annex, for a return the process, else none.
     pub fn list_writers(&mut self, caller: Caller)
         requires { 2 ≤ self.old.room }
         ensures { self.new ≡ record self.old {

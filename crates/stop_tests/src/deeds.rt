@@ -107,7 +107,7 @@ impl Task<'_> {
         Ok(())
     }
 
-    /// Does a deed again and again in this way, for each of these outcomes of a power cut.
+    /// Calls `stop_at_each` for each of these outcomes of a power cut.
     pub(crate) fn try_outcomes<W: Write>(
         &self,
         deed: &Deed,

@@ -1,4 +1,4 @@
--- A step that the proofs of `src/made.rt` share: making a struct without fields.
+-- A step in the proofs of `src/history.rt`: the code makes a struct without fields.
 use Rattle.std.proofs.Common.{List, [], ◌∷◌, refl}
 use seplogic.Ra.Ura.{Ura}
 use mir.Val.{Val, vstruct, vnil}

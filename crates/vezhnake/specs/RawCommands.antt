@@ -43,7 +43,7 @@ abbrev pub numbered : ℕ → ℕ → ℕ → ℕ → RawCommand
 numbered kind number first second = record
     { kind = kind; register = 0; sent = replicate 4 0; number = number; words = first ∷ second ∷ 0 ∷ 0 ∷ [] }
 
--- the word at an address of a process, loaded; a word stored there
+-- the numbers of a command that loads the word at an address of a process, and of one that stores a word there
 abbrev pub load_of : ℕ → ℕ → RawCommand
 load_of process address = numbered 3 process address 0
 

@@ -51,7 +51,7 @@ fn append_call(bytes: &mut Vec<u8>, byte: u64, from: &[u8]) -> Result<(), AllocE
 }
 
 impl Pending {
-    /// Returns a value without calls.
+    /// Returns a value that keeps no calls.
     pub fn new(alloc: Global) -> Pending
         ensures { Keeps result [] }
     {

@@ -165,7 +165,7 @@ impl Session {
         }
     }
 
-    /// Copies the answers to the last text. Returns `SmallBuffer` if they don't fit.
+    /// Copies the answers to the text that `step` ran last. Returns `SmallBuffer` if they don't fit.
     pub fn copy_answer(&self, buffer: &mut [u8], size: &mut usize) -> Status
         ensures { CopiesAnswer self.now self.now buffer.old buffer.new size.new result }
     {

@@ -14,7 +14,7 @@ info_saved p reported s hs plan generation age entries are roles =
     λ (r : Role). ap (λ (ks : List ObjectHeader). headers_with r ks) are ∙ role_counted s.frames s.header.age r roles in
     rw (plan, generation, age, entries, same role.Free, same role.Page, same role.Node, same role.Root, same role.Bank) refl
 
--- the first i ranges are in place, and the other rows are 0
+-- the first i ranges were put into the list of eight, and the others there are 0
 pub record ArePut (i : ℕ) (ranges : List HomeRange) (raw : List RawRange) : Type 0 where
   pub put : take i raw ≡ map raw_range (take i ranges)
   pub rest : drop i raw ≡ drop i (replicate 8 no_range)

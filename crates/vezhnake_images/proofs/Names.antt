@@ -19,7 +19,7 @@ pub use Rattle.image_describer.proofs.Short.{described_has_text}
 pub use Rattle.image_describer.specs.Spelled.{CanBeSpelled}
 pub use Rattle.image_explainer.specs.Explained.{Explains}
 pub use Rattle.image_explainer.specs.declared.fault.ImageFault.{ImageFault}
-pub use Rattle.layout.specs.Image.{SavedState}
+pub use Rattle.layout.specs.Denoted.{SavedState}
 pub use Rattle.layout.specs.Superblock.{Plan}
 pub use Rattle.layout.specs.declared.extent.HomeRange.{HomeRange}
 pub use Rattle.layout.specs.declared.open_fault.OpenFault.{OpenFault}

@@ -4,7 +4,7 @@ use Rattle.device.specs.Calls.{Agrees, image_of}
 use Rattle.device.specs.Disk.{Disk}
 use Rattle.devices.specs.FileDevice.{file_disk}
 use Rattle.devices.specs.declared.file_device.CopiedFile.{CopiedFile}
-use Rattle.layout.specs.Image.{SavedState}
+use Rattle.layout.specs.Denoted.{SavedState}
 use Rattle.queries.specs.Images.{ReadsSaved}
 use Rattle.recovery.specs.Recovered.{IsBad}
 use Rattle.vezhnake_images.specs.contracts.no_file.NoFileSectorFile.TheImpl.{ghosts}

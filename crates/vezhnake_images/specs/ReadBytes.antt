@@ -3,7 +3,7 @@ use Rattle.std.specs.Prelude.{◌≡◌, ℕ, Bool, List, Option, IsUtf8}
 use Rattle.checkpoint.specs.Saved.{kept_of}
 use Rattle.image_explainer.specs.Explained.{IsExplainedBy}
 use Rattle.image_explainer.specs.declared.fault.ImageFault.{ImageFault}
-use Rattle.layout.specs.Image.{SavedState}
+use Rattle.layout.specs.Denoted.{SavedState}
 use Rattle.queries.specs.Diagnosed.{explanation_text}
 use Rattle.queries.specs.Explained.{TellsOf}
 use Rattle.queries.specs.Images.{IsTextOf}

@@ -9,13 +9,13 @@ use Rattle.layout.specs.declared.bad_image.BadImage.TheVariants as bad
 use Rattle.layout.specs.declared.open_fault.OpenFault.{OpenFault}
 use Rattle.layout.specs.declared.open_fault.OpenFault.TheVariants as fault
 use Rattle.layout.specs.declared.sealed.header.SealedHeader.{SealedHeader}
-use Rattle.layout.specs.sealed.Header.{IsWithinLimits}
+use Rattle.layout.specs.Header.{IsHeader}
 use Rattle.layout.specs.sealed.Opening.{AreSlots, Commits}
 
 -- h is committed, and is within the limits of a log half with `room` slots
 pub record HasHeader (image : Image) (room : ℕ) (h : SealedHeader) : Type 0 where
   pub committed : Commits image h
-  pub fits : IsWithinLimits room h.header
+  pub fits : IsHeader 2 room h.header
 
 -- no header is committed, and why
 abbrev pub Refuses : Image → NotCommitted → Type 0
@@ -23,7 +23,7 @@ Refuses image why = (slots : Slots) × AreSlots image slots × IsRefused slots w
 
 -- the committed header is beyond its limits
 abbrev pub IsBeyond : Image → ℕ → Type 0
-IsBeyond image room = (h : SealedHeader) × Commits image h × (IsWithinLimits room h.header → ⊥)
+IsBeyond image room = (h : SealedHeader) × Commits image h × (IsHeader 2 room h.header → ⊥)
 
 -- why no header is read; true of any image if the device failed
 abbrev pub HasNone : Image → ℕ → OpenFault → Type 0

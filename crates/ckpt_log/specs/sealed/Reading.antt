@@ -10,7 +10,8 @@ use Rattle.layout.specs.declared.bad_image.BadImage.{BadImage}
 use Rattle.layout.specs.declared.bad_image.BadImage.TheVariants as bad
 use Rattle.layout.specs.declared.sealed.header.SealedHeader.{SealedHeader}
 use Rattle.layout.specs.sealed.Gate.{HasNumber}
-use Rattle.layout.specs.sealed.Header.{IsWithinLimits, sealed_header_bytes, header_numbers}
+use Rattle.layout.specs.Header.{IsHeader}
+use Rattle.layout.specs.sealed.Header.{sealed_header_bytes, header_numbers}
 use Rattle.layout.specs.sealed.Sector.{AreWords}
 use Rattle.layout.specs.sealed.Opening.{gate_sector, header_sector}
 use Rattle.ckpt_log.specs.declared.sealed.opening.HeaderSlot.{HeaderSlot}
@@ -60,5 +61,5 @@ reason_of NextGate = bad.BadHeader
 abbrev pub HasNoneBy : List HeaderSlot → ℕ → BadImage → Type 0
 HasNoneBy slots room bad.NoHeader = IsRefused (numbered slots) NoPair
 HasNoneBy slots room bad.BadHeader =
-    IsRefused (numbered slots) NextGate ⊎ ((h : SealedHeader) × IsChosen slots h × (IsWithinLimits room h.header → ⊥))
+    IsRefused (numbered slots) NextGate ⊎ ((h : SealedHeader) × IsChosen slots h × (IsHeader 2 room h.header → ⊥))
 HasNoneBy slots room _ = ⊥

@@ -24,7 +24,8 @@ pub(crate) struct Order {
     pub third: u64,
 }
 
-// Whether the gate of slot `i` must be closed before that of slot `j`. If not, it may be closed after it.
+// Whether the gate of slot `i` must be closed before that of slot `j`. If not, the gate of `i`
+// may be closed after that of `j`.
 fn goes_first(slots: &[SlotNumbers], i: u64, j: u64) -> bool
     requires slots { length slots.now ≡ 3 }
     requires first { i < 3 }
@@ -141,7 +142,7 @@ fn close_in_order<D: Device>(device: &mut D, order: Order) -> Result<(), Failed>
 /// each with a sync: first those of headers that count, in rising order of their numbers, then the others.
 ///
 /// It allocates nothing. Returns `Failed` exactly if the device failed.
-pub fn close_gates<D: Device>(device: &mut D) -> Result<(), Failed>
+pub(crate) fn close_gates<D: Device>(device: &mut D) -> Result<(), Failed>
     requires inside { 56 ≤ (D.disk device.old).sectors }
 
     ensures closed { OnOk result (AreClosed (D.disk device.new).seen) }

@@ -4,14 +4,17 @@ ghost use Rattle.header_slots.specs.Committed.{IsRefused};
 ghost use Rattle.header_slots.specs.Slots.{IsCommitted};
 ghost use Rattle.layout.specs.Calls.{ReadsOnly};
 ghost use Rattle.layout.specs.Fault.{CountsOpen};
-ghost use Rattle.layout.specs.sealed.Header.{IsWithinLimits};
+ghost use Rattle.layout.specs.Header.{IsHeader};
 ghost use Rattle.ckpt_log.specs.sealed.Committed.{HasHeader, HasNone};
 ghost use Rattle.ckpt_log.specs.sealed.Reading.{HasNoneBy, IsChosen, number_of, numbered, numbers_of, reason_of};
 
 use crate::sealed::opening::{HeaderSlot, read_slots};
 use device::Device;
 use header_slots::{NotCommitted, SlotNumbers, committed};
-use layout::{BadImage, OpenFault, SealedHeader, is_within_limits};
+use layout::{BadImage, OpenFault, SealedHeader, is_header};
+
+// The number of the first header of an image.
+const FIRST_SEQUENCE: u64 = 2;
 
 // Returns the sequence number of a header.
 fn number_of(header: Option<SealedHeader>) -> Option<u64>
@@ -81,14 +84,14 @@ fn reason_of(why: NotCommitted) -> BadImage
 fn choose(slots: &[HeaderSlot], room: u64) -> Result<SealedHeader, BadImage>
     requires { length slots.now ≡ 3 }
     ensures found { IfOk result (λ h. IsChosen slots.now h) }
-    ensures limits { IfOk result (λ h. IsWithinLimits room h.header) }
+    ensures limits { IfOk result (λ h. IsHeader 2 room h.header) }
     ensures refused { IfErr result (λ why. HasNoneBy slots.now room why) }
 {
     match decide(slots) {
         Err(why) => Err(reason_of(why)),
         Ok(sequence) => {
             let header = header_of(slots, sequence);
-            if is_within_limits(header.header, room) {
+            if is_header(FIRST_SEQUENCE, room, header.header) {
                 Ok(header)
             } else {
                 Err(BadImage::BadHeader)
@@ -104,7 +107,10 @@ fn choose(slots: &[HeaderSlot], room: u64) -> Result<SealedHeader, BadImage>
 /// - `NoHeader` if no two headers with consecutive numbers count
 /// - `BadHeader` if the gate of the next header has its number, or the committed header is beyond its limits
 #[tactic(auto, using(crate::proofs::SealedReading::has_none))]
-pub fn read_committed<D: Device>(device: &mut D, room: u64) -> Result<SealedHeader, OpenFault>
+pub(crate) fn read_committed<D: Device>(
+    device: &mut D,
+    room: u64,
+) -> Result<SealedHeader, OpenFault>
     requires inside { 56 ≤ (D.disk device.old).sectors }
     ensures found { IfOk result (λ h. HasHeader (D.disk device.old).seen room h) }
     ensures refused { IfErr result (λ e. HasNone (D.disk device.old).seen room e) }

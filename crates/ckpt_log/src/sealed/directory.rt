@@ -66,9 +66,9 @@ fn write_piece<D: Device>(device: &mut D, at: u64, entries: &[Entry]) -> Result<
 /// Writes a directory into the sectors from `at` on, 30 entries in each, and returns its sums. All other
 /// sectors keep their bytes, and what a crash may leave in them doesn't change.
 ///
-/// It allocates nothing. Returns `Failed` exactly if the device failed; then the sectors of the directory may hold any
-/// bytes.
-pub fn write_directory<D: Device>(
+/// It allocates nothing. If there are no entries it doesn't call the device. Returns `Failed` exactly if the device
+/// failed; then the sectors of the directory may hold any bytes.
+pub(crate) fn write_directory<D: Device>(
     device: &mut D,
     at: u64,
     entries: &[Entry],
@@ -76,6 +76,7 @@ pub fn write_directory<D: Device>(
     requires inside { at + directory_length (length entries.now) ≤ (D.disk device.old).sectors }
     ensures written { OnOk result (AreEntries (D.disk device.new).seen at entries.now) }
     ensures sums { IfOk result (λ sums. sums ≡ sums_of_entries entries.now) }
+    ensures untouched { length entries.now ≡ 0 → device.new ≡ device.old }
     ensures touches { TouchesAt at (directory_length (length entries.now)) (D.disk device.old) (D.disk device.new) }
     ensures cause { Counts (D.disk device.old) (D.disk device.new) result }
 {
@@ -203,7 +204,7 @@ fn check_entries(geometry: Geometry, entries: &mut [Entry]) -> Result<(), BadIma
     decode_directory(run, geometry, entries)
 }
 
-// Checks entries that were read, and the sums of their sectors, if these had some.
+// Checks entries that were read, and the sums of their sectors (`None` if some sector wasn't one of entries).
 #[tactic(auto, using(crate::proofs::SealedChecks::none, crate::proofs::SealedChecks::other, crate::proofs::SealedChecks::refused))]
 fn check_directory(
     geometry: Geometry,
@@ -236,7 +237,7 @@ fn check_directory(
 /// It allocates nothing. Returns `Failed` exactly if the device failed, and `BadDirectory` exactly if the sectors are
 /// no such directory. After either, `into` may hold any entries.
 #[tactic(auto, using(crate::proofs::SealedDirectories::has_entries))]
-pub fn read_directory<D: Device>(
+pub(crate) fn read_directory<D: Device>(
     device: &mut D,
     at: u64,
     geometry: Geometry,

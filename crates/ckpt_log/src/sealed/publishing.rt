@@ -29,7 +29,7 @@ pub(crate) fn slot_of(header: SealedHeader) -> u64
 /// before the gate is written.
 ///
 /// It writes only the slot of the new header: the header, then its gate.
-pub fn publish<D: Device>(device: &mut D, header: SealedHeader) -> Result<(), Failed>
+pub(crate) fn publish<D: Device>(device: &mut D, header: SealedHeader) -> Result<(), Failed>
     requires inside { 56 ≤ (D.disk device.old).sectors }
     requires one { CommitsOne (D.disk device.old) }
     requires next { Precedes (D.disk device.old).seen header }

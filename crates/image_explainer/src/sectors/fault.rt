@@ -56,9 +56,9 @@ pub enum GeometryPart {
 /// Why a header doesn't count.
 #[derive(Clone, Copy)]
 pub enum NotCounted {
-    /// Its gate is closed.
+    /// The header's gate is closed.
     Closed,
-    /// It lies in the wrong slot for its sequence number.
+    /// The header lies in the wrong slot for its sequence number.
     Misplaced(u64),
 }
 

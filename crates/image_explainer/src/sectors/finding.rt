@@ -5,11 +5,12 @@ ghost use Rattle.device.specs.Disk.{Image};
 ghost use Rattle.layout.specs.Frames.{IsObject};
 ghost use Rattle.layout.specs.Directory.{IsDirectory};
 ghost use Rattle.layout.specs.Header.{IsHeader};
-ghost use Rattle.layout.specs.Image.{HasDirectory, HasHeader, HasPlan, shaped_at};
+ghost use Rattle.layout.specs.Image.{shaped_at};
+ghost use Rattle.layout.specs.Denoted.{HasDirectory, HasHeader, HasPlan};
 ghost use Rattle.layout.specs.Shape.{IsShapeFor, shape_length};
 ghost use Rattle.layout.specs.Superblock.{IsPlan};
 ghost use Rattle.image_explainer.specs.SectorBreaking.{IsFault};
-ghost use Rattle.image_explainer.specs.SectorFinding.{FitsOr, IsCopy, IsWhole, IsWholeFrame};
+ghost use Rattle.image_explainer.specs.SectorFinding.{FitsOr, IsCopy, IsWhole, IsWholeFrame, plain};
 
 use crate::sectors::directory::{find_entry, read_entries};
 use crate::sectors::fault::{FramePart, SectorFault};
@@ -20,8 +21,8 @@ use crate::sectors::reading::sectors;
 use crate::sectors::superblock::superblock_in;
 use ckpt_log::Log;
 use layout::{
-    CheckpointHeader, ENTRY_BYTES, Entry, NODE_FRAME_BYTES, Scratch, Shape, Superblock,
-    directory_length, total_in, unpack_node,
+    CheckpointHeader, ENTRY_BYTES, Entry, NODE_FRAME_BYTES, PAGE_FRAME_BYTES, Scratch, Shape,
+    Superblock, directory_length, total_in, unpack_node, unpack_page,
 };
 use model::Geometry;
 use std::ops::ControlFlow;
@@ -59,8 +60,8 @@ fn find_header(
     requires size { length bytes.now ≡ 512 * size }
     requires least { 5 ≤ size }
     ensures found { (image : Image) → IsCopy image bytes.now → HasPlan image size superblock.now
-        → MatchControlFlow result (HasHeader image superblock.now) (IsFault size image) }
-    ensures fits { MatchControlFlow result (IsHeader superblock.now.geometry.log) (λ _. ⊤) }
+        → MatchControlFlow result (λ h. HasHeader image superblock.now (plain h)) (IsFault size image) }
+    ensures fits { MatchControlFlow result (IsHeader 0 superblock.now.geometry.log) (λ _. ⊤) }
 {
     choose(
         sectors(bytes, 1, 1),
@@ -85,8 +86,8 @@ fn find_directory(
     requires length { length entries.old ≡ header.entries }
     requires few { header.entries ≤ superblock.now.geometry.log }
     ensures found { (image : Image) → IsCopy image bytes.now → HasPlan image size superblock.now
-        → HasHeader image superblock.now header
-        → MatchControlFlow result (λ _. HasDirectory image superblock.now header entries.new)
+        → HasHeader image superblock.now (plain header)
+        → MatchControlFlow result (λ _. HasDirectory image superblock.now (plain header) entries.new)
         (IsFault size image) }
     ensures fits { MatchControlFlow result (λ _. IsDirectory superblock.now.geometry entries.new) (λ _. ⊤) }
 {
@@ -125,7 +126,9 @@ fn find_at(
         unpack_node(block, shape, &mut node);
         find_part(&node, geometry, number, age, scratch)
     } else {
-        find_part(block, geometry, number, age, scratch)
+        let mut page = [0; PAGE_FRAME_BYTES];
+        unpack_page(block, shape, &mut page);
+        find_part(&page, geometry, number, age, scratch)
     }
 }
 
@@ -145,7 +148,7 @@ fn find_frame(
     requires directory { IsDirectory superblock.now.geometry entries.now }
     requires object { IsObject superblock.now.geometry number }
     ensures { (image : Image) → IsCopy image bytes.now → HasPlan image size superblock.now
-        → HasHeader image superblock.now header → HasDirectory image superblock.now header entries.now
+        → HasHeader image superblock.now (plain header) → HasDirectory image superblock.now (plain header) entries.now
         → MatchControlFlow result
         (λ _. IsWholeFrame image superblock.now header entries.now number)
         (λ fault. ((m : ℕ) → m < number → IsWholeFrame image superblock.now header entries.now m)
@@ -177,7 +180,7 @@ fn find_frames(
     requires inside { superblock.now.total ≤ size }
     requires directory { IsDirectory superblock.now.geometry entries.now }
     ensures { (image : Image) → IsCopy image bytes.now → HasPlan image size superblock.now
-        → HasHeader image superblock.now header → HasDirectory image superblock.now header entries.now
+        → HasHeader image superblock.now (plain header) → HasDirectory image superblock.now (plain header) entries.now
         → MatchControlFlow result
         (λ _. (n : ℕ) → IsObject superblock.now.geometry n
         → IsWholeFrame image superblock.now header entries.now n)

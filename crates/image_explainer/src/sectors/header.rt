@@ -3,7 +3,7 @@ ghost use Rattle.std.specs.Prelude.{◌≡◌, ◌↔◌, ◌<◌, true, false, 
 ghost use Rattle.std.specs.ControlFlow.{MatchControlFlow};
 ghost use Rattle.layout.specs.declared.header.CheckpointHeader.{CheckpointHeader};
 ghost use Rattle.layout.specs.Header.{IsHeader, header_bytes};
-ghost use Rattle.layout.specs.Image.{does_count};
+ghost use Rattle.layout.specs.Committed.{does_count};
 ghost use Rattle.image_explainer.specs.SectorBreaking.{BreaksHeader, IsNotCounted};
 ghost use Rattle.image_explainer.specs.SectorFinding.{HasHeaderIn, HasNoneIn, RefusesHeader};
 
@@ -34,7 +34,7 @@ fn why_not(header: &[u8], gate: &[u8], slot: u64) -> Option<NotCounted>
 // Returns the first part of a header that is outside its limits. A half of the log has `log` slots.
 fn header_part(bytes: &[u8], log: u64) -> HeaderPart
     requires size { length bytes.now ≡ 512 }
-    requires refused { (h : CheckpointHeader) → IsHeader log h → bytes.now ≡ header_bytes h → ⊥ }
+    requires refused { (h : CheckpointHeader) → IsHeader 0 log h → bytes.now ≡ header_bytes h → ⊥ }
     ensures { BreaksHeader log bytes.now result }
 {
     let sequence = number_at(bytes, 8);
@@ -63,7 +63,7 @@ fn header_part(bytes: &[u8], log: u64) -> HeaderPart
 // Continues with the header in a sector, or breaks with what is wrong with it.
 fn header_at(sector: u64, bytes: &[u8], log: u64) -> ControlFlow<SectorFault, CheckpointHeader>
     requires { length bytes.now ≡ 512 }
-    ensures { MatchControlFlow result (λ h. IsHeader log h × (bytes.now ≡ header_bytes h))
+    ensures { MatchControlFlow result (λ h. IsHeader 0 log h × (bytes.now ≡ header_bytes h))
         (RefusesHeader sector log bytes.now) }
 {
     match decode_header(bytes, log) {

@@ -48,14 +48,17 @@ fn frame_slot_in(plan: &Superblock, entries: &[Entry], number: u64) -> Option<u6
     ensures value { result ≡ frame_slot_in plan.now entries.now number }
     ensures slot { IfSome result (λ slot. slot < plan.now.geometry.log) }
 {
+    if plan.version().row().sealed {
+        return slot_beside(plan, entries, number);
+    }
     match slot_in(entries, number) {
         Some(slot) => Some(slot),
         None => slot_beside(plan, entries, number),
     }
 }
 
-/// Returns the first sector of an object's saved frame. It is in the slot of the object's entry; else in the
-/// slot of the first entry that shares its home; else at home.
+/// Returns the first sector of an object's saved frame. It is in the slot of the object's entry, but not in a sealed
+/// version; else in the slot of the first entry that shares its home; else at home.
 pub(crate) fn frame_sector(
     plan: &Superblock,
     header: CheckpointHeader,

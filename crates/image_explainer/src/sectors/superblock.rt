@@ -2,6 +2,7 @@
 ghost use Rattle.std.specs.Prelude.{◌≡◌, ◌↔◌, drop, length, take, IsTrue};
 ghost use Rattle.std.specs.ControlFlow.{MatchControlFlow};
 ghost use Rattle.layout.specs.Superblock.{HasMark, IsPlan, Plan, superblock_bytes};
+ghost use Rattle.layout.specs.Version.{IsOpened};
 ghost use Rattle.image_explainer.specs.SectorBreaking.{BreaksGeometry, BreaksMark, HasVersion};
 ghost use Rattle.image_explainer.specs.SectorFinding.{BreaksSector};
 
@@ -64,7 +65,7 @@ fn geometry_part(bytes: &[u8]) -> GeometryPart
 /// Continues with the superblock in a sector, or breaks with why there is none.
 pub(crate) fn superblock_in(bytes: &[u8]) -> ControlFlow<SectorFault, Superblock>
     requires { length bytes.now ≡ 512 }
-    ensures { MatchControlFlow result (λ s. IsPlan s × (bytes.now ≡ superblock_bytes s))
+    ensures { MatchControlFlow result (λ s. IsPlan s × IsOpened s.version × (bytes.now ≡ superblock_bytes s))
         (BreaksSector bytes.now) }
 {
     match decode_superblock(bytes) {

@@ -1,7 +1,6 @@
 -- The sealed header of a checkpoint.
-use Rattle.std.specs.Prelude.{ℕ, ◌+◌, ◌*◌, ◌^◌, ◌<◌, ◌≤◌, ◌==◌, if◌then◌else◌, List, [], ◌∷◌, codes, slice_index}
+use Rattle.std.specs.Prelude.{ℕ, List, [], ◌∷◌, codes, slice_index}
 use Rattle.byteorder.specs.Endian.{little_number}
-use Rattle.layout.specs.declared.header.CheckpointHeader.{CheckpointHeader}
 use Rattle.layout.specs.declared.sealed.header.SealedHeader.{SealedHeader}
 use Rattle.layout.specs.sealed.Sector.{sector_bytes}
 
@@ -27,11 +26,3 @@ sealed_header_from ns = record {
   root = record { a = slice_index ns 5; b = slice_index ns 6; c = slice_index ns 7 };
   directory = record { a = slice_index ns 8; b = slice_index ns 9; c = slice_index ns 10 };
 }
-
--- the limits of a committed header's fields, if a log half has `room` slots
-pub record IsWithinLimits (room : ℕ) (h : CheckpointHeader) : Type 0 where
-  pub entries : h.entries ≤ room
-  pub age : h.age ≤ 2 ^ 62
-  pub generation : h.generation ≤ 2 * h.age
-  pub sequence : h.sequence ≤ 2 * h.age + 2 + (if h.entries == 0 then 1 else 0)
-  pub entries_fit : h.entries < 2 ^ 64

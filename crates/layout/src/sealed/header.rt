@@ -1,12 +1,11 @@
 // The sealed header of a checkpoint.
-ghost use Rattle.std.specs.Prelude.{◌≡◌, ◌↔◌, length, IsTrue, IfSome, IfNone};
+ghost use Rattle.std.specs.Prelude.{◌≡◌, length, IfSome, IfNone};
 ghost use Rattle.layout.specs.declared.sealed.header.SealedHeader.{SealedHeader};
-ghost use Rattle.layout.specs.sealed.Header.{IsWithinLimits, sealed_header_bytes, sealed_header_from, header_numbers};
+ghost use Rattle.layout.specs.sealed.Header.{sealed_header_bytes, sealed_header_from, header_numbers};
 ghost use Rattle.layout.specs.sealed.Sector.{AreWords};
 
 use crate::header::CheckpointHeader;
 use crate::sealed::sector::{decode_sector, encode_sector};
-use model::MAX_AGE;
 use seal::Sums;
 
 // The bytes of EROSHEAD as a number.
@@ -20,22 +19,6 @@ pub struct SealedHeader {
     pub root: Sums,
     /// The sums of the directory's sectors.
     pub directory: Sums,
-}
-
-/// Whether the fields of a header are within their limits, if a log half has `room` slots.
-pub fn is_within_limits(header: CheckpointHeader, room: u64) -> bool
-    ensures { IsTrue result ↔ IsWithinLimits room header }
-{
-    if header.entries > room || header.age > MAX_AGE {
-        return false;
-    }
-    let twice = 2 * header.age;
-    let most = if header.entries == 0 {
-        twice + 3
-    } else {
-        twice + 2
-    };
-    header.generation <= twice && header.sequence <= most
 }
 
 /// Writes the 512 bytes of a header's sector.

@@ -2,8 +2,7 @@
 ghost use Rattle.layout.specs.sealed.GateLaws.{BurstsKeepNumbers, GatesHaveOneNumber, ClosedGatesHaveNone};
 ghost use Rattle.layout.specs.sealed.GateLaws.{WrittenGatesHaveTheirNumber};
 ghost use Rattle.layout.specs.sealed.Laws.{ClustersShowBursts, SectorsShowBursts, SpellOneSealedHeader};
-ghost use Rattle.layout.specs.sealed.Laws.{SpellOnePageHeader};
-ghost use Rattle.layout.specs.sealed.Laws.{SpellOneSector, SpellOneSealedSuperblock, ZerosAreFree};
+ghost use Rattle.layout.specs.sealed.Laws.{SpellOnePageHeader, SpellOneSector, SuperblocksShowBursts, ZerosAreFree};
 ghost use Rattle.layout.specs.sealed.RootLaws.{OneOldSectorIsSeen, OneOldUnitIsSeen, UnitsHaveNoOrder};
 
 /// A gate has at most one number. A gate that was written has its number, and a closed one has none. A burst of at
@@ -21,7 +20,6 @@ pub fn spell_one_sealed_value()
     ensures header { SpellOneSealedHeader }
     ensures page { SpellOnePageHeader }
     ensures directory { SpellOneSector }
-    ensures superblock { SpellOneSealedSuperblock }
     ensures zeros { ZerosAreFree }
 {}
 
@@ -29,6 +27,7 @@ pub fn spell_one_sealed_value()
 /// another. The function does nothing: its contract is the law.
 pub fn damage_is_seen()
     ensures sector { SectorsShowBursts }
+    ensures superblock { SuperblocksShowBursts }
     ensures cluster { ClustersShowBursts }
 {}
 

@@ -1,6 +1,7 @@
 // The commit of a checkpoint.
 ghost use Rattle.std.specs.Prelude.{◌≡◌, ℕ};
 ghost use Rattle.layout.specs.Header.{IsHeader};
+ghost use Rattle.layout.specs.Version.{row};
 ghost use Rattle.migrator.specs.Durable.{Commits, next_header};
 ghost use Rattle.migrator.specs.Saving.{MayCommitAt};
 
@@ -11,8 +12,9 @@ use layout::CheckpointHeader;
 
 impl Books {
     // Returns the header that commits the frozen frames at an age.
+    #[tactic(auto, using(layout::proofs::Versions::first_few))]
     fn next_header(&self, age: u64) -> CheckpointHeader
-        requires { IsHeader self.now.plan.geometry.log self.now.header }
+        requires { IsHeader (row self.now.plan.version).first_sequence self.now.plan.geometry.log self.now.header }
         ensures { result ≡ next_header age self.now }
     {
         CheckpointHeader {
@@ -37,6 +39,6 @@ impl Books {
         spare.fill(&self.frozen);
         self.unwritten
             .complete(device, &self.plan, header.generation, spare.as_slice())?;
-        self.adopt(device, header, spare)
+        self.adopt(device, header, self.root, spare)
     }
 }

@@ -3,6 +3,7 @@ ghost use Rattle.std.specs.Prelude.{◌≡◌, ℕ, ◌≤◌, length, IfOk, OnO
 ghost use Rattle.device.specs.Calls.{Counts};
 ghost use Rattle.layout.specs.Frame.{IsFrameOf};
 ghost use Rattle.layout.specs.Header.{IsHeader};
+ghost use Rattle.layout.specs.Version.{row};
 ghost use Rattle.model.specs.Frame.{frame_at};
 ghost use Rattle.model.specs.declared.object.Role.TheVariants as role;
 ghost use Rattle.layout.specs.Calls.{ReadsOnly};
@@ -65,12 +66,13 @@ impl Books {
         ensures cause { Counts (D.disk device.old) (D.disk device.new) result }
     {
         let log = Log::new(&self.plan);
-        log.write_page(device, self.header.generation, 0, header, words)
+        log.write_page(device, self.header.generation, 0, number, header, words)
     }
 
     // Returns the header that saves one object with a new frame at an age.
+    #[tactic(auto, using(layout::proofs::Versions::first_few))]
     fn replaced_header(&self, age: u64) -> CheckpointHeader
-        requires { IsHeader self.now.plan.geometry.log self.now.header }
+        requires { IsHeader (row self.now.plan.version).first_sequence self.now.plan.geometry.log self.now.header }
         ensures { result ≡ replaced_header age self.now }
     {
         CheckpointHeader {
@@ -100,7 +102,7 @@ impl Books {
             object: number,
             slot: 0,
         });
-        self.adopt(device, header, spare)
+        self.adopt(device, header, self.root, spare)
     }
 
     /// Saves a page with new words, under its saved header. No checkpoint may be frozen, and all saved objects must

@@ -62,7 +62,7 @@ impl Books {
             age: self.header.age,
         };
         spare.clear();
-        self.adopt(device, header, spare)
+        self.adopt(device, header, self.root, spare)
     }
 
     // Copies `count` saved frames home.

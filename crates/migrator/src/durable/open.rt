@@ -1,7 +1,7 @@
 // Opening a device.
 ghost use Rattle.std.specs.Prelude.{◌≡◌, ◌+◌, ◌≤◌, [], None, length, replicate, vec_capacity, IfOk, IfErr, OnOk};
 ghost use Rattle.device.specs.Calls.{Only};
-ghost use Rattle.layout.specs.Image.{HasPlan};
+ghost use Rattle.layout.specs.Denoted.{HasPlan};
 ghost use Rattle.layout.specs.Spelt.{count_of};
 ghost use Rattle.layout.specs.Superblock.{Plan};
 ghost use Rattle.layout.specs.Calls.{ReadsOnly};
@@ -20,7 +20,7 @@ use crate::intake::Intake;
 use crate::table::{Place, Table};
 use checkpoint::{OpenFault, OpenRefused};
 use device::Device;
-use layout::{CheckpointHeader, Entry, Scratch, Superblock};
+use layout::{Entry, Scratch, SealedHeader, Superblock};
 use model::Geometry;
 use std::alloc::{AllocError, Global};
 
@@ -68,7 +68,7 @@ struct Sink<I: Intake> {
 #[derive(Drop)]
 struct Parts<I: Intake> {
     plan: Superblock,
-    header: CheckpointHeader,
+    header: SealedHeader,
     reserve: Reserve,
     taken: I,
 }
@@ -128,7 +128,7 @@ impl<I: Intake> Sink<I> {
 // Returns the books of an image to which nothing was written since it was opened.
 fn first_books(
     plan: Superblock,
-    header: CheckpointHeader,
+    header: SealedHeader,
     saved: Vec<Entry>,
     tables: Tables,
     buffer: ClusterBuffer,
@@ -139,8 +139,9 @@ fn first_books(
 {
     Books {
         plan,
-        header,
-        directory: Directory::of(saved, header.entries),
+        header: header.header,
+        root: header.root,
+        directory: Directory::of(saved, header.header.entries),
         moved: 0,
         frozen: tables.frozen,
         frozen_size: None,
@@ -157,7 +158,7 @@ fn read_into<D: Device, I: Intake>(
     plan: &Superblock,
     reserve: &mut Reserve,
     memory: &mut I::Memory,
-) -> Result<(CheckpointHeader, I), OpenFault>
+) -> Result<(SealedHeader, I), OpenFault>
     requires plan { HasPlan (D.disk device.old).seen (D.disk device.old).sectors plan.now }
     requires reserved { IsReserve plan.now reserve.old }
     ensures whole { IfOk result (λ read. IsReadInto I.Took (D.disk device.old).seen

@@ -9,16 +9,16 @@ pub fn confined_is_closed()
     ensures { ConfinedIsClosed }
 {}
 
-/// They don't form a closed set if the process has a capability to a node that isn't weak, even a read-only
-/// one.
+/// A process, its annex and its bank don't form a closed set if the process holds a node with full or
+/// read-only access. Only weak access is allowed.
 #[tactic(auto, using(crate::proofs::ConfinedWorld::outward_not_closed))]
 pub fn outward_is_not_closed()
     ensures { OutwardIsNotClosed }
 {}
 
-/// Such a process reads through weak capabilities, but can't write. It writes objects that its bank makes,
-/// and frees them. If a fetch through a weak capability returned a read-only one that isn't weak, the process
-/// could change a page outside.
+/// A process of the closed set reads through weak capabilities, but can't write. It writes objects that its
+/// bank makes, and frees them. If a fetch through a weak capability returned a read-only one that isn't weak,
+/// the process could change a page outside.
 #[tactic(auto, using(crate::proofs::ConfinedWorld::rows_right))]
 pub fn confined_is_answered()
     ensures { All IsRow rows }

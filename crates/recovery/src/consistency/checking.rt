@@ -13,7 +13,7 @@ use layout::BadImage;
 use model::Refusal;
 use std::alloc::Global;
 
-// Returns the least of reasons 8 to 10 that holds for frames that may be kept, or `None`.
+// Returns the least of reasons 8 to 10 that holds for frames that have encodings, or `None`.
 fn reason<F: Frames>(alloc: Global, store: &mut F) -> Result<Option<BadImage>, Refusal>
     requires may { MayFetch F.IsUsable F.parts store.old }
     ensures tells { IfOk result (λ why. Tells (frames_of (F.parts store.old)) why) }
@@ -32,8 +32,8 @@ fn reason<F: Frames>(alloc: Global, store: &mut F) -> Result<Option<BadImage>, R
     }
 }
 
-/// Checks whether the world of frames that may be kept at an age is sound (EROS: the consistency check of a
-/// checkpoint).
+/// Checks whether the world of frames that have encodings at an age is sound (EROS: the consistency check of
+/// a checkpoint).
 ///
 /// Every object is read, one at a time, and no object changes. Allocates in proportion to the number of
 /// objects, and frees that memory.

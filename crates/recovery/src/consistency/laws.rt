@@ -2,7 +2,7 @@
 
 ghost use Rattle.recovery.specs.ConsistencyLaws.{ConsistentIsSound, InconsistentIsUnsound};
 
-/// Frames that may be kept, and for which none of reasons 8 to 10 holds, are sound.
+/// Frames that have encodings, and for which none of reasons 8 to 10 holds, are sound.
 pub fn consistent_is_sound()
     ensures { ConsistentIsSound }
 {}

@@ -6,7 +6,7 @@ use Rattle.home_ranges.proofs.plan.lay_out.Goals.{then-geometry-via-then-geometr
 use Rattle.home_ranges.proofs.plan.lay_out.Goals.{then-geometry-via-else-geometry+else-ranges-gt-MAX_RANGES+then-not-are_few}
 
 pub returns-then-geometry-clause-refused : goal.returns-then-geometry-clause-refused
-returns-then-geometry-clause-refused c opened may = elim c.then-geometry.branch [
+returns-then-geometry-clause-refused c may = elim c.then-geometry.branch [
   | then-geometry-via-then-geometry w ↦ omega (arith, w.if-geometry.true, may.geometry.most_log)
   | then-geometry-via-else-geometry+then-ranges-gt-MAX_RANGES w ↦ omega (arith, w.if-ranges-gt-MAX_RANGES.true, may.few)
   | then-geometry-via-else-geometry+else-ranges-gt-MAX_RANGES+then-not-are_few w ↦ false≢true

@@ -5,7 +5,7 @@ use Rattle.home_ranges.proofs.plan.lay_out_again.Goals as goal
 
 pub unreachable-requires : goal.unreachable-requires
 unreachable-requires c =
-    c.in-None.ensures.refused c.requires (
+    c.in-None.ensures.refused (
     subst (λ (g : Geometry). MayBeLaid g c.put_numbers.new.into) (sym c.geometry.ensures.value)
     (subst (λ (rs : List NumberRange). MayBeLaid c.args.superblock.now.geometry rs)
     (sym (c.put_numbers.ensures ∙ ap (λ (rs : List HomeRange). map numbers_of rs) c.ranges-ranges.ensures.value))

@@ -1,7 +1,7 @@
 use Rattle.image_builder.proofs.Names.{rules, List, length, ap, subst, sym, Geometry, frames_in, LeavesOnly, Entry, IsDirectory, Encodes, Plan, SavedFrames}
-use Rattle.image_builder.proofs.Names.{kept_of, new_plan, IsLeftWriting, saved_by, numbered, EndInZeros, SavedState}
+use Rattle.image_builder.proofs.Names.{kept_of, new_plan, IsLeftWriting, saved_by, numbered, EndInZeros, SavedState, IsOpened}
 use Rattle.std.proofs.Common.{◌≡◌, ◌∙◌}
-use Rattle.image_builder.proofs.Upgrades.{directory_count, directory_fits, same_state}
+use Rattle.image_builder.proofs.Upgrades.{directory_count, directory_fits, new_opened, same_state}
 use Rattle.image_builder.proofs.upgrading.write_over.Goals as goal
 
 pub write_saved-requires-clause-directory : goal.write_saved-requires-clause-directory
@@ -12,6 +12,12 @@ write_saved-requires-clause-directory g c =
     subst (λ (geometry : Geometry). IsDirectory geometry c.args.entries.now) (sym (ap (λ (p : Plan). p.geometry) laid))
     (subst (λ (es : List Entry). IsDirectory s.plan.geometry es) (sym entries)
     (directory_fits c.requires.encoded.0 c.requires.encoded.1 s c.requires.encoded.2))
+
+pub write_saved-requires-clause-opened : goal.write_saved-requires-clause-opened
+write_saved-requires-clause-opened g c =
+    let s = saved_by g.D.Device.disk c.args.saved.now in
+    let laid : c.lay_out-superblock.result ≡ new_plan c.args.layout s.plan = search rules in
+    subst (λ (p : Plan). IsOpened p.version) (sym laid) (new_opened c.args.layout s.plan c.requires.encoded.2.plan.opened)
 
 pub write_saved-requires-clause-count : goal.write_saved-requires-clause-count
 write_saved-requires-clause-count g c =

@@ -17,7 +17,7 @@ write_frames-requires-clause-contents g c =
 pub close_gates-requires : goal.close_gates-requires
 close_gates-requires g c =
     let enough = five c.args.superblock.now c.geometry-nodes.ensures.fits in
-    record { inside = omega (arith, enough, c.requires.inside) }
+    record { opened = c.requires.opened; inside = omega (arith, enough, c.requires.inside) }
 
 pub write_opening_sectors-requires-clause-inside : goal.write_opening_sectors-requires-clause-inside
 write_opening_sectors-requires-clause-inside g c =
@@ -111,7 +111,7 @@ returns-clause-written g c =
     (λ durable. all_written c.args.superblock.now c.args.header c.args.entries.now (frames_in c.args.headers.now c.args.contents.now)
     (g.D.Device.disk c.write_opening_sectors.new.device).seen (g.D.Device.disk c.write_frames.new.device).seen
     (g.D.Device.disk c.sync.new.self).seen
-    c.geometry-nodes.ensures.fits
+    c.geometry-nodes.ensures.fits c.requires.opened
     c.in_ok-write_opening_sectors.ensures.written c.write_frames.ensures.elsewhere c.in_ok-write_frames.ensures.directory
     c.in_ok-write_frames.ensures.frames
     c.in_ok-write_frames.ensures.zeros

@@ -29,7 +29,7 @@ returns-else-magic-eq-HEADER_MAGIC-clause-refused c =
           (omega arith, (omega arith, (omega arith, (omega arith, (omega arith, tt))))) read is e in
           elim c.else-magic-eq-HEADER_MAGIC.branch [
             | else-magic-eq-HEADER_MAGIC-via-then-magic-eq-HEADER_MAGIC+then-is_blank+else-is_header w ↦
-                false≢true (sym w.if-is_header.false ∙ w.is_header.ensures.1 (subst (IsHeader c.args.room) (sym has.header_is) is))
+                false≢true (sym w.if-is_header.false ∙ w.is_header.ensures.1 (subst (IsHeader 0 c.args.room) (sym has.header_is) is))
             | else-magic-eq-HEADER_MAGIC-via-then-magic-eq-HEADER_MAGIC+else-is_blank w ↦
                 false≢true (sym w.if-is_blank.false ∙ c.is_blank_from-is_blank.ensures.1
                 (has.rest_is ∙ ap (λ (n : ℕ). zeros (n - 40)) (sym c.requires)))

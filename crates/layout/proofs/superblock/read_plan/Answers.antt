@@ -13,7 +13,7 @@ returns-then-used-gt-MAX_RANGES-clause-none c = λ p is e.
     let second : ℕ = c.number_at-second.result in
     let eight : length all ≡ 8 = omega arith in
     let version = version_from c.args.bytes.now second c.args.version c.number_at-second.ensures (omega arith) c.requires.version in
-    let read = eight_read _ magic second _ _ _ _ _ _ all (magic_read c.args.bytes.now c.requires.mark) c.number_at-second.ensures
+    let read = eight_read _ magic second _ _ _ _ _ _ all (magic_read c.args.bytes.now c.requires.magic) c.number_at-second.ensures
     c.number_at.ensures
     c.number_at-2.ensures c.number_at-3.ensures c.number_at-half_0.ensures c.number_at-half_1.ensures c.number_at-total.ensures
     c.read_ranges.ensures.bytes in
@@ -34,14 +34,14 @@ returns-clause-found c =
     let second : ℕ = c.number_at-second.result in
     let eight : length all ≡ 8 = omega arith in
     let version = version_from c.args.bytes.now second c.args.version c.number_at-second.ensures (omega arith) c.requires.version in
-    let read = eight_read _ magic second _ _ _ _ _ _ all (magic_read c.args.bytes.now c.requires.mark) c.number_at-second.ensures
+    let read = eight_read _ magic second _ _ _ _ _ _ all (magic_read c.args.bytes.now c.requires.magic) c.number_at-second.ensures
     c.number_at.ensures
     c.number_at-2.ensures c.number_at-3.ensures c.number_at-half_0.ensures c.number_at-half_1.ensures c.number_at-total.ensures
     c.read_ranges.ensures.bytes in
     let used : ℕ = second / 4294967296 in
     let others : All (λ r. r ≡ unused) (drop used all) = grind (arith, nat_tests, last_ranges) in
     plan_read c.args.bytes.now _ c.new.result
-    (plan_found c.args.version _ second g all _ _ _ used read version refl (omega arith) eight others c.requires.mark.blank)
+    (plan_found c.args.version _ second g all _ _ _ used read version refl (omega arith) eight others c.requires.size c.requires.blank)
     c.new.ensures.some
 
 pub returns-clause-none : goal.returns-clause-none
@@ -51,7 +51,7 @@ returns-clause-none c =
     let second : ℕ = c.number_at-second.result in
     let eight : length all ≡ 8 = omega arith in
     let version = version_from c.args.bytes.now second c.args.version c.number_at-second.ensures (omega arith) c.requires.version in
-    let read = eight_read _ magic second _ _ _ _ _ _ all (magic_read c.args.bytes.now c.requires.mark) c.number_at-second.ensures
+    let read = eight_read _ magic second _ _ _ _ _ _ all (magic_read c.args.bytes.now c.requires.magic) c.number_at-second.ensures
     c.number_at.ensures
     c.number_at-2.ensures c.number_at-3.ensures c.number_at-half_0.ensures c.number_at-half_1.ensures c.number_at-total.ensures
     c.read_ranges.ensures.bytes in

@@ -23,5 +23,8 @@ returns-in_err-write_slot-clause-writes g c = rw (c.new-log.ensures, c.slot_for-
 pub returns-clause-written : goal.returns-clause-written
 returns-clause-written g c = rw (c.new-log.ensures, c.slot_for-slot.ensures) at c.in_ok-write_slot.ensures.written
 
+pub returns-clause-summed : goal.returns-clause-summed
+returns-clause-summed g c = rw (c.new-log.ensures, c.slot_for-slot.ensures) at c.in_ok-write_slot.ensures.summed
+
 pub returns-clause-beside : goal.returns-clause-beside
 returns-clause-beside g c = rw (c.new-log.ensures, c.slot_for-slot.ensures) at c.in_ok-write_slot.ensures.beside

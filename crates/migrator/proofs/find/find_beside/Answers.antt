@@ -1,17 +1,13 @@
-use Rattle.migrator.proofs.Names.{sym, subst, arith, IsWhole}
+use Rattle.migrator.proofs.Names.{sym, arith}
 use Rattle.std.proofs.Common.{◌∙◌}
-use Rattle.migrator.proofs.PlacesApart.{alone_beside, found_there, none_there}
+use Rattle.migrator.proofs.PlacesApart.{found_there, none_there}
 use Rattle.migrator.proofs.find.find_beside.Goals as goal
 use Rattle.migrator.proofs.find.find_beside.Goals.{else-at-entries-via-then-at-entries+else-place, else-at-entries-via-else-at-entries}
 
-pub returns-then-is_whole : goal.returns-then-is_whole
-returns-then-is_whole c =
-    sym (alone_beside c.shape.ensures.plan c.requires.directory c.requires.object
-    (subst IsWhole c.shape.ensures.value (c.is_whole.ensures.0 c.if-is_whole.true)) c.requires.none)
-
 pub returns-then-place : goal.returns-then-place
 returns-then-place c =
-    sym (found_there c.args.plan.now c.args.entries.now c.args.number c.first.result c.first_from-at.result c.shape.ensures.plan
+    sym (found_there c.args.plan.now c.args.entries.now c.args.number c.first.result c.first_from-at.result
+    (rw c.new-home.ensures at c.first.ensures.plan)
     c.requires.directory
     c.requires.object (rw c.new-home.ensures at c.first.ensures.first)
     c.first_from-at.ensures.below c.first_from-at.ensures.from c.if-at-entries.true
@@ -20,7 +16,8 @@ returns-then-place c =
 
 pub returns-else-at-entries : goal.returns-else-at-entries
 returns-else-at-entries c =
-    sym (none_there c.args.plan.now c.args.entries.now c.args.number c.first.result c.first_from-at.result c.shape.ensures.plan
+    sym (none_there c.args.plan.now c.args.entries.now c.args.number c.first.result c.first_from-at.result
+    (rw c.new-home.ensures at c.first.ensures.plan)
     c.requires.directory
     c.requires.object (rw c.new-home.ensures at c.first.ensures.first)
     c.first_from-at.ensures.below c.first_from-at.ensures.from (λ within same. elim c.else-at-entries.branch [

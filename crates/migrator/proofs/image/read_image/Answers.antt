@@ -4,28 +4,29 @@ use Rattle.migrator.proofs.image.read_image.Goals as goal
 
 pub returns-in_err-take_frames-clause-refused : goal.returns-in_err-take_frames-clause-refused
 returns-in_err-take_frames-clause-refused g c =
-    let seen = agrees_is (g.D.Device.disk c.find_committed.new.device).seen (g.D.Device.disk c.args.device.now).seen
-    c.find_committed.ensures.reads.seen in
+    let seen = agrees_is (g.D.Device.disk c.read_committed.new.device).seen (g.D.Device.disk c.args.device.now).seen
+    c.read_committed.ensures.reads.seen in
     let p = err_from_is_err_and c.from_residual-in_err-take_frames.result c.from_residual-in_err-take_frames.ensures.1 in
-    let bad = subst (λ (i : Image). IsBadAt i c.args.plan.now c.in_ok-header.header
-    (take c.in_ok-header.header.entries c.find_committed.new.directory)
+    let bad = subst (λ (i : Image). IsBadAt i c.args.plan.now c.in_ok-header.header.header
+    (take c.in_ok-header.header.header.entries c.read_committed.new.directory)
     c.in_err-take_frames.ensures.refused.0 c.in_err-take_frames.field-0.0) seen c.in_err-take_frames.ensures.refused.2 in
     rw (p.1, p.2) (bad_frame _
-    c.requires.plan (rw c.new-log.ensures at c.in_ok-header.ensures.found).0 (rw c.new-log.ensures at c.in_ok-header.ensures.found).1
+    c.requires.plan (rw c.new-log.ensures at c.in_ok-header.ensures.found).header
+    (rw c.new-log.ensures at c.in_ok-header.ensures.found).directory
     c.in_err-take_frames.ensures.refused.1 bad)
 
 pub returns-in_err-take_frames-clause-reads : goal.returns-in_err-take_frames-clause-reads
-returns-in_err-take_frames-clause-reads g c = reads_more c.find_committed.ensures.reads c.take_frames.ensures.reads
+returns-in_err-take_frames-clause-reads g c = reads_more c.read_committed.ensures.reads c.take_frames.ensures.reads
 
 pub returns-clause-reads : goal.returns-clause-reads
-returns-clause-reads g c = reads_more c.find_committed.ensures.reads c.take_frames.ensures.reads
+returns-clause-reads g c = reads_more c.read_committed.ensures.reads c.take_frames.ensures.reads
 
 pub returns-clause-found : goal.returns-clause-found
 returns-clause-found g c =
-    let seen = agrees_is (g.D.Device.disk c.find_committed.new.device).seen (g.D.Device.disk c.args.device.now).seen
-    c.find_committed.ensures.reads.seen in
+    let seen = agrees_is (g.D.Device.disk c.read_committed.new.device).seen (g.D.Device.disk c.args.device.now).seen
+    c.read_committed.ensures.reads.seen in
     record {
-      header = (rw c.new-log.ensures at c.in_ok-header.ensures.found).0;
-      directory = (rw c.new-log.ensures at c.in_ok-header.ensures.found).1;
+      header = (rw c.new-log.ensures at c.in_ok-header.ensures.found).header;
+      directory = (rw c.new-log.ensures at c.in_ok-header.ensures.found).directory;
       spelt = rw (← seen) c.in_ok-take_frames.ensures.spelt;
     }

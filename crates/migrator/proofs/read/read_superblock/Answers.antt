@@ -17,7 +17,7 @@ returns-clause-found g c =
     plan_read is
     (omega (arith, least, c.sectors-sectors.ensures.count)) (omega (arith, le, c.sectors-sectors.ensures.count, c.total_in.ensures))
     c.in_ok-decode_superblock.ensures.found
-    c.in_ok-decode_superblock.ensures.fits
+    c.in_ok-decode_superblock.ensures.fits c.in_ok-decode_superblock.ensures.opened
 
 pub returns-in_err-decode_superblock-clause-refused : goal.returns-in_err-decode_superblock-clause-refused
 returns-in_err-decode_superblock-clause-refused g c =

@@ -10,3 +10,4 @@ invariant-loop-k g l =
     × (l.sums ≡ directory_sums (seals_of l.entries l.k))
     × TouchesAt l.at (directory_length (length l.entries)) (g.D.Device.disk l.fn.device) (g.D.Device.disk l.device)
     × ((g.D.Device.disk l.device).failures ≡ (g.D.Device.disk l.fn.device).failures)
+    × (l.k ≡ 0 → l.device ≡ l.fn.device)

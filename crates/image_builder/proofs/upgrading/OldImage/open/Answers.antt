@@ -12,7 +12,7 @@ invariant_of-result g c =
     let w = c.in-Ok.ensures.opened in
     subst (λ (x : g.row.S.Denot). IsWhole disk (g.S.Frames.parts x) (g.S.WholeStore.durable x)) (sym c.into_store.ensures)
     record {
-      saves = over.sound w.up.store (disk beneath).seen (g.met.D.Device.seen_left beneath);
+      saves = (over.sound w.up.store (disk beneath).seen (g.met.D.Device.seen_left beneath)).0;
       sound = subst (λ (x : SavedFrames). IsSoundSaved x.geometry x) over.saved w.up.sound.saved;
       present = w.frames ∙ ap (λ (x : SavedFrames). x.frames) over.saved;
     }
@@ -27,7 +27,8 @@ returns-in-Ok-clause-opened g c =
     let reads = subst (λ (d : g.row.D.Denot). OnlyReads (disk c.args.old) (disk d)) over.beneath w.only_reads in
     subst (λ (x : g.row.S.Denot). IsOpenedFrom disk c.args.old (g.S.WholeStore.durable x)) (sym c.into_store.ensures)
     record {
-      saves = seen_encodes (disk c.args.old) (disk beneath) (saved_by disk (g.S.WholeStore.durable s)) (over.sound w.up.store)
+      saves = seen_encodes (disk c.args.old) (disk beneath) (saved_by disk (g.S.WholeStore.durable s)) (λ x left.
+          (over.sound w.up.store x left).0)
           (g.met.D.Device.seen_left beneath) reads.seen reads.size;
       only_reads = reads;
       failures = ap (λ (d : g.row.D.Denot). (disk d).failures) (sym over.beneath) ∙ w.failures;

@@ -1,4 +1,4 @@
-use Rattle.layout.proofs.SealedSpelling.{one_directory_sector, one_header, one_page_header, one_superblock}
+use Rattle.layout.proofs.SealedSpelling.{one_directory_sector, one_header, one_page_header}
 use Rattle.layout.proofs.SealedZeros.{zeros_free}
 use Rattle.layout.proofs.sealed.laws.spell_one_sealed_value.Goals as goal
 
@@ -10,9 +10,6 @@ returns-clause-page c = one_page_header
 
 pub returns-clause-directory : goal.returns-clause-directory
 returns-clause-directory c = one_directory_sector
-
-pub returns-clause-superblock : goal.returns-clause-superblock
-returns-clause-superblock c = one_superblock
 
 pub returns-clause-zeros : goal.returns-clause-zeros
 returns-clause-zeros c = zeros_free

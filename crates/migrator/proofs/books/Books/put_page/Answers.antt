@@ -1,6 +1,11 @@
 use Rattle.migrator.proofs.Names.{on_ok_weaker, arith}
-use Rattle.migrator.proofs.Journaling.{page_stays, spelt_page, words_fit}
+use Rattle.migrator.proofs.Journaling.{page_stays, saved_page, spelt_page, words_fit}
 use Rattle.migrator.proofs.books.Books.put_page.Goals as goal
+
+pub write_page-requires-clause-page : goal.write_page-requires-clause-page
+write_page-requires-clause-page g c =
+    let idle = c.requires.idle in
+    rw c.new-log.ensures (saved_page idle.stands.kept idle.home c.requires.page)
 
 pub returns-clause-stays : goal.returns-clause-stays
 returns-clause-stays g c =

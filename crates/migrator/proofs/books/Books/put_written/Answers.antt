@@ -9,4 +9,4 @@ put_frame-requires-clause-room g c =
 pub returns : goal.returns
 returns g c =
     let is = c.put_frame.ensures in
-    frozen_puts c.requires.may.1 c.requires.written is.writes is.cause is.whole is.torn is.written
+    frozen_puts c.requires.may.1 c.requires.written is.writes is.cause is.whole is.torn is.written is.summed

@@ -1,8 +1,7 @@
 use Rattle.migrator.proofs.Names.{rules, ℕ, List, Option, None, Disk, Entry, KeepsOne, Plan, ReadsOnly, elsewhere_same, slot_bytes, subst, unwritten_of}
-use Rattle.migrator.proofs.Names.{on_ok_weaker, Some, refl, sym, ap, arith, Image, agrees_is, slot_sector, entry_at, IsWhole, Unwritten, counted_ok}
-use Rattle.migrator.proofs.Names.{counts_on, mended}
+use Rattle.migrator.proofs.Names.{on_ok_weaker, Some, refl, sym, ap, arith, Image, agrees_is, slot_sector, entry_at, IsWhole, Unwritten, counted_ok, counts_on}
+use Rattle.migrator.proofs.Names.{mended, IsSlotSummed, with_items}
 use Rattle.std.proofs.Common.{◌≡◌, ◌∙◌, ◌-◌}
-use Rattle.std.specs.Vec.{with_items}
 use Rattle.migrator.proofs.PlacesApart.{touches_on, reads_touch}
 use Rattle.migrator.proofs.Tables.{rewritten}
 use Rattle.migrator.proofs.Opening.{reads_none}
@@ -18,6 +17,8 @@ read_keeps {p} {generation} {es} {i} {old} {new} none reads = subst (KeepsOne p 
   elsewhere = elsewhere_same (slot_sector p generation (entry_at es i).slot) 8 old.seen new.seen reads.seen;
   own = ap (λ (image : Image). slot_bytes image p generation (entry_at es i).slot (entry_at es i).object)
       (agrees_is new.seen old.seen reads.seen);
+  sums = subst (λ (image : Image). IsSlotSummed image p generation (entry_at es i).slot (entry_at es i).object)
+      (sym (agrees_is new.seen old.seen reads.seen));
   unwritten = tt;
 })
 

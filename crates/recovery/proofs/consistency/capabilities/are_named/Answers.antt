@@ -1,6 +1,5 @@
-use Rattle.std.proofs.Common.{rules, ◌∙◌}
-use Rattle.capability.specs.Parts.{Parts, frames_of}
-use Rattle.recovery.proofs.Names.{All, IsNamed, caps_in, frame_at, subst}
+use Rattle.recovery.proofs.Names.{rules, Parts, frames_of, All, IsNamed, caps_in, frame_at, subst}
+use Rattle.std.proofs.Common.{◌∙◌}
 use Rattle.recovery.proofs.Named.{named_next, named_whole}
 use Rattle.recovery.proofs.consistency.capabilities.are_named.Goals as goal
 

@@ -13,7 +13,8 @@ returns-in_err-line-clause-served g c =
     let later = ahead_of rest c.next.new.self in
     let mid = session_at g.V.Output.written c.loop-line.self c.loop-line.kernel (g.W.Output.written c.loop-line.writer) in
     let p = err_from_is_err_and c.from_residual.result c.from_residual.ensures.1 in
-    rw (p.1, p.2) (finished g.D.Device.disk g.S.ObjectStore.view g.S.Frames.parts c.args.self.now.topics.now c.args.self.now.is_prompting
+    rw (p.1, p.2) (finished g.D.Device.disk g.S.ObjectStore.view g.S.Frames.parts (g.Q.Inspector.inspects c.args.inspector.now)
+    c.args.self.now.topics.now c.args.self.now.is_prompting
     c.loop-line.self.topics.now c.loop-line.self.is_prompting
     (ap (λ (t : Bor (List Topic)). t.now) c.loop-line.invariant.topics) c.loop-line.invariant.prompts (ahead_of rest c.args.lines.now) now
     later
@@ -28,7 +29,8 @@ returns-in_err-goes_on-in-Some-clause-served g c =
     let later = ahead_of rest c.next.new.self in
     let mid = session_at g.V.Output.written c.loop-line.self c.loop-line.kernel (g.W.Output.written c.loop-line.writer) in
     let p = err_from_is_err_and c.from_residual-in_err-goes_on-in-Some.result c.from_residual-in_err-goes_on-in-Some.ensures.1 in
-    rw (p.1, p.2) (finished g.D.Device.disk g.S.ObjectStore.view g.S.Frames.parts c.args.self.now.topics.now c.args.self.now.is_prompting
+    rw (p.1, p.2) (finished g.D.Device.disk g.S.ObjectStore.view g.S.Frames.parts (g.Q.Inspector.inspects c.args.inspector.now)
+    c.args.self.now.topics.now c.args.self.now.is_prompting
     c.loop-line.self.topics.now c.loop-line.self.is_prompting
     (ap (λ (t : Bor (List Topic)). t.now) c.loop-line.invariant.topics) c.loop-line.invariant.prompts (ahead_of rest c.args.lines.now) now
     later
@@ -45,7 +47,8 @@ returns-then-not-goes_on-clause-served g c =
     let now = ahead_of rest c.loop-line.lines in
     let later = ahead_of rest c.next.new.self in
     let mid = session_at g.V.Output.written c.loop-line.self c.loop-line.kernel (g.W.Output.written c.loop-line.writer) in
-    finished g.D.Device.disk g.S.ObjectStore.view g.S.Frames.parts c.args.self.now.topics.now c.args.self.now.is_prompting
+    finished g.D.Device.disk g.S.ObjectStore.view g.S.Frames.parts (g.Q.Inspector.inspects c.args.inspector.now)
+    c.args.self.now.topics.now c.args.self.now.is_prompting
     c.loop-line.self.topics.now c.loop-line.self.is_prompting
     (ap (λ (t : Bor (List Topic)). t.now) c.loop-line.invariant.topics) c.loop-line.invariant.prompts (ahead_of rest c.args.lines.now) now
     later
@@ -63,7 +66,8 @@ loop-line-preserved g c =
     let later = ahead_of rest c.next.new.self in
     let mid = session_at g.V.Output.written c.loop-line.self c.loop-line.kernel (g.W.Output.written c.loop-line.writer) in
     record {
-      so_far = more g.D.Device.disk g.S.ObjectStore.view g.S.Frames.parts c.args.self.now.topics.now c.args.self.now.is_prompting
+      so_far = more g.D.Device.disk g.S.ObjectStore.view g.S.Frames.parts (g.Q.Inspector.inspects c.args.inspector.now)
+          c.args.self.now.topics.now c.args.self.now.is_prompting
           c.loop-line.self.topics.now c.loop-line.self.is_prompting
           (ap (λ (t : Bor (List Topic)). t.now) c.loop-line.invariant.topics) c.loop-line.invariant.prompts (ahead_of rest c.args.lines.now)
           now later
@@ -85,7 +89,8 @@ returns-in-None-clause-served g c =
     let later = ahead_of rest c.next.new.self in
     let mid = session_at g.V.Output.written c.loop-line.self c.loop-line.kernel (g.W.Output.written c.loop-line.writer) in
     let taken = rw c.in-None.is at c.in_ok-line.ensures.taken in
-    finished g.D.Device.disk g.S.ObjectStore.view g.S.Frames.parts c.args.self.now.topics.now c.args.self.now.is_prompting
+    finished g.D.Device.disk g.S.ObjectStore.view g.S.Frames.parts (g.Q.Inspector.inspects c.args.inspector.now)
+    c.args.self.now.topics.now c.args.self.now.is_prompting
     c.loop-line.self.topics.now c.loop-line.self.is_prompting
     (ap (λ (t : Bor (List Topic)). t.now) c.loop-line.invariant.topics) c.loop-line.invariant.prompts (ahead_of rest c.args.lines.now) now
     later

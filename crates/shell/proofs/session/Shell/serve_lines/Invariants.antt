@@ -7,7 +7,8 @@ use Rattle.shell.proofs.session.Shell.serve_lines.Given as goal
 
 abbrev pub invariant-loop-line : goal.invariant-loop-line
 invariant-loop-line g l = record {
-  so_far : SoFar g.D.Device.disk g.S.ObjectStore.view g.S.Frames.parts l.fn.self.topics.now l.fn.self.is_prompting
+  so_far : SoFar g.D.Device.disk g.S.ObjectStore.view g.S.Frames.parts (g.Q.Inspector.inspects l.fn.inspector)
+      l.fn.self.topics.now l.fn.self.is_prompting
       (ahead_of g.R.RawReader.rest l.fn.lines) (ahead_of g.R.RawReader.rest l.lines)
       (session_at g.V.Output.written l.fn.self l.fn.kernel (g.W.Output.written l.fn.writer))
       (session_at g.V.Output.written l.self l.kernel (g.W.Output.written l.writer));

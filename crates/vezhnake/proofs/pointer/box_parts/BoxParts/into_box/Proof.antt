@@ -88,7 +88,7 @@ module _ (E : Bx) where
         sets ! (of_opd ! (get_in ! (fld ! refl (stop !)) (sub ! 1 refl (whole !)))) refl fa $
         first ! $ blocks ! $ sets ! (of_opd ! (get ! refl)) refl fa $
         move ! (4 ∷ []) $ split3 ! $ move ! (2 ∷ []) $ drop ! $ move ! (1 ∷ 2 ∷ []) $ join ! $ move ! (1 ∷ 0 ∷ []) $ join ! $
-        -- resources here: what it requires; the handle; true; the tokens
+        -- the resources at this step: what the call requires; the handle; true; the tokens
         move ! (2 ∷ []) $ feq_i ! (List Val) (vptr b o ∷ []) (vptr b o ∷ []) refl $ fjoin ! $ move ! (2 ∷ 0 ∷ []) $ fjoin ! $ move !
         (2 ∷ 0 ∷ []) $ join ! $
         join ! $ use1 𝓛 (raw (Shuts.pre y)) (id⊢ 𝓤 _) $

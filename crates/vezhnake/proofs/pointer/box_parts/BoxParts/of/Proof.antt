@@ -104,7 +104,7 @@ module _ (E : Bx) (dx : Dict) where
         sets ! (agg ! (and_then ! (get ! refl) (and_then ! (get ! refl) (no_more !)))) refl (box_typed E hw b' o' fw) $ returns !
         (look_at ! 0 refl) $
         free_all ! refl $
-        -- resources here: the handle; true; the tokens; the value with its token
+        -- the resources at this step: the handle; true; the tokens; the value with its token
         move ! (3 ∷ []) $ fsplit ! $ box_in E ! d b' o' v.value refl refl $ use1 𝓛 (‵ (To.own_val made (word E hw b' o' ∷ []))) (id⊢ 𝓤 _) $
         move ! (1 ∷ []) $ drop ! $
         suffices ! _ (ends_at 𝓛 ended stayed held z (word E hw b' o') made ((tt, (tt, tt)), tt) (tt, tt)) $ says ! refl $

@@ -1,6 +1,0 @@
-use Rattle.std.proofs.Common.{◌≡◌, ◌*◌, take}
-use Rattle.layout.specs.sealed.Superblock.{range_numbers}
-use Rattle.layout.proofs.sealed.superblock.put_ranges.Given as goal
-
-abbrev pub invariant-loop-i : goal.invariant-loop-i
-invariant-loop-i l = take (3 * l.i) l.into ≡ range_numbers (take l.i l.ranges)
