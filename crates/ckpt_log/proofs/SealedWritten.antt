@@ -15,7 +15,8 @@ use Rattle.layout.specs.sealed.Root.{Unit, root_of}
 use Rattle.layout.specs.sealed.RootLaws.{unit_of}
 use Rattle.layout.specs.sealed.Sector.{AreWords}
 use Rattle.layout.specs.declared.sealed.page.PageHeader.{PageHeader}
-use Rattle.ckpt_log.specs.sealed.Units.{IsBadCluster, IsBadPage, IsRootAfter, IsRootWith}
+use Rattle.layout.specs.sealed.Summed.{IsSummed}
+use Rattle.ckpt_log.specs.sealed.Units.{IsBadBlock, IsBadCluster, IsBadPage, IsRootAfter, IsRootWith}
 use Rattle.layout.specs.sealed.Page.{page_bytes}
 
 -- ---- pages and clusters
@@ -43,6 +44,9 @@ page_written image at object old new written header words = written ∙ page_is 
 pub page_refused : (age : ℕ) (bytes frame : List ℕ) → bytes ≡ frame →
     ((h : PageHeader) → AreWords (page_header_numbers h) → IsPage age frame h → ⊥) → IsBadPage age bytes (Bad BadFrame)
 page_refused age bytes frame is none = (refl, λ h fits page. none h fits (subst (λ (b : List ℕ). IsPage age b h) is page))
+
+pub block_refused : (bytes block : List ℕ) → bytes ≡ block → (IsSummed block → ⊥) → IsBadBlock bytes (Bad BadFrame)
+block_refused bytes block is none = (refl, λ here. none (subst IsSummed is here))
 
 pub cluster_refused : (nodes : ℕ) (bytes cluster : List ℕ) → bytes ≡ cluster → (IsCluster nodes cluster → ⊥) →
     IsBadCluster nodes bytes (Bad BadFrame)

@@ -17,4 +17,4 @@ pub(crate) use directory::{read_directory, write_directory};
 pub use laws::sealed_directories_are_read_back;
 pub(crate) use publishing::{publish, slot_of};
 pub use root::{add_last, empty_root, replace_seal};
-pub use units::{read_cluster, read_page, write_cluster, write_page};
+pub use units::{read_cluster, read_page, read_summed, write_cluster, write_page};

@@ -5,3 +5,4 @@ pub mod FrameSlots
 pub mod LaidAgain
 mod LaidPlans
 mod Laying
+mod Units

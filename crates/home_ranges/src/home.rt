@@ -1,9 +1,10 @@
 // Where frames lie at home.
 ghost use Rattle.std.specs.Prelude.{◌≡◌, ◌+◌, ◌<◌, ◌≤◌};
-ghost use Rattle.layout.specs.Homes.{home_place, node_offset, place_in, place_length, shape_of};
+ghost use Rattle.layout.specs.Homes.{home_place, node_offset, place_in, place_length, range_with, shape_of};
 ghost use Rattle.layout.specs.Shape.{IsShapeFor};
 ghost use Rattle.layout.specs.Superblock.{IsPlan};
 ghost use Rattle.layout.specs.Frames.{IsObject};
+ghost use Rattle.layout.specs.sealed.Units.{begins_unit, cluster_count};
 ghost use Rattle.home_ranges.specs.Home.{HaveHome, IsFirstOf, frames_in_block};
 
 use layout::{HomeRange, Shape, Superblock, Version};
@@ -124,6 +125,30 @@ impl<'a> Home<'a> {
                 (range.count - i).min(frames - i % frames)
             }
             None => 1,
+        }
+    }
+
+    /// Whether an object has the least number of its unit. Each page has, and the first node of each cluster.
+    #[tactic(auto, using(crate::proofs::Units::offset_begins))]
+    pub fn begins_unit(&self, number: u64) -> bool
+        requires object { IsObject self.now.geometry number }
+        ensures value { result ≡ begins_unit self.now number }
+        ensures plan { IsPlan self.now }
+    {
+        self.shape(number).offset == 0
+    }
+
+    /// Returns how many nodes of their range lie in the cluster that a node begins.
+    pub fn cluster_count(&self, number: u64) -> u64
+        requires object { IsObject self.now.geometry number }
+        ensures value { result ≡ cluster_count self.now.version (range_with self.now.ranges number) number }
+        ensures few { result ≤ 5 }
+        ensures plan { IsPlan self.now }
+    {
+        let nodes = self.superblock.version().row().cluster_nodes;
+        match self.superblock.range_with(number) {
+            Some(range) => (range.count - (number - range.first)).min(nodes),
+            None => 0,
         }
     }
 

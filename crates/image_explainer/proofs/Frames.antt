@@ -24,9 +24,12 @@ module _ (size : ℕ) (image : Image) (p : Plan) (h : CheckpointHeader) (es : Li
   frame_there = ap (λ (s : ℕ). shaped_at image s form) there ∙ ap (λ (s : Shape). shaped_at image (frame_sector p h.generation es n) s)
       as_is
 
-  pub frame_fault : (part : FramePart) → ((m : ℕ) → m < n → IsWholeFrame image p h es m) → HasPlan image size p → HasHeader image p (plain h) →
-      HasDirectory image p (plain h) es → n < p.geometry.nodes + p.geometry.pages →
-      FitsOr p.geometry h.age n (shaped_at image at form) (Some part) → IsFault size image (fault.Frame n (nat_le p.geometry.nodes n) part)
+  pub frame_fault : (part : FramePart) → ((m : ℕ) → m < n → IsWholeFrame image p h es m) → HasPlan image size p →
+      HasHeader image p (plain h) → HasDirectory image p (plain h) es → n < p.geometry.nodes + p.geometry.pages →
+      FitsOr p.geometry h.age n (shaped_at image at form) (Some part) →
+      IsFault size image (fault.Frame n (nat_le p.geometry.nodes n) part)
   frame_fault part before plan header directory inside broken =
-      let b = subst (λ (b : List ℕ). FitsOr p.geometry h.age n b (Some part)) frame_there broken in
-      ((p, plain h, es, plan, header, directory, inl (n, inside, b.0)), (p, plain h, es, plan, header, directory, inside, refl, before, b.0, b.1))
+      let b = subst (λ (b : List ℕ). FitsOr p.geometry h.age n b (Some part)) frame_there broken in (
+        (p, plain h, es, plan, header, directory, inl (n, inside, b.0)),
+        (p, plain h, es, plan, header, directory, inside, refl, before, b.0, b.1),
+      )

@@ -49,8 +49,9 @@ module _ (size : ℕ) (image : Image) (sector : List ℕ) (is : sector ≡ image
     no_superblock : (f : SectorFault) → BreaksSector (image 0) f → IsFault size image f
     no_superblock f broken = grind (arith, nat_tests)
 
-    pub plan_found : (r : ControlFlow SectorFault Plan) → MatchControlFlow r (λ p. IsPlan p × IsOpened p.version × (sector ≡ superblock_bytes p))
-        (BreaksSector sector) → MatchControlFlow r (HasPlan image size) (IsFault size image)
+    pub plan_found : (r : ControlFlow SectorFault Plan) →
+        MatchControlFlow r (λ p. IsPlan p × IsOpened p.version × (sector ≡ superblock_bytes p)) (BreaksSector sector) →
+        MatchControlFlow r (HasPlan image size) (IsFault size image)
     plan_found r read = grind (arith, nat_tests, total_fits, no_superblock)
 
 -- if a superblock was read, its sectors fit on the device

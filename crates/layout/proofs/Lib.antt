@@ -24,6 +24,7 @@ pub mod Versions
 pub mod Blanked
 pub mod Blocks
 pub mod Summed
+pub mod SummedPages
 mod Runs
 pub mod GateCopies
 pub mod NumberedGates

@@ -38,7 +38,7 @@ header_front h =
     ap (take 32) (header_is h ∙ append_assoc front rest seal) ∙ take_at front (rest ++ seal) 32 (front_long h.object)
 
 -- a block that begins with a header sector begins with the front of the frame
-sealed_front : (bytes : List ℕ) (h : PageHeader) → take 512 bytes ≡ page_header_bytes h → take 32 bytes ≡ front_bytes h.object
+pub sealed_front : (bytes : List ℕ) (h : PageHeader) → take 512 bytes ≡ page_header_bytes h → take 32 bytes ≡ front_bytes h.object
 sealed_front bytes h first = sym (take-take 32 512 bytes (omega arith)) ∙ ap (take 32) first ∙ header_front h
 
 abbrev header_with : ObjectHeader → Sums → PageHeader

@@ -48,7 +48,7 @@ pub use sealed::{
     PageHeader, SECTOR_ENTRIES, SealedHeader, add_sector, add_unit, damage_is_seen, decode_entries,
     decode_numbered_gate, decode_page, decode_page_header, decode_sealed_header, encode_entries,
     encode_numbered_gate, encode_page_header, encode_sealed_header, gates_are_majorities,
-    is_cluster, one_old_block_is_seen, remove_unit, seal_cluster, seal_page,
+    is_cluster, is_summed, one_old_block_is_seen, remove_unit, seal_cluster, seal_page,
     spell_one_sealed_value,
 };
 pub use shape::Shape;

@@ -11,3 +11,6 @@ mod Committing
 pub mod Moving
 mod Journaling
 mod Opening
+mod SealedUnits
+mod ReplacedUnits
+mod ReadSeals

@@ -77,17 +77,13 @@ refused_same p h es n old new (refusal.Bad reason) same is =
 -- ---- all of a device was read
 
 -- if all is durable, each crash leaves the state that was read
--- an opened image isn't sealed: programs do not open version 3 yet
-pub no_units : {image : Image} {p : Plan} {root : Sums} {generation : ℕ} {es : List Entry} → IsOpened p.version →
-    (row p.version).sealed ≡ true → HasUnits image p root generation es
-no_units opened sealed = absurd (false≢true (sym opened ∙ sealed))
-
 pub opened_sound : (disk : Disk) {p : Plan} {h : SealedHeader} {es : List Entry} → Only disk.seen disk →
     HasPlan disk.seen disk.sectors p → HasHeader disk.seen p h → HasDirectory disk.seen p h es →
-    AreSpelt disk.seen p h.header.age h.header.generation es → LeavesState disk (state_in disk.seen p h.header es) h
-opened_sound disk {p} {h} {es} only plan header directory spelt c left =
-    rw (agrees_is c disk.seen (only c left))
-    (denotes disk.seen disk.sectors p h es plan header directory spelt (no_units plan.opened), header.committed)
+    AreSpelt disk.seen p h.header.age h.header.generation es
+    → ((row p.version).sealed ≡ true → HasUnits disk.seen p h.root h.header.generation es) →
+    LeavesState disk (state_in disk.seen p h.header es) h
+opened_sound disk {p} {h} {es} only plan header directory spelt units c left =
+    rw (agrees_is c disk.seen (only c left)) (denotes disk.seen disk.sectors p h es plan header directory spelt units, header.committed)
 
 -- the committed header has the sums of its directory
 sums_known : {image : Image} {p : Plan} {h : SealedHeader} {es : List Entry} → HasDirectory image p h es →
@@ -236,7 +232,7 @@ module _ {old new : Disk} {p : Plan} {h : SealedHeader} {es : List Entry} {fs ws
       count = read.directory.count;
       directory = read.directory.fits;
       saved = read_new.spelt;
-      units = no_units plan_new.opened;
+      units = read_new.units;
       no_root = root_known read_new.header;
     };
     few = omega arith;
@@ -248,12 +244,12 @@ module _ {old new : Disk} {p : Plan} {h : SealedHeader} {es : List Entry} {fs ws
 
   first_state : Encodes old.seen old.sectors (saved_state new.seen (first_books p h es fs ws))
   first_state = rw (← same) (denotes old.seen old.sectors p h (take h.header.entries es) plan read.header read.directory read.spelt
-      (no_units plan.opened))
+      read.units)
 
   first_sound : Only new.seen new → IsSoundOn new (first_books p h es fs ws)
   first_sound only =
       subst (LeavesState new (state_in new.seen p h.header (take h.header.entries es))) (sums_known read_new.directory)
-      (opened_sound new only plan_new read_new.header read_new.directory read_new.spelt)
+      (opened_sound new only plan_new read_new.header read_new.directory read_new.spelt read_new.units)
 
   first_holds : Holds old.sectors old.seen (stored_in new.seen (first_books p h es fs ws)).saved
   first_holds = holds first_state

@@ -10,3 +10,4 @@ pub mod Gathered
 pub mod Mended
 pub mod Completed
 pub mod WholeStore
+pub mod Units

@@ -1,7 +1,7 @@
 -- The results of opening a device.
 use Rattle.migrator.specs.Names.{ℕ, None, List, length, take, replicate, ⊤, Frame, Entry, CheckpointHeader}
 use Rattle.migrator.specs.Names.{SealedHeader, BadImage, BadFrame, IsFrameOf, AreSpelt, Plan, OpenFault, Image, Disk}
-use Rattle.migrator.specs.Names.{Only, IsBadBy, HasHeader, HasDirectory, frame_in, Holds, OnlyReads}
+use Rattle.migrator.specs.Names.{Only, IsBadBy, HasHeader, HasDirectory, HasUnits, frame_in, Holds, OnlyReads, row, true}
 use Rattle.std.specs.Prelude.{◌≡◌}
 use Rattle.layout.specs.declared.bad_image.BadImage.TheVariants as bad
 use Rattle.layout.specs.declared.open_fault.OpenFault.TheVariants as refusal
@@ -28,11 +28,14 @@ IsBadAt image p h es n refusal.NoMemory = ⊤
 IsBadAt image p h es n (refusal.Bad reason) = (reason ≡ BadFrame) ×
     ((f : Frame) → IsFrameOf p.geometry h.age n (frame_in image p h.generation es n) f → ⊥)
 
--- an image was read: its header, its directory at the front of the entries, and all frames, which are valid
+-- an image was read: its header, its directory at the front of the entries, and all frames, which are valid; if the
+-- version has seals, the units are right
 pub record IsRead (image : Image) (p : Plan) (h : SealedHeader) (es : List Entry) : Type 0 where
   pub header : HasHeader image p h
   pub directory : HasDirectory image p h (take h.header.entries es)
   pub spelt : AreSpelt image p h.header.age h.header.generation (take h.header.entries es)
+  pub units : (row p.version).sealed ≡ true →
+      HasUnits image p h.root h.header.generation (take h.header.entries es)
 
 -- a device was opened, and nothing was written; the store has its saved frames and no others, and a crash leaves what
 -- a read gives

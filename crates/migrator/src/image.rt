@@ -13,6 +13,7 @@ ghost use Rattle.checkpoint.specs.Opened.{IsBadFor, OnlyReads};
 
 use crate::intake::Intake;
 use crate::read::{read_saved, read_superblock};
+use crate::units::check_seals;
 use ckpt_log::Log;
 use device::Device;
 use layout::{CheckpointHeader, Entry, OpenFault, Scratch, SealedHeader, Superblock};
@@ -96,7 +97,8 @@ fn take_frames<D: Device, I: Intake>(
     Ok(())
 }
 
-/// Reads the committed header, its directory and every saved frame once. Puts the directory into the first
+/// Reads the committed header, its directory and every saved frame once; in a version with seals, reads and checks all
+/// units before the frames. Puts the directory into the first
 /// entries of `directory`, and passes the frames to the intake. A refusal has the least reason that holds.
 pub(crate) fn read_image<D: Device, I: Intake>(
     alloc: Global,
@@ -123,6 +125,7 @@ pub(crate) fn read_image<D: Device, I: Intake>(
     let log = Log::new(plan);
     let header = log.read_committed(device, directory)?;
     let named = &directory[..header.header.entries as usize];
+    check_seals(device, plan, header, named)?;
     take_frames(alloc, device, plan, header.header, named, scratch, taken)?;
     Ok(header)
 }

@@ -14,6 +14,8 @@ mod image;
 mod intake;
 mod read;
 mod table;
+mod unit_seals;
+mod units;
 mod whole;
 mod whole_store;
 

@@ -11,6 +11,7 @@ use Rattle.layout.specs.sealed.RootLaws.{unit_of}
 use Rattle.layout.specs.sealed.Sector.{AreWords}
 use Rattle.layout.specs.declared.sealed.page.PageHeader.{PageHeader}
 use Rattle.layout.specs.sealed.Sector.{seal_in}
+use Rattle.layout.specs.sealed.Summed.{IsSummed}
 
 -- the seal of a page is that of its header sector
 abbrev pub page_seal : List ℕ → Sums
@@ -26,6 +27,12 @@ IsBadPage age bytes Failed = ⊤
 IsBadPage age bytes NoMemory = ⊥
 IsBadPage age bytes (Bad reason) = (reason ≡ BadFrame) ×
     ((h : PageHeader) → AreWords (page_header_numbers h) → IsPage age bytes h → ⊥)
+
+-- why a page's block isn't read: the device failed, or its first sector isn't sealed or has other sums
+abbrev pub IsBadBlock : List ℕ → OpenFault → Type 0
+IsBadBlock bytes Failed = ⊤
+IsBadBlock bytes NoMemory = ⊥
+IsBadBlock bytes (Bad reason) = (reason ≡ BadFrame) × (IsSummed bytes → ⊥)
 
 -- why a cluster isn't read: the device failed, or the bytes are no cluster
 abbrev pub IsBadCluster : ℕ → List ℕ → OpenFault → Type 0

@@ -6,13 +6,14 @@ ghost use Rattle.layout.specs.Fault.{CountsOpen};
 ghost use Rattle.layout.specs.Image.{sectors_from};
 ghost use Rattle.layout.specs.sealed.Cluster.{IsCluster};
 ghost use Rattle.layout.specs.sealed.Sector.{seal_in};
-ghost use Rattle.ckpt_log.specs.sealed.Units.{IsBadCluster, IsBadPage, IsPageRead, page_seal};
+ghost use Rattle.layout.specs.sealed.Summed.{IsSummed};
+ghost use Rattle.ckpt_log.specs.sealed.Units.{IsBadBlock, IsBadCluster, IsBadPage, IsPageRead, page_seal};
 ghost use Rattle.layout.specs.sealed.Page.{page_bytes};
 
 use device::{Device, Failed, SECTOR_SIZE};
 use layout::{
-    BadImage, OpenFault, PageHeader, decode_page, is_cluster, read_sectors, seal_cluster,
-    seal_page, write_sectors,
+    BadImage, OpenFault, PageHeader, decode_page, is_cluster, is_summed, read_sectors,
+    seal_cluster, seal_page, write_sectors,
 };
 use model::ObjectHeader;
 use seal::{SUMS_BYTES, Sums, sums_of};
@@ -88,6 +89,29 @@ pub fn read_page<D: Device>(
     match decode_page(frame, age) {
         Some(header) => Ok((header, page_seal(frame))),
         None => Err(OpenFault::Bad(BadImage::BadFrame)),
+    }
+}
+
+/// Reads a page's block from the 9 sectors from `at` on into `block`, and returns the seal of its header sector. It
+/// allocates nothing, and doesn't check the frame's header.
+///
+/// Returns `Failed` exactly if the device failed. Returns `BadFrame` exactly if the first sector isn't a sealed header
+/// sector with the sums of the words. After `Failed`, `block` may hold any bytes.
+#[tactic(auto, using(crate::proofs::SealedWritten::block_refused))]
+pub fn read_summed<D: Device>(device: &mut D, at: u64, block: &mut [u8]) -> Result<Sums, OpenFault>
+    requires block { length block.old ≡ 4608 }
+    requires inside { at + 9 ≤ (D.disk device.old).sectors }
+    ensures bytes { OnOk result (sectors_from (D.disk device.new).seen at 9 ≡ block.new) }
+    ensures found { IfOk result (λ seal. IsSummed block.new × (seal ≡ page_seal block.new)) }
+    ensures refused { IfErr result (λ e. IsBadBlock (sectors_from (D.disk device.new).seen at 9) e) }
+    ensures reads { ReadsOnly (D.disk device.old) (D.disk device.new) }
+    ensures cause { CountsOpen (D.disk device.old) (D.disk device.new) result }
+{
+    read_sectors(device, at, PAGE_SECTORS, block)?;
+    if is_summed(block) {
+        Ok(page_seal(block))
+    } else {
+        Err(OpenFault::Bad(BadImage::BadFrame))
     }
 }
 

@@ -1,11 +1,12 @@
 // The frame of a page: its header sector, and its words.
-ghost use Rattle.std.specs.Prelude.{◌≡◌, ◌↔◌, ◌++◌, length, take, drop, IsTrue, IfSome, IfNone};
+ghost use Rattle.std.specs.Prelude.{◌≡◌, ◌↔◌, ◌++◌, length, take, drop, IsTrue, IfSome, IfNone, Some};
 ghost use Rattle.model.specs.Object.{role_number};
-ghost use Rattle.seal.specs.Sums.{sums_of};
+ghost use Rattle.seal.specs.Sums.{Fit, sums_of};
 ghost use Rattle.layout.specs.declared.sealed.page.PageHeader.{PageHeader};
 ghost use Rattle.layout.specs.sealed.Page.{HasWords, IsPage, IsPageHeader, page_header_bytes, page_header_from};
 ghost use Rattle.layout.specs.sealed.Page.{page_header_numbers};
 ghost use Rattle.layout.specs.sealed.Sector.{AreWords};
+ghost use Rattle.layout.specs.sealed.Summed.{HasSums, IsSummed};
 
 use crate::bytes::are_zeros;
 use crate::sealed::sector::{decode_sector, encode_sector};
@@ -14,6 +15,9 @@ use seal::{Sums, sums_of};
 
 // Where the words of a page begin.
 const WORDS_AT: usize = 512;
+
+// The greatest number of a role.
+const LAST_ROLE: u64 = 5;
 
 /// The content of the header sector of a page's frame.
 #[derive(Clone, Copy)]
@@ -125,5 +129,35 @@ pub fn decode_page(frame: &[u8], age: u64) -> Option<PageHeader>
         Some(header)
     } else {
         None
+    }
+}
+
+// Returns the sums of the words according to the 512 bytes of a page's header sector. Returns `None` if the bytes are
+// no sealed header sector. The header may be one that no image has at the number of a page.
+fn named_sums(first: &[u8]) -> Option<Sums>
+    requires { length first.now ≡ 512 }
+    ensures some { IfSome result (λ words. HasSums first.now words) }
+    ensures only { (h : PageHeader) → Fit h.words → first.now ≡ page_header_bytes h → result ≡ Some h.words }
+{
+    let mut numbers = [0; 7];
+    let is_sector = decode_sector(first, &mut numbers);
+    if is_sector && numbers[0] <= LAST_ROLE {
+        Some(page_header_from(&numbers).words)
+    } else {
+        None
+    }
+}
+
+/// Whether the 4608 bytes of a page's block begin with a sealed header sector that has the sums of the words. The
+/// frame's header isn't checked.
+#[tactic(auto, using(crate::proofs::SealedHeaders::front_long))]
+pub fn is_summed(block: &[u8]) -> bool
+    requires { length block.now ≡ 4608 }
+    ensures { IsTrue result ↔ IsSummed block.now }
+{
+    let words = sums_of(&block[WORDS_AT..]);
+    match named_sums(&block[..WORDS_AT]) {
+        Some(named) => named == words,
+        None => false,
     }
 }
