@@ -1,4 +1,5 @@
 """Reads an image, for `checks/images`. It was written from docs/FORMAT.md alone."""
+from array import array
 from collections import namedtuple
 from struct import unpack_from
 
@@ -9,7 +10,8 @@ ROLES = {PAGE_CAP: 1, NODE_CAP: 2, SPACE: 2, PROCESS: ROOT, START: ROOT, RESUME:
 Shape = namedtuple("Shape", "version nodes pages slots halves homes")
 # The sector where an object's home begins (in version 2 a node's home is its cluster), and the byte in it where the frame begins.
 Home = namedtuple("Home", "sector offset")
-Header = namedtuple("Header", "slot sequence generation entries age")
+# The root and the directory's sums are those of version 3.
+Header = namedtuple("Header", "slot sequence generation entries age root sums", defaults=(None, None))
 Cap = namedtuple("Cap", "tag access key height zeros number count")
 # A frame at a place: what stands before its body, and the capabilities in its slots, or the words of a page.
 Frame = namedtuple("Frame", "place role allocations calls owner slots words")
@@ -29,6 +31,28 @@ def is_zero(data, begin, end):
     return data.count(0, begin, end) == end - begin
 
 
+def sums_of(row):
+    """The three sums of the numbers of 4 bytes in a row."""
+    a = b = c = 0
+    for it in array("I", row):
+        a += it
+        b += a
+        c += b
+    return a, b, c
+
+
+def seal_of(row):
+    return unpack_from("<3Q", row, len(row) - 24)
+
+
+def is_sealed(row):
+    return seal_of(row) == sums_of(row[:-24])
+
+
+def added(total, weight, seal):
+    return tuple((one + weight * other) % 2**64 for one, other in zip(total, seal))
+
+
 def home_in(version, is_node, sector, number):
     """The home of the object with this place in a range that begins at a sector."""
     if not is_node:
@@ -45,10 +69,11 @@ def shape_of(data):
     sectors = len(data) // SECTOR
     need(sectors >= 5 and sectors >= unpack_from("<Q", data, 56)[0], 1)
     magic, version, ranges, nodes, pages, slots, half0, half1, total = unpack_from("<8sII6Q", data)
-    need(magic == b"EROSCKPT" and version in (1, 2) and is_zero(data, 256, 512), 2)
+    need(magic == b"EROSCKPT" and version in (1, 2, 3) and is_zero(data, 256, 488 if version == 3 else 512), 2)
+    need(version != 3 or is_sealed(data[:SECTOR]), 2)
     need(1 <= ranges <= 8 and 16 <= nodes <= 4096 and 1 <= pages <= 4096 and 16 <= slots <= 4096 and total <= 131072, 3)
     need(is_zero(data, 64 + 24 * ranges, 256), 3)
-    length = 9 * slots + (slots + 31) // 32
+    length = 9 * slots + (slots + 31) // 32 if version != 3 else (9 * slots + (slots + 29) // 30 + 7) // 8 * 8
     parts, homes, following = [(half0, length), (half1, length)], [], 0
     for place in range(64, 64 + 24 * ranges, 24):
         first, count, sector = unpack_from("<3Q", data, place)
@@ -59,15 +84,43 @@ def shape_of(data):
         homes += [home_in(version, is_node, sector, it) for it in range(count)]
         parts.append((sector, length_of(version, is_node, count)))
     need(following == nodes + pages, 3)
-    end = 5
+    end = 5 if version != 3 else 56
     for sector, count in sorted(parts):
-        need(sector >= end, 3)
+        need(sector >= end and (version != 3 or sector % 8 == 0), 3)
         end = sector + count
     need(end <= total, 3)
     return Shape(version, nodes, pages, slots, (half0, half1), homes)
 
 
+def number_of_gate(sector):
+    """The number of a gate of version 3: that of at least 33 of its 64 copies, unless it is 0."""
+    copies = unpack_from("<64Q", sector)
+    number = max(set(copies), key=copies.count)
+    return number if copies.count(number) > 32 and number else None
+
+
+def sealed_header_of(data, shape):
+    """The committed header of version 3."""
+    gates = [number_of_gate(data[SECTOR * (16 + 16 * slot) :][:SECTOR]) for slot in range(3)]
+    counting = {}
+    for slot in range(3):
+        row = data[SECTOR * (8 + 16 * slot) :][:SECTOR]
+        sequence, generation, entries, age, *sums = unpack_from("<10Q", row, 8)
+        is_sound = row[:8] == b"EROSHEAD" and is_zero(row, 88, 488) and is_sealed(row)
+        if is_sound and sequence % 3 == slot and sequence and sequence == gates[slot]:
+            counting[sequence] = Header(slot, sequence, generation, entries, age, tuple(sums[:3]), tuple(sums[3:]))
+    pairs = [it for it in counting if it - 1 in counting]
+    need(pairs, 4)
+    header = counting[max(pairs)]
+    need(gates[(header.slot + 1) % 3] != header.sequence + 1, 5)
+    need(header.entries <= shape.slots and header.age <= 2**62 and header.generation <= 2 * header.age, 5)
+    need(header.sequence <= 2 * header.age + 2 + (header.entries == 0), 5)
+    return header
+
+
 def header_of(data, shape):
+    if shape.version == 3:
+        return sealed_header_of(data, shape)
     counting = []
     for slot in (0, 1):
         header = Header(slot, *unpack_from("<4Q", data, SECTOR * (1 + 2 * slot) + 8))
@@ -82,10 +135,26 @@ def header_of(data, shape):
     return header
 
 
+def sealed_entries(data, at, header):
+    """The entries of a directory of version 3, which begins at a sector."""
+    entries, total = [], (0, 0, 0)
+    for begin in range(0, header.entries, 30):
+        row, count = data[SECTOR * (at + begin // 30) :][:SECTOR], min(30, header.entries - begin)
+        need(is_sealed(row) and is_zero(row, 16 * count, 488), 6)
+        total = added(total, 1, seal_of(row))
+        entries += [unpack_from("<2Q", row, 16 * it) for it in range(count)]
+    need(total == header.sums, 6)
+    return entries
+
+
 def logged_in(data, shape, header):
     """The sector of the slot of each object that is in the log, in the order of their numbers."""
     half = shape.halves[header.generation % 2]
-    entries = [unpack_from("<2Q", data, SECTOR * (half + 9 * shape.slots) + 16 * it) for it in range(header.entries)]
+    at = half + 9 * shape.slots
+    if shape.version == 3:
+        entries = sealed_entries(data, at, header)
+    else:
+        entries = [unpack_from("<2Q", data, SECTOR * at + 16 * it) for it in range(header.entries)]
     need(all(one[0] < two[0] for one, two in zip(entries, entries[1:])), 6)
     need(all(number < shape.nodes + shape.pages and slot < shape.slots for number, slot in entries), 6)
     need(len({slot for _, slot in entries}) == len(entries), 6)
@@ -93,10 +162,31 @@ def logged_in(data, shape, header):
 
 
 def places_of(shape, logged):
-    """The byte where the frame of each object begins: in its slot, else in that of the least object with its home, else at home."""
+    """The byte where the frame of each object begins: in its slot, else in that of the least object with its home, else at home. By version
+    3 no node is read from a slot of its own."""
     beside = {shape.homes[number].sector: sector for number, sector in reversed(logged.items())}
-    sector_of = lambda number, home: logged.get(number, beside.get(home.sector, home.sector))
+    own = logged if shape.version != 3 else {}
+    sector_of = lambda number, home: own.get(number, beside.get(home.sector, home.sector))
     return [SECTOR * sector_of(number, home) + home.offset for number, home in enumerate(shape.homes)]
+
+
+def check_units(data, shape, header, places):
+    """Checks the seals of version 3 where the objects are read, the sums of the words of pages, and the root."""
+    total, begun = (0, 0, 0), set()
+    for number, (home, place) in enumerate(zip(shape.homes, places)):
+        begin = place - home.offset
+        if number >= shape.nodes:
+            row = data[begin : begin + SECTOR]
+            words = data[begin + SECTOR : begin + 9 * SECTOR]
+            need(is_sealed(row) and is_zero(row, 56, 488) and unpack_from("<3Q", row, 32) == sums_of(words), 7)
+        elif home.sector not in begun:
+            begun.add(home.sector)
+            row, count = data[begin : begin + 8 * SECTOR], sum(it.sector == home.sector for it in shape.homes)
+            need(is_sealed(row) and is_zero(row, 800 * count, 4072), 7)
+        else:
+            continue
+        total = added(total, 2 * number + 1, seal_of(row))
+    need(total == header.root, 7)
 
 
 def cap_at(data, place, shape, age):
@@ -119,11 +209,11 @@ def frame_at(data, place, number, shape, age):
     is_page, slots, words = number >= shape.nodes, {}, ()
     need(role in ((0, 1) if is_page else (0, 2, ROOT, ANNEX, BANK)) and (role or owner == 0), 7)
     if is_page:
-        need(is_zero(data, place + 32, place + 512), 7)
+        need(shape.version == 3 or is_zero(data, place + 32, place + 512), 7)
         words = unpack_from("<512Q", data, place + 512)
         need(role or not any(words), 7)
     else:
-        need(shape.version == 2 or is_zero(data, place + 800, place + 1024), 7)
+        need(shape.version != 1 or is_zero(data, place + 800, place + 1024), 7)
         for slot in range(32):
             at = place + 32 + 24 * slot
             if data[at : at + 24] != VOID:
@@ -186,7 +276,10 @@ def read(data):
     shape = shape_of(data)
     header = header_of(data, shape)
     logged = logged_in(data, shape, header)
-    frames = [frame_at(data, place, number, shape, header.age) for number, place in enumerate(places_of(shape, logged))]
+    places = places_of(shape, logged)
+    if shape.version == 3:
+        check_units(data, shape, header, places)
+    frames = [frame_at(data, place, number, shape, header.age) for number, place in enumerate(places)]
     check_caps(frames)
     check_processes(frames)
     for bank, used in usages(frames).items():
@@ -195,7 +288,7 @@ def read(data):
 
 
 def littered(data):
-    """The sectors of the clusters with a byte other than 0 where no frame lies: of those at home, and of the log's slots."""
+    """The sectors of the clusters with a byte other than 0 where no frame or seal lies: of those at home, and of the log's slots."""
     shape, offsets = shape_of(data), {}
     if shape.version == 1:
         return []
@@ -208,6 +301,6 @@ def littered(data):
         bytes_there = bytearray(data[SECTOR * sector : SECTOR * (sector + 8)])
         for begin in begins:
             bytes_there[begin : begin + 800] = bytes(800)
-        return any(bytes_there)
+        return any(bytes_there[:4072] if shape.version == 3 else bytes_there)
 
     return [sector for sector, begins in clusters if rest(sector, begins)]

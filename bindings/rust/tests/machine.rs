@@ -2,10 +2,14 @@ use std::error::Error as _;
 use std::io::{self, BufRead, BufReader};
 use std::os::unix::fs::FileExt;
 use std::process::{Command, Stdio};
+use std::sync::{Mutex, PoisonError};
 use std::time::Duration;
 use vezhnake::{
     BadImage, Code, Error, FileStorage, Kind, Machine, NewMessage, Refusal, Storage, ALL,
 };
+
+/// Held by tests that open files or start programs: until a program runs, it shares the locks of all files that are open.
+static FILES: Mutex<()> = Mutex::new(());
 
 fn machine() -> Machine<Vec<u8>> {
     Machine::over(vezhnake::example_image(), 0).unwrap()
@@ -74,6 +78,7 @@ fn refusals_and_result_codes_are_errors() {
 
 #[test]
 fn an_image_may_be_the_start_of_a_longer_file() {
+    let _held = FILES.lock().unwrap_or_else(PoisonError::into_inner);
     let path = std::env::temp_dir().join(format!("vezhnake-longer-{}", std::process::id()));
     let image = vezhnake::example_image();
     let mut longer = image.clone();
@@ -193,6 +198,7 @@ fn long_answers_and_texts_fit() {
 
 #[test]
 fn kills_lose_no_count() {
+    let _held = FILES.lock().unwrap_or_else(PoisonError::into_inner);
     let folder = std::env::temp_dir().join(format!("vezhnake-{}", std::process::id()));
     std::fs::create_dir_all(&folder).unwrap();
     let path = folder.join("counter.image");

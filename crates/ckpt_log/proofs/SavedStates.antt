@@ -184,7 +184,6 @@ ready_same : (old new : Image) (size : ℕ) (s : SavedState) (h : SealedHeader) 
 ready_same old new size s h same was = record {
   same = was.same;
   plan = record {
-    opened = was.plan.opened;
     least = was.plan.least;
     whole = was.plan.whole;
     fits = was.plan.fits;

@@ -94,7 +94,7 @@ counts_too a b s same is = record {
   gate = sym (same.gate (s % 3) (omega arith)) ∙ is.gate;
 }
 
-greatest_too : (a b : Slots) (s : ℕ) → SameNumbers a b → IsGreatestPair a s → IsGreatestPair b s
+pub greatest_too : (a b : Slots) (s : ℕ) → SameNumbers a b → IsGreatestPair a s → IsGreatestPair b s
 greatest_too a b s same is = record {
   positive = is.positive;
   counts = counts_too a b s same is.counts;
@@ -108,7 +108,7 @@ committed_too a b s same is = record {
   next = λ e. is.next (same.gate ((s + 1) % 3) (omega arith) ∙ e);
 }
 
-no_pair_too : (a b : Slots) → SameNumbers a b → IsRefused a NoPair → IsRefused b NoPair
+pub no_pair_too : (a b : Slots) → SameNumbers a b → IsRefused a NoPair → IsRefused b NoPair
 no_pair_too a b same none = λ s pair. none s (record {
   positive = pair.positive;
   counts = counts_too b a s (turned same) pair.counts;

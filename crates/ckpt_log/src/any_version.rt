@@ -131,8 +131,8 @@ impl<'a> Log<'a> {
         Ok(NO_SUMS)
     }
 
-    // Returns the committed header. It has the errors of `read_committed`, but for the directory's.
-    fn read_header<D: Device>(&self, device: &mut D) -> Result<SealedHeader, OpenFault>
+    /// Returns the committed header. It has the errors of `read_committed`, but for the directory's.
+    pub fn read_header<D: Device>(&self, device: &mut D) -> Result<SealedHeader, OpenFault>
         requires inside { self.now.total ≤ (D.disk device.old).sectors }
         ensures found { IfOk result (λ h. HasHeader (D.disk device.old).seen self.now h) }
         ensures refused { IfErr result (λ e. HasNoCommitted (D.disk device.old).seen self.now e) }

@@ -1,6 +1,6 @@
 // The committed header of versions 1 and 2.
 ghost use Rattle.std.specs.Prelude.{◌≡◌, ◌≤◌, length, option_map, IfOk, IfErr, OnOk};
-ghost use Rattle.layout.specs.Committed.{does_count, committed_of};
+ghost use Rattle.layout.specs.Committed.{does_count, committed_of, committed_slot};
 ghost use Rattle.device.specs.Calls.{Counts};
 ghost use Rattle.layout.specs.Calls.{ReadsOnly};
 ghost use Rattle.layout.specs.Fault.{CountsOpen};
@@ -45,6 +45,32 @@ fn committed_of(first: bool, m: u64, second: bool, n: u64) -> Option<HeaderSlot>
     }
 }
 
+/// Reads the headers of versions 1 and 2 into `first` and `second`, and returns the slot of the committed one, or `None`
+/// if no header counts. Returns `Failed` exactly if the device failed.
+pub fn committed_slot<D: Device>(
+    device: &mut D,
+    first: &mut [u8],
+    second: &mut [u8],
+) -> Result<Option<HeaderSlot>, Failed>
+    requires inside { 5 ≤ (D.disk device.old).sectors }
+    requires first { length first.old ≡ 512 }
+    requires second { length second.old ≡ 512 }
+    ensures slot { IfOk result (λ slot. option_map slot_number slot ≡ committed_slot (D.disk device.old).seen) }
+    ensures first { OnOk result (first.new ≡ (D.disk device.old).seen 1) }
+    ensures second { OnOk result (second.new ≡ (D.disk device.old).seen 3) }
+    ensures reads { ReadsOnly (D.disk device.old) (D.disk device.new) }
+    ensures cause { Counts (D.disk device.old) (D.disk device.new) result }
+{
+    let first_counts = read_header(device, HeaderSlot::First, first)?;
+    let second_counts = read_header(device, HeaderSlot::Second, second)?;
+    Ok(committed_of(
+        first_counts,
+        sequence_in(first),
+        second_counts,
+        sequence_in(second),
+    ))
+}
+
 // Returns the header of a slot, from the bytes of both headers. If it is malformed, returns `BadHeader`, and doesn't
 // fall back to the other header. Returns `NoHeader` if there is no slot.
 fn choose(
@@ -81,14 +107,7 @@ impl<'a> Log<'a> {
         let room = self.geometry().log;
         let mut first = [0; SECTOR_SIZE];
         let mut second = [0; SECTOR_SIZE];
-        let first_counts = read_header(device, HeaderSlot::First, &mut first)?;
-        let second_counts = read_header(device, HeaderSlot::Second, &mut second)?;
-        let slot = committed_of(
-            first_counts,
-            sequence_in(&first),
-            second_counts,
-            sequence_in(&second),
-        );
+        let slot = committed_slot(device, &mut first, &mut second)?;
         Ok(choose(slot, &first, &second, room)?)
     }
 }

@@ -94,8 +94,8 @@ impl<'a> Log<'a> {
         self.half_sector(generation) + 9 * slot
     }
 
-    // Returns the first sector of the directory of a generation.
-    pub(crate) fn directory_sector(&self, generation: u64) -> u64
+    /// Returns the first sector of the directory of a generation.
+    pub fn directory_sector(&self, generation: u64) -> u64
         ensures value { result ≡ directory_sector self.now generation }
         ensures inside { result + directory_length self.now.version self.now.geometry.log ≤ self.now.total }
         ensures room { self.now.geometry.log ≤ 4096 }

@@ -9,7 +9,7 @@ use layout::read_sectors;
 
 /// Fills `into` with the 512 bytes of a sector. Returns `Failed` exactly if the device failed.
 #[tactic(auto, using(crate::proofs::Sectors::read_is))]
-pub(crate) fn read_sector<D: Device>(device: &mut D, at: u64, into: &mut [u8]) -> Result<(), Failed>
+pub fn read_sector<D: Device>(device: &mut D, at: u64, into: &mut [u8]) -> Result<(), Failed>
     requires one { length into.old ≡ 512 }
     requires inside { at < (D.disk device.old).sectors }
     ensures bytes { OnOk result (into.new ≡ (D.disk device.old).seen at) }

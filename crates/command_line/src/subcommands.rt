@@ -61,7 +61,7 @@ pub(crate) const NAMES: &str = "names";
 pub(crate) const STOP_AFTER: &str = "stop-after";
 
 /// What `eros --version` prints after the name.
-const VERSION: &str = "1.0.0\nlayouts 1 and 2\nproved with rattle-kit-13f logic dac8208d650f15bf";
+const VERSION: &str = "1.0.0\nlayouts 1 to 3\nproved with rattle-kit-13f logic dac8208d650f15bf";
 
 /// An argument or an option of a subcommand.
 #[derive(Clone, Copy)]

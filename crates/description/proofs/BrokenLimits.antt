@@ -1,7 +1,7 @@
 -- If a size is outside the limits, the description breaks the rule for limits there.
 use Rattle.description.proofs.Names.{nat_tests, ℕ, zero, suc, List, [], length, map, take, Option, None, Some, slice_get, subst, arith, MatchOption, none-some}
 use Rattle.description.proofs.Names.{same_Some, Geometry, object_count, Cover, version_number, placed, MayBeLaid, Version, NumberRange, IsGeometry}
-use Rattle.description.proofs.Names.{IsWithinLimits, Description, Limit, BreaksGeometry, BreaksLimit, BreaksRanges, GoesOn, count_in, IsOpened}
+use Rattle.description.proofs.Names.{IsWithinLimits, Description, Limit, BreaksGeometry, BreaksLimit, BreaksRanges, GoesOn, count_in}
 use Rattle.std.proofs.Common.{◌≡◌, ◌+◌, ◌≤◌, ◌∷◌, ◌^◌}
 use Rattle.description.specs.declared.flaw.Limit.TheVariants as limit
 
@@ -31,7 +31,7 @@ limit_refuted d limit.Nodes broken within = broken (within.laid.geometry.least_n
 limit_refuted d limit.Pages broken within = broken.1 (within.laid.geometry.least_pages, within.laid.geometry.most_pages)
 limit_refuted d limit.Log broken within = broken.2 (within.laid.geometry.least_log, within.laid.geometry.most_log)
 limit_refuted d limit.Age broken within = omega (arith, broken.1, within.age)
-limit_refuted d limit.Layout broken within = broken.2 within.layout.0 within.layout.2 within.layout.1
+limit_refuted d limit.Layout broken within = broken.2 within.layout.0 within.layout.1
 limit_refuted d limit.RangeCount broken within = ranges_refuted d.geometry d.ranges.items limit.RangeCount broken.3
     (within.laid.some, within.laid.few)
     within.laid.cover
@@ -49,7 +49,7 @@ count_broken d limit.Log broken = broken
 count_broken d other broken = absurd broken
 
 ranges_broken : (d : Description) (l : Limit) → IsGeometry d.geometry → d.age ≤ 2 ^ 62 →
-    (v : Version) × (d.layout ≡ version_number v) × IsOpened v →
+    (v : Version) × (d.layout ≡ version_number v) →
     BreaksRanges d.geometry d.ranges.items l → BreaksLimit d l
 ranges_broken d limit.RangeCount geometry age layout broken = (geometry, age, layout, broken)
 ranges_broken d (limit.Range i n) geometry age layout broken = (geometry, age, layout, broken)
@@ -58,9 +58,9 @@ ranges_broken d other geometry age layout broken = absurd broken
 
 -- if a description keeps all limits but those of ranges, it is within the limits exactly if its ranges are valid
 pub ranges_decide : (d : Description) (rs : List NumberRange) (found : Option Limit) (v : Version) → IsGeometry d.geometry →
-    rs ≡ d.ranges.items → d.layout ≡ version_number v → IsOpened v → d.age ≤ 2 ^ 62 → MatchOption found (MayBeLaid d.geometry rs)
+    rs ≡ d.ranges.items → d.layout ≡ version_number v → d.age ≤ 2 ^ 62 → MatchOption found (MayBeLaid d.geometry rs)
     (λ l. BreaksRanges d.geometry rs l) → MatchOption found (IsWithinLimits d) (λ l. BreaksLimit d l)
-ranges_decide d rs None v geometry same layout opened age laid =
-    record { layout = (v, layout, opened); laid = subst (λ ts. MayBeLaid d.geometry ts) same laid; age = age }
-ranges_decide d rs (Some l) v geometry same layout opened age broken =
-    ranges_broken d l geometry age (v, layout, opened) (subst (λ ts. BreaksRanges d.geometry ts l) same broken)
+ranges_decide d rs None v geometry same layout age laid =
+    record { layout = (v, layout); laid = subst (λ ts. MayBeLaid d.geometry ts) same laid; age = age }
+ranges_decide d rs (Some l) v geometry same layout age broken =
+    ranges_broken d l geometry age (v, layout) (subst (λ ts. BreaksRanges d.geometry ts l) same broken)

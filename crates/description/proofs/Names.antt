@@ -7,7 +7,6 @@ pub use Rattle.collections.specs.Marks.{is_marked}
 pub use Rattle.home_ranges.specs.Laid.{MayBeLaid, placed}
 pub use Rattle.home_ranges.specs.declared.number_range.NumberRange.{NumberRange}
 pub use Rattle.layout.specs.Superblock.{Cover, IsGeometry, version_number}
-pub use Rattle.layout.specs.Version.{IsOpened}
 pub use Rattle.layout.specs.declared.version.Version.{Version}
 pub use Rattle.model.specs.Capability.{IsWellFormed, named}
 pub use Rattle.model.specs.Frame.{blank_frame, blank_header, current_count, frame_at, header_at, headers, void_held}

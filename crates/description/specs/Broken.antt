@@ -1,7 +1,7 @@
 -- The first place where a description breaks a rule, other than the rules of its shape and its fields.
 use Rattle.description.specs.Names.{ℕ, Bool, true, false, List, [], Option, None, Some, length, option_map, slice_get}
 use Rattle.description.specs.Names.{take, IsSomeAnd, All, Capability, Frame, Geometry, object_count, IsNext, IsGeometry}
-use Rattle.description.specs.Names.{version_number, Version, placed, NumberRange, NamesItsRole, IsTarget, IsOpened}
+use Rattle.description.specs.Names.{version_number, Version, placed, NumberRange, NamesItsRole, IsTarget}
 use Rattle.std.specs.Prelude.{◌≡◌, ◌⊎◌, ◌+◌, ◌^◌, ◌<◌, ◌≤◌, ◌∷◌, ◌++◌}
 use Rattle.description.specs.Described.{HasFields, HasNumbers, IsDescribed, node_numbers, page_numbers}
 use Rattle.description.specs.FieldFlaws.{BreaksField, IsFirst, IsFirstTwice, IsOutside}
@@ -76,9 +76,9 @@ BreaksLimit d limit.Pages = BreaksGeometry d.geometry limit.Pages
 BreaksLimit d limit.Log = BreaksGeometry d.geometry limit.Log
 BreaksLimit d limit.Age = IsGeometry d.geometry × (2 ^ 62 < d.age)
 BreaksLimit d limit.Layout = IsGeometry d.geometry × (d.age ≤ 2 ^ 62)
-    × ((v : Version) → IsOpened v → d.layout ≡ version_number v → ⊥)
+    × ((v : Version) → d.layout ≡ version_number v → ⊥)
 BreaksLimit d l = IsGeometry d.geometry × (d.age ≤ 2 ^ 62)
-    × ((v : Version) × (d.layout ≡ version_number v) × IsOpened v)
+    × ((v : Version) × (d.layout ≡ version_number v))
     × BreaksRanges d.geometry d.ranges.items l
 
 -- ---- numbers

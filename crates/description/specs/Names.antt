@@ -4,9 +4,8 @@ pub use Rattle.capability.specs.Plain.{fresh_cap}
 pub use Rattle.home_ranges.specs.Laid.{MayBeLaid, placed, plan_from}
 pub use Rattle.home_ranges.specs.declared.number_range.NumberRange.{NumberRange}
 pub use Rattle.layout.specs.Superblock.{IsGeometry, IsNext, Plan, version_number}
-pub use Rattle.layout.specs.Version.{IsOpened}
 pub use Rattle.layout.specs.declared.version.Version.{Version}
-pub use Rattle.layout.specs.declared.version.Version.TheVariants.{One, Two}
+pub use Rattle.layout.specs.declared.version.Version.TheVariants.{One, Two, Three}
 pub use Rattle.model.specs.Capability.{IsWellFormed, named}
 pub use Rattle.model.specs.Frame.{blank_frame, frame_at, void_held}
 unfoldable pub use Rattle.model.specs.Frame.{frames_in}

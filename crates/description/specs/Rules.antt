@@ -1,6 +1,6 @@
 -- Which rule a description breaks first, and so with which fault no image is built.
 use Rattle.description.specs.Names.{ℕ, List, Frame, AreNamed, Version, version_number, MayBeLaid, plan_from, Plan, One}
-use Rattle.description.specs.Names.{Two, AreBanked, Members, IsOpened}
+use Rattle.description.specs.Names.{Two, Three, AreBanked, Members}
 use Rattle.std.specs.Prelude.{◌≡◌, ◌^◌, ◌<◌, ◌≤◌, ◌==◌, if◌then◌else◌}
 use Rattle.description.specs.declared.fault.BuildFault.{BuildFault}
 use Rattle.description.specs.declared.fault.BuildFault.TheVariants.{Shape, NoMemory}
@@ -12,15 +12,15 @@ use Rattle.description.specs.Reading.{IsDescription}
 
 -- the layout version with this number; for any other number, version 1
 abbrev pub version_of : ℕ → Version
-version_of n = if n == 2 then Two else One
+version_of n = if n == 2 then Two else (if n == 3 then Three else One)
 
 -- where the parts lie in an image that is built from the description
 abbrev pub plan_for : Description → Plan
 plan_for d = plan_from (version_of d.layout) d.geometry d.ranges.items
 
--- the layout is a version that `eros` opens, and an image may have these sizes, ranges and age
+-- the layout is a version, and an image may have these sizes, ranges and age
 pub record IsWithinLimits (d : Description) : Type 0 where
-  pub layout : (v : Version) × (d.layout ≡ version_number v) × IsOpened v
+  pub layout : (v : Version) × (d.layout ≡ version_number v)
   pub laid : MayBeLaid d.geometry d.ranges.items
   pub age : d.age ≤ 2 ^ 62
 

@@ -178,7 +178,7 @@ fn put_limit(text: &mut String, description: &Description, limit: Limit) -> Resu
             ": {} is above 4611686018427387904, 2^62",
             description.age
         ),
-        Limit::Layout => write!(text, ": {} is not 1 or 2", description.layout),
+        Limit::Layout => write!(text, ": {} is not 1, 2 or 3", description.layout),
         Limit::RangeCount => {
             write!(
                 text,

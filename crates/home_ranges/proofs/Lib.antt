@@ -5,4 +5,4 @@ pub mod FrameSlots
 pub mod LaidAgain
 mod LaidPlans
 mod Laying
-mod Units
+pub mod Units

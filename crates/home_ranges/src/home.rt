@@ -4,6 +4,7 @@ ghost use Rattle.layout.specs.Homes.{home_place, node_offset, place_in, place_le
 ghost use Rattle.layout.specs.Shape.{IsShapeFor};
 ghost use Rattle.layout.specs.Superblock.{IsPlan};
 ghost use Rattle.layout.specs.Frames.{IsObject};
+ghost use Rattle.layout.specs.Version.{row};
 ghost use Rattle.layout.specs.sealed.Units.{begins_unit, cluster_count};
 ghost use Rattle.home_ranges.specs.Home.{HaveHome, IsFirstOf, frames_in_block};
 
@@ -150,6 +151,14 @@ impl<'a> Home<'a> {
             Some(range) => (range.count - (number - range.first)).min(nodes),
             None => 0,
         }
+    }
+
+    /// Whether the blocks of the version are sealed.
+    pub fn is_sealed(&self) -> bool
+        ensures value { result ≡ (row self.now.version).sealed }
+        ensures plan { IsPlan self.now }
+    {
+        self.superblock.version().row().sealed
     }
 
     /// Returns how many nodes, pages and log slots there are.

@@ -5,15 +5,7 @@ use Rattle.image_builder.proofs.Names.{kept_holds_the_same, none_is_held, IsDesc
 use Rattle.image_builder.proofs.Names.{described_once, IsWithinLimits, plan_for, AreLaid, holds_one, EndInZeros, []}
 use Rattle.std.proofs.Common.{◌≡◌, ◌≤◌, ◌∙◌}
 use Rattle.std.specs.Prelude.{◌==◌, if◌then◌else◌}
-use Rattle.image_builder.proofs.Names.{Bool, true, false, refl, IsOpened, One, Two}
 use Rattle.image_builder.proofs.Refusals.{accepted}
-
--- programs open the version of a description's image
-pub plan_opened : (d : Description) → IsOpened (plan_for d).version
-plan_opened d = by (d.layout == 2) where
-  by : (second : Bool) → IsOpened (if second then Two else One)
-  by true = refl
-  by false = refl
 
 module _ (d : Description) (hs : List ObjectHeader) (cs : List (Content Cap)) (laid : AreLaid d hs cs) where
   module _ (limits : IsWithinLimits d) (s : IsSoundDescription d) (old new : Disk) where

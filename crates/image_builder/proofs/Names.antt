@@ -1,4 +1,4 @@
--- The names that the proofs here import: from other crates, and from the definitions of this one.
+-- The names that the proofs here cite: of other crates, and of the definitions of this one.
 pub use Rattle.capability.specs.Consistency.{AreBanked, AreNamed, AreWholeProcesses}
 pub use Rattle.checkpoint.specs.Opened.{OnlyReads}
 pub use Rattle.checkpoint.specs.Saved.{Holds, SavedFrames, kept_of}
@@ -25,15 +25,16 @@ pub use Rattle.device.specs.Disk.{Disk, Image}
 pub use Rattle.device.specs.Moments.{LeavesOnly}
 pub use Rattle.image_writer.proofs.OldImages.{kept_holds_the_same, none_is_held}
 pub use Rattle.image_writer.specs.Written.{IsLeftWriting, first_saved, first_state, state_of}
-pub use Rattle.layout.specs.Directory.{IsDirectory, entry_at}
 pub use Rattle.layout.specs.Denoted.{Encodes}
+pub use Rattle.layout.specs.Directory.{IsDirectory, entry_at}
 pub use Rattle.layout.specs.Superblock.{Plan}
-pub use Rattle.layout.specs.Version.{IsOpened}
+pub use Rattle.layout.specs.Version.{row}
 pub use Rattle.layout.specs.declared.bad_image.BadImage.{BadImage}
 pub use Rattle.layout.specs.declared.bad_image.BadImage.TheVariants.{BadBank, BadCapability, BadProcess}
 pub use Rattle.layout.specs.declared.directory.Entry.{Entry}
+pub use Rattle.layout.specs.declared.header.CheckpointHeader.{CheckpointHeader}
 pub use Rattle.layout.specs.declared.open_fault.OpenFault.{OpenFault}
-pub use Rattle.layout.specs.declared.version.Version.TheVariants.{One, Two}
+pub use Rattle.layout.specs.declared.version.Row.{Row}
 pub use Rattle.migrator.specs.Durable.{DurableState, saved_by}
 unfoldable pub use Rattle.model.specs.Frame.{frames_in}
 pub use Rattle.model.specs.Keepable.{IsSoundFrames}
@@ -46,7 +47,7 @@ pub use Rattle.recovery.proofs.Denoted.{holds_one}
 pub use Rattle.recovery.proofs.Unsound.{sound_banked, sound_named}
 pub use Rattle.recovery.specs.Consistency.{IsInconsistent}
 pub use Rattle.recovery.specs.Denotes.{IsSoundSaved}
-pub use Rattle.std.proofs.Common.{Bool, List, ap, append_assoc, arith, drop, false, get_or, inl, inr, length, refl, rules, subst, suc, sym, true, zero, ℕ, ⊎_elim}
+pub use Rattle.std.proofs.Common.{List, ap, append_assoc, arith, drop, get_or, inl, inr, length, refl, rules, subst, suc, sym, zero, ℕ, ⊎_elim}
 pub use Rattle.std.proofs.lemmas.List.{append-nil, drop_all, drop_more}
 pub use Rattle.std.proofs.lemmas.Result.{err_from_is_err_and}
 pub use Rattle.std.specs.Prelude.{Err, IfErr, IfOk, IsErrOf, Ok, OnOk, Result, slice_index_or}
@@ -56,6 +57,7 @@ pub use Rattle.image_builder.specs.Built.{Builds, BuildsFrom, IsLeftOf}
 pub use Rattle.image_builder.specs.Checked.{IsLeftBuilding, IsRefusedEarly, IsSoundDescription}
 pub use Rattle.image_builder.specs.Names.{EndInZeros, SavedState, []}
 pub use Rattle.image_builder.specs.Upgraded.{IsLeftUpgrading, IsNotUpgraded, IsOnlyRead, IsOpenedFrom, IsWhole, Upgrades, WritesUpgraded, new_plan, upgraded}
+pub use Rattle.image_builder.specs.Upgraded.{version_in}
 unfoldable pub use Rattle.image_builder.specs.Upgraded.{numbered}
 pub use Rattle.image_builder.specs.declared.new_layout.NewLayout.{NewLayout}
 pub use Rattle.image_builder.specs.declared.upgrade_fault.UpgradeFault.{UpgradeFault}

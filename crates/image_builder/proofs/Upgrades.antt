@@ -3,12 +3,11 @@ use Rattle.image_builder.proofs.Names.{ℕ, List, length, ap, inl, inr, refl, su
 use Rattle.image_builder.proofs.Names.{Agrees, Elsewhere, LeavesOnly, agrees_is, OnlyNow, leaves_weaker, started, Entry, IsDirectory, Encodes, Plan, OpenFault}
 use Rattle.image_builder.proofs.Names.{OnlyReads, kept_of, new_plan, IsLeftWriting, state_of, kept_holds_the_same, none_is_held, IsSoundSaved, NewLayout}
 use Rattle.image_builder.proofs.Names.{UpgradeFault, IsLeftUpgrading, IsNotUpgraded, IsOnlyRead, Upgrades, numbered, upgraded, IfOk, holds_one, EndInZeros}
+use Rattle.image_builder.proofs.Names.{CheckpointHeader, row, version_in}
 use Rattle.layout.specs.Denoted.{SavedState}
-use Rattle.layout.specs.declared.header.CheckpointHeader.{CheckpointHeader}
-use Rattle.image_builder.proofs.Names.{IsOpened}
-use Rattle.image_builder.specs.declared.new_layout.NewLayout.TheVariants as layout
 use Rattle.std.proofs.Common.{◌≡◌, ◌<◌, ◌≤◌, ◌∙◌}
 use Rattle.std.specs.Prelude.{◌≢◌}
+use Rattle.image_builder.specs.declared.new_layout.NewLayout.TheVariants as layout
 use Rattle.layout.specs.declared.open_fault.OpenFault.TheVariants as opening
 use Rattle.image_builder.specs.declared.upgrade_fault.UpgradeFault.TheVariants as fault
 use Rattle.image_builder.proofs.Numbered.{directory_numbered, length_numbered}
@@ -25,36 +24,17 @@ module _ (image : Image) (size : ℕ) (s : SavedState) (is : Encodes image size 
   pub directory_count : length (numbered 0 s.directory) ≡ s.header.entries
   directory_count = length_numbered 0 s.directory ∙ is.directory.count ∙ ap (λ (h : CheckpointHeader). h.entries) is.same
 
--- programs open the version of the new image
-pub new_opened : (l : NewLayout) (p : Plan) → IsOpened p.version → IsOpened (new_plan l p).version
-new_opened layout.Newest p opened = refl
-new_opened layout.Kept p opened = opened
-
 -- the new image has the same state, at its new places
-pub same_state : (l : NewLayout) (s : SavedState) (p : Plan) (generation entries age : ℕ) (es : List Entry) (fs : List Frame) →
-    p ≡ new_plan l s.plan → generation ≡ s.header.generation → entries ≡ s.header.entries → age ≡ s.header.age
-    → es ≡ numbered 0 s.directory → fs ≡ s.frames → state_of p (record {
-      sequence = 0;
+pub same_state : (l : NewLayout) (s : SavedState) (p : Plan) (sequence generation entries age : ℕ) (es : List Entry) (fs : List Frame) →
+    p ≡ new_plan l s.plan → sequence ≡ (row (version_in l s.plan)).first_sequence → generation ≡ s.header.generation
+    → entries ≡ s.header.entries → age ≡ s.header.age → es ≡ numbered 0 s.directory → fs ≡ s.frames → state_of p (record {
+      sequence = sequence;
       generation = generation;
       entries = entries;
       age = age;
-    }) es fs ≡ upgraded
-    l s
-same_state l s p generation entries age es fs plan_is generation_is entries_is age_is directory_is frames_is =
-    ap (λ (q : Plan). state_of q (record { sequence = 0; generation = generation; entries = entries; age = age }) es fs) plan_is
-    ∙ ap (λ (n : ℕ). state_of (new_plan l s.plan) (record { sequence = 0; generation = n; entries = entries; age = age }) es fs)
-    generation_is
-    ∙ ap (λ (n : ℕ). state_of (new_plan l s.plan) (record { sequence = 0; generation = s.header.generation; entries = n; age = age }) es fs)
-    entries_is
-    ∙ ap (λ (n : ℕ). state_of (new_plan l s.plan) (record {
-      sequence = 0;
-      generation = s.header.generation;
-      entries = s.header.entries;
-      age = n;
-    }) es fs)
-    age_is
-    ∙ ap (λ (xs : List Entry). state_of (new_plan l s.plan) (record s.header { sequence = 0 }) xs fs) directory_is
-    ∙ ap (λ (xs : List Frame). state_of (new_plan l s.plan) (record s.header { sequence = 0 }) (numbered 0 s.directory) xs) frames_is
+    }) es fs ≡ upgraded l s
+same_state l s p sequence generation entries age es fs plan_is sequence_is generation_is entries_is age_is directory_is frames_is =
+    rw (plan_is, sequence_is, generation_is, entries_is, age_is, directory_is, frames_is) refl
 
 -- ---- results
 

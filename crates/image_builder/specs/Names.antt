@@ -1,4 +1,4 @@
--- The names of other crates that the definitions here import.
+-- The names of other crates that the definitions here cite.
 pub use Rattle.capability.specs.Parts.{Parts, frames_of}
 pub use Rattle.checkpoint.specs.Opened.{OnlyReads}
 pub use Rattle.checkpoint.specs.Saved.{Holds, SavedFrames, kept_of}
@@ -15,6 +15,7 @@ pub use Rattle.home_ranges.specs.Laid.{laid_again}
 pub use Rattle.image_writer.specs.Written.{EndInZeros, IsLeftWriting, first_saved, first_state}
 pub use Rattle.layout.specs.Denoted.{Encodes, SavedState}
 pub use Rattle.layout.specs.Superblock.{Plan}
+pub use Rattle.layout.specs.Version.{row}
 pub use Rattle.layout.specs.declared.directory.Entry.{Entry}
 pub use Rattle.layout.specs.declared.open_fault.OpenFault.{OpenFault}
 pub use Rattle.layout.specs.declared.version.Version.{Version}

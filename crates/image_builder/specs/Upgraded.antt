@@ -2,7 +2,7 @@
 use Rattle.image_builder.specs.Names.{ℕ, List, [], Disk, Image, Elsewhere, LeavesOnly, Entry, Plan, Version, Encodes}
 use Rattle.image_builder.specs.Names.{SavedState, OnlyReads, Holds, SavedFrames, kept_of, frames_of, Parts}
 use Rattle.image_builder.specs.Names.{DurableState, saved_by, laid_again, IsLeftWriting, IsSoundSaved, OpenFault}
-use Rattle.image_builder.specs.Names.{RefusesToOpen, Result, IfErr, IfOk, IsErrOf, OnOk, EndInZeros, Two}
+use Rattle.image_builder.specs.Names.{RefusesToOpen, Result, IfErr, IfOk, IsErrOf, OnOk, EndInZeros, Two, row}
 use Rattle.std.specs.Prelude.{◌≡◌, ◌≢◌, ◌⊎◌, ◌↔◌, ◌+◌, ◌<◌, ◌≤◌, ◌∷◌}
 use Rattle.layout.specs.declared.open_fault.OpenFault.TheVariants as opening
 use Rattle.image_builder.specs.declared.new_layout.NewLayout.{NewLayout}
@@ -24,17 +24,17 @@ version_in layout.Kept p = p.version
 abbrev pub new_plan : NewLayout → Plan → Plan
 new_plan l p = laid_again (version_in l p) p
 
--- the saved state in the new layout: at new places, with log slots in order and sequence number 0
+-- the saved state in the new layout: at new places, with log slots in order and the version's first sequence number
 abbrev pub upgraded : NewLayout → SavedState → SavedState
 upgraded l s = record {
   plan = new_plan l s.plan;
-  header = record s.header { sequence = 0 };
+  header = record s.header { sequence = (row (version_in l s.plan)).first_sequence };
   directory = numbered 0 s.directory;
   frames = s.frames;
 }
 
 -- the old device's saved state, which stands for a sound world, was written to a new device in the new layout. Zeros
--- follow the frames of each cluster. A crash leaves the same
+-- follow the frames of each cluster, and then its seal in a version with seals. A crash leaves the same
 pub record Upgrades (l : NewLayout) (old before new : Disk) : Type 0 where
   pub state : SavedState
   pub was : Encodes old.seen old.sectors state

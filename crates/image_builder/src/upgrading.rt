@@ -91,7 +91,7 @@ fn write_over<D: Device, E: Device>(
     }
     let checkpoint = saved.saved();
     let header = CheckpointHeader {
-        sequence: 0,
+        sequence: superblock.version().row().first_sequence,
         generation: checkpoint.generation,
         entries: checkpoint.entries,
         age: checkpoint.age,
@@ -254,9 +254,9 @@ pub fn upgrade_and_count<D: ClosableDevice, E: Device, S: WholeStore<D>>(
 /// Opens an old device as a kernel does, and writes its saved state to a new device in a new layout, over any
 /// content.
 ///
-/// The new image has the same frames, generation, entries, age and home ranges. The ranges lie from sector 5 on, the
-/// log slots are in order, and the sequence number is 0. After `Ok` a read of the new device returns that image, even
-/// after a crash. The old image may have the new version already.
+/// The new image has the same frames, generation, entries, age and home ranges. The ranges lie right after the header
+/// slots, the log slots are in order, and the sequence number is the version's first. After `Ok` a read of the new device
+/// returns that image, even after a crash. The old image may have the new version already.
 ///
 /// Returns:
 /// - `Old`: exactly if a kernel doesn't open the old device, with the reason, unless memory ran out;

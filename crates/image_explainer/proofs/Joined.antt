@@ -4,6 +4,9 @@ use Rattle.image_explainer.proofs.Names.{place_text}
 use Rattle.std.proofs.Common.{◌≡◌, ◌∷◌, ◌++◌}
 
 module _ (l a b m n : List ℕ) (first : m ≡ l ++ a) (second : n ≡ m ++ b) where
+  pub joined_2 : n ≡ l ++ (a ++ b)
+  joined_2 = grind (arith, nat_tests, append_assoc)
+
   module _ (c o : List ℕ) (third : o ≡ n ++ c) where
     pub joined_3 : o ≡ l ++ (a ++ b ++ c)
     joined_3 = grind (arith, nat_tests, append_assoc)

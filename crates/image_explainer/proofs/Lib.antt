@@ -1,13 +1,13 @@
 mod Names
-mod SectorCopies
 mod Directories
 mod Frames
 mod Headers
-mod Marks
+mod HeaderSlots
+mod Units
+mod Places
 mod Superblocks
+mod Marks
 pub mod OneReason
-pub mod Whole
-mod Copies
 mod Joined
 mod Matching
 mod Naming

@@ -3,7 +3,7 @@ use Rattle.image_explainer.proofs.Names.{nat_tests, ℕ, sym, subst, arith, Imag
 
 module _ (size : ℕ) (image : Image) (p : Plan) (plan : HasPlan image size p) where
   pub has_mark : HasMark (image 0)
-  has_mark = subst HasMark (sym plan.spelt) (marked p plan.fits.few plan.opened)
+  has_mark = subst HasMark (sym plan.spelt) (marked p plan.fits.few)
 
   pub not_small : IsTooSmall image size → ⊥
   not_small small = grind (arith, nat_tests, total_reported)

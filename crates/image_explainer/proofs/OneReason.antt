@@ -1,11 +1,7 @@
 -- Bad sectors have exactly one reason.
-use Rattle.image_explainer.proofs.Names.{ℕ, List, refl, sym, subst, Image, BadImage, Entry, HasBadDirectory}
-use Rattle.image_explainer.proofs.Names.{HasBadHeader, HasDirectory, HasHeader, HasNoHeader, HasPlan, IsBadBy, Plan, same_directory, same_header}
-use Rattle.image_explainer.proofs.Names.{same_plan, IsWhole, IsWholeFrame}
-use Rattle.layout.proofs.OneHeader.{none_committed}
-use Rattle.layout.specs.declared.sealed.header.SealedHeader.{SealedHeader}
-use Rattle.std.proofs.lemmas.Bool.{false≢true}
-use Rattle.std.proofs.Common.{inl, inr, ◌≡◌, ◌+◌, ◌<◌, ◌∙◌}
+use Rattle.image_explainer.proofs.Names.{ℕ, refl, subst, Image, BadImage, HasBadDirectory, HasBadHeader, HasHeader, HasNoHeader, HasPlan, IsBadBy, Plan}
+use Rattle.image_explainer.proofs.Names.{same_header, same_plan, none_committed, SealedHeader}
+use Rattle.std.proofs.Common.{◌≡◌}
 use Rattle.layout.specs.declared.bad_image.BadImage.TheVariants as bad
 use Rattle.image_explainer.proofs.Marks.{has_mark, not_small}
 
@@ -84,37 +80,3 @@ module _ (size : ℕ) (image : Image) where
   one_reason bad.BadProcess b x y = absurd x
   one_reason bad.BadBank b x y = absurd x
   one_reason a b x y = absurd y
-
-  -- all frames have an encoding
-  abbrev AreWhole : Plan → SealedHeader → List Entry → Type 0
-  AreWhole p h es = (n : ℕ) → n < p.geometry.nodes + p.geometry.pages → IsWholeFrame image p h.header es n
-
-  all_same : (p q : Plan) (g h : SealedHeader) (ds es : List Entry) → HasPlan image size p → HasPlan image size q →
-      HasHeader image p g → HasHeader image q h
-      → HasDirectory image p g ds → HasDirectory image q h es → AreWhole p g ds → AreWhole q h es
-  all_same p q g h ds es one other first second here there whole =
-      let plans : p ≡ q = same_plan image size p q one other in
-      let first_there : HasHeader image q g = subst (λ (x : Plan). HasHeader image x g) plans first in
-      let headers : g ≡ h = same_header image q g h first_there second in
-      let here_there : HasDirectory image q g ds = subst (λ (x : Plan). HasDirectory image x g ds) plans here in
-      let here_both : HasDirectory image q h ds = subst (λ (x : SealedHeader). HasDirectory image q x ds) headers here_there in
-      let directories : ds ≡ es = same_directory image q h ds es here_both there in
-      let whole_there : AreWhole q g ds = subst (λ (x : Plan). AreWhole x g ds) plans whole in
-      let whole_both : AreWhole q h ds = subst (λ (x : SealedHeader). AreWhole q x ds) headers whole_there in
-      subst (λ (x : List Entry). AreWhole q h x) directories whole_both
-
-  -- if an image has no flaw, no reason applies to it
-  pub whole_not_bad : (reason : BadImage) → IsWhole size image → IsBadBy image size reason → ⊥
-  whole_not_bad bad.Small w x = not_small size image w.0 w.3 x
-  whole_not_bad bad.NotASuperblock w x = x.1 (has_mark size image w.0 w.3)
-  whole_not_bad bad.BadGeometry w x = x.2 w.0 w.3.fits w.3.spelt
-  whole_not_bad bad.NoHeader w x = some_header x.0 w.0 w.1 x.1 w.3 w.4 x.2
-  whole_not_bad bad.BadHeader w x = good_header x.0 w.0 w.1 x.1 w.3 w.4 x.3
-  whole_not_bad bad.BadDirectory w x = same_both x.0 w.0 x.1 w.1 x.2 w.3 x.3 w.4 x.4 w.2 w.5
-  whole_not_bad bad.BadFrame w x =
-      let whole = all_same w.0 x.0 w.1 x.1 w.2 x.2 w.3 x.3 w.4 x.4 w.5 x.5 w.6 in
-      elim x.6 [
-        | inl n ↦ let frame = whole n.0 n.1 in n.2 frame.0 frame.1
-        | inr sealed ↦ false≢true (sym x.3.opened ∙ sealed.0)
-      ]
-  whole_not_bad other w x = absurd x

@@ -7,7 +7,7 @@ use Rattle.layout.specs.declared.open_fault.OpenFault.{OpenFault}
 use Rattle.checkpoint.specs.Opened.{OnlyReads}
 use Rattle.recovery.specs.Denotes.{Denotes}
 use Rattle.recovery.specs.Recovered.{IsBad, RefusesToOpen}
-use Rattle.kernel.specs.Opening.{IsNoReason}
+use Rattle.image_explainer.specs.SectorFinding.{IsNoReason}
 use Rattle.image_explainer.specs.declared.fault.ImageFault.{ImageFault}
 use Rattle.image_explainer.specs.Breaking.{Breaks, reason_of}
 

@@ -18,10 +18,14 @@ use Rattle.image_explainer.specs.declared.sectors.fault.HeaderPart.{HeaderPart}
 use Rattle.image_explainer.specs.declared.sectors.fault.HeaderPart.TheVariants as header
 use Rattle.image_explainer.specs.declared.sectors.fault.NotCounted.{NotCounted}
 use Rattle.image_explainer.specs.declared.sectors.fault.NotCounted.TheVariants as uncounted
+use Rattle.image_explainer.specs.declared.sectors.fault.NotPaired.{NotPaired}
+use Rattle.image_explainer.specs.declared.sectors.fault.NotPaired.TheVariants as unpaired
 use Rattle.image_explainer.specs.declared.sectors.fault.SectorFault.{SectorFault}
 use Rattle.image_explainer.specs.declared.sectors.fault.SectorFault.TheVariants as sectors
 use Rattle.image_explainer.specs.declared.sectors.fault.SuperblockPart.{SuperblockPart}
 use Rattle.image_explainer.specs.declared.sectors.fault.SuperblockPart.TheVariants as superblock
+use Rattle.image_explainer.specs.declared.sectors.fault.UnitPart.{UnitPart}
+use Rattle.image_explainer.specs.declared.sectors.fault.UnitPart.TheVariants as unit
 use Rattle.image_explainer.specs.declared.fault.ImageFault.{ImageFault}
 use Rattle.image_explainer.specs.declared.fault.ImageFault.TheVariants as fault
 use Rattle.image_explainer.specs.declared.fault.Misnamed.{Misnamed}
@@ -35,8 +39,9 @@ numbered word n = spaced (word ∷ decimal n ∷ [])
 
 abbrev pub superblock_text : SuperblockPart → List ℕ
 superblock_text superblock.Magic = codes "superblock: the magic is not EROSCKPT"
-superblock_text superblock.Version = codes "superblock: the version is not 1 or 2"
+superblock_text superblock.Version = codes "superblock: the version is not 1, 2 or 3"
 superblock_text superblock.Tail = codes "superblock: a byte from 256 on is not 0"
+superblock_text superblock.Seal = codes "superblock: the seal is wrong"
 
 abbrev pub geometry_text : GeometryPart → List ℕ
 geometry_text (geometry.Nodes n) = numbered (codes "superblock: nodes") n ++ codes " is not from 16 to 4096"
@@ -54,6 +59,20 @@ abbrev pub no_header_text : NotCounted → NotCounted → List ℕ
 no_header_text first second = codes "header 0" ++ not_counted_text first ++ codes ", and header 1" ++ not_counted_text
     second
 
+abbrev pub not_paired_text : NotPaired → List ℕ
+not_paired_text unpaired.Unnumbered = codes " has a gate without a number"
+not_paired_text unpaired.Unsound = codes " is not a sealed header"
+not_paired_text (unpaired.Misplaced sequence) = codes " has the number" ++ 32 ∷ decimal sequence ++ codes
+    " of another slot"
+not_paired_text (unpaired.Renumbered sequence gate) = codes " has number" ++ 32 ∷ decimal sequence ++ codes
+    " and gate" ++ 32 ∷ decimal gate
+not_paired_text (unpaired.Alone sequence) = codes " has the number" ++ 32 ∷ decimal sequence ++ codes
+    " and no neighbour"
+
+abbrev pub no_pair_text : NotPaired → NotPaired → NotPaired → List ℕ
+no_pair_text first second third = codes "header 0" ++ not_paired_text first ++ codes ", header 1" ++ not_paired_text
+    second ++ codes ", and header 2" ++ not_paired_text third
+
 abbrev pub header_part_text : HeaderPart → List ℕ
 header_part_text (header.Entries entries slots) = codes ": entries" ++ 32 ∷ decimal entries ++ codes
     " is above the slots" ++ 32 ∷ decimal slots
@@ -63,12 +82,16 @@ header_part_text (header.Generation generation age) = codes ": generation" ++ 32
 header_part_text (header.Sequence sequence age) = codes ": sequence number" ++ 32 ∷ decimal sequence ++ codes
     " is too great for the age" ++ 32 ∷ decimal age
 header_part_text header.Bytes = codes ": the magic is not EROSHEAD, or a byte is not 0"
+header_part_text (header.Lost n) = codes ": it is damaged, but its gate has the number" ++ 32 ∷ decimal n
 
 abbrev pub header_text : ℕ → HeaderPart → List ℕ
 header_text sector part = numbered (codes "header in sector") sector ++ header_part_text part
 
 -- the text of what is wrong with a directory; entries are numbered from 0
 abbrev pub directory_part_text : DirectoryPart → List ℕ
+directory_part_text entry.Unsealed = codes ": the seal is wrong"
+directory_part_text entry.Rest = codes ": a byte after its entries is not 0"
+directory_part_text entry.Sums = codes ": its seals do not add up to the sums in the header"
 directory_part_text (entry.Object k object) = numbered (codes ", entry") k ++ codes ": there is no object" ++ 32 ∷
     decimal object
 directory_part_text (entry.Slot k slot) = numbered (codes ", entry") k ++ codes ": there is no slot" ++ 32 ∷ decimal
@@ -80,6 +103,16 @@ directory_part_text (entry.Shared j k slot) = numbered (codes ", entry") k ++ co
 
 abbrev pub directory_text : ℕ → DirectoryPart → List ℕ
 directory_text sector part = numbered (codes "directory in sector") sector ++ directory_part_text part
+
+abbrev pub unit_part_text : Bool → UnitPart → List ℕ
+unit_part_text is_page unit.Unsealed = codes ": the seal is wrong"
+unit_part_text is_page unit.Rest =
+    if is_page then codes ": its header sector does not have the sums of its words"
+    else codes ": a byte after its frames is not 0"
+
+abbrev pub unit_text : ℕ → Bool → UnitPart → List ℕ
+unit_text number is_page part = numbered (if is_page then codes "page" else codes "cluster of node") number ++
+    unit_part_text is_page part
 
 abbrev pub frame_part_text : FramePart → List ℕ
 frame_part_text (frame.Allocations count age) = codes ": allocation count" ++ 32 ∷ decimal count ++ codes
@@ -142,8 +175,11 @@ sectors_text (sectors.Small size needed) = numbered (codes "there are") size ++ 
 sectors_text (sectors.Superblock part) = superblock_text part
 sectors_text (sectors.Geometry part) = geometry_text part
 sectors_text (sectors.NoHeader first second) = no_header_text first second
+sectors_text (sectors.NoPair first second third) = no_pair_text first second third
 sectors_text (sectors.Header sector part) = header_text sector part
 sectors_text (sectors.Directory sector part) = directory_text sector part
+sectors_text (sectors.Unit number is_page part) = unit_text number is_page part
+sectors_text sectors.Root = codes "the clusters and pages do not add up to the root in the header"
 sectors_text (sectors.Frame number is_page part) = frame_text number is_page part
 
 abbrev pub place_text : ImageFault → List ℕ

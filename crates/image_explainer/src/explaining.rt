@@ -1,24 +1,22 @@
 // Finding why an image is refused, and where.
-ghost use Rattle.std.specs.Prelude.{◌≡◌, ◌↔◌, ◌*◌, ◌≤◌, length, IfErr, IfOk};
-ghost use Rattle.layout.specs.declared.bad_image.BadImage.{BadImage};
+ghost use Rattle.std.specs.Prelude.{◌≡◌, ◌↔◌, length, IfErr, IfOk};
 ghost use Rattle.layout.specs.Denoted.{IsBadBy};
 ghost use Rattle.layout.specs.Fault.{CountsOpen};
 ghost use Rattle.checkpoint.specs.Opened.{Refuses};
 ghost use Rattle.layout.specs.Calls.{ReadsOnly};
 ghost use Rattle.image_explainer.specs.SectorBreaking.{IsFault};
 ghost use Rattle.checkpoint.specs.Store.{OpensStore};
-ghost use Rattle.kernel.specs.Opening.{IsNoReason};
+ghost use Rattle.image_explainer.specs.SectorFinding.{IsNoReason};
 ghost use Rattle.image_explainer.specs.Explained.{Explains};
 
 use crate::fault::ImageFault;
 use crate::objects::find_in_objects;
-use crate::{SectorFault, find_in_sectors};
+use crate::sectors::{SectorFault, find_place};
 use checkpoint::{ObjectStore, OpenFault};
-use device::{Device, SECTOR_SIZE};
-use layout::{Entry, MAX_LOG, Scratch};
+use device::Device;
+use layout::{BadImage, Entry, MAX_LOG, Scratch};
 use migrator::WholeStore;
 use std::alloc::{AllocError, Global};
-use std::ops::ControlFlow;
 
 // Returns what is wrong with the objects of a store, and the store's device.
 fn explain_objects<D: Device, S: WholeStore<D>>(
@@ -38,78 +36,52 @@ fn explain_objects<D: Device, S: WholeStore<D>>(
     }
 }
 
-// Reserves memory for a copy of `size` sectors, for a directory and for a frame.
-fn reserve(alloc: Global, size: u64) -> Result<(Vec<u8>, Vec<Entry>, Scratch), AllocError>
-    requires { size ≤ 131072 }
-    ensures copy { IfOk result (λ three. length three.0.items ≡ 512 * size) }
-    ensures entries { IfOk result (λ three. length three.1.items ≡ 4096) }
+// Reserves memory for a directory and for a frame.
+fn reserve(alloc: Global) -> Result<(Vec<Entry>, Scratch), AllocError>
+    ensures { IfOk result (λ two. length two.0.items ≡ 4096) }
 {
-    let copy = vec![in alloc; 0; size as usize * SECTOR_SIZE]?;
     let entries = vec![in alloc; Entry { object: 0, slot: 0 }; MAX_LOG]?;
-    let scratch = Scratch::new(alloc)?;
-    Ok((copy, entries, scratch))
+    Ok((entries, Scratch::new(alloc)?))
 }
 
-// Copies a device's sectors into `copy`, and returns what is wrong with them.
-fn find_in_copy<D: Device>(
+// Returns what is wrong with the sectors of a device to which this reason applies.
+fn find_on<D: Device>(
+    alloc: Global,
     device: &mut D,
-    copy: &mut [u8],
-    entries: &mut [Entry],
-    scratch: &mut Scratch,
+    reason: BadImage,
 ) -> Result<SectorFault, OpenFault>
-    requires bad { (reason : BadImage) × IsBadBy (D.disk device.old).seen (D.disk device.old).sectors reason }
-    requires copy { length copy.old ≡ 512 * (D.disk device.old).sectors }
-    requires entries { length entries.old ≡ 4096 }
+    requires { IsBadBy (D.disk device.old).seen (D.disk device.old).sectors reason }
     ensures found { IfOk result (IsFault (D.disk device.old).sectors (D.disk device.old).seen) }
     ensures refused { IfErr result IsNoReason }
     ensures reads { ReadsOnly (D.disk device.old) (D.disk device.new) }
     ensures cause { CountsOpen (D.disk device.old) (D.disk device.new) result }
 {
-    let size = device.sectors();
-    match device.read(0, copy) {
-        Err(_) => return Err(OpenFault::Failed),
-        Ok(()) => {}
-    }
-    match find_in_sectors(copy, size, entries, scratch) {
-        ControlFlow::Continue(()) => unreachable!(),
-        ControlFlow::Break(fault) => Ok(fault),
-    }
-}
-
-// Copies a device's sectors into new memory, and returns what is wrong with them.
-fn find_on<D: Device>(alloc: Global, device: &mut D) -> Result<SectorFault, OpenFault>
-    requires { (reason : BadImage) × IsBadBy (D.disk device.old).seen (D.disk device.old).sectors reason }
-    ensures found { IfOk result (IsFault (D.disk device.old).sectors (D.disk device.old).seen) }
-    ensures refused { IfErr result IsNoReason }
-    ensures reads { ReadsOnly (D.disk device.old) (D.disk device.new) }
-    ensures cause { CountsOpen (D.disk device.old) (D.disk device.new) result }
-{
-    let size = device.sectors();
-    let Ok((copy, entries, scratch)) = reserve(alloc, size) else {
+    let Ok((entries, scratch)) = reserve(alloc) else {
         return Err(OpenFault::NoMemory);
     };
-    let (mut copy, mut entries, mut scratch) = (copy, entries, scratch);
-    find_in_copy(device, &mut copy, &mut entries, &mut scratch)
+    let (mut entries, mut scratch) = (entries, scratch);
+    find_place(device, reason, &mut entries, &mut scratch)
 }
 
-// Returns what is wrong with the sectors of a device to which one of the reasons 1 to 7 applies, and the device.
+// Returns what is wrong with the sectors of a device to which this reason applies, and the device.
 fn explain_sectors<D: Device>(
     alloc: Global,
     device: D,
+    reason: BadImage,
 ) -> (Result<Option<ImageFault>, OpenFault>, D)
-    requires { (reason : BadImage) × IsBadBy (D.disk device).seen (D.disk device).sectors reason }
-    ensures { (before : D) (reason : BadImage) → Refuses D.disk before device (OpenFault.Bad reason)
+    requires { IsBadBy (D.disk device).seen (D.disk device).sectors reason }
+    ensures { (before : D) → Refuses D.disk before device (OpenFault.Bad reason)
         → Explains D.disk before result.1 result.0 }
 {
     let mut device = device;
-    match find_on(alloc, &mut device) {
+    match find_on(alloc, &mut device, reason) {
         Ok(fault) => (Ok(Some(ImageFault::Sectors(fault))), device),
         Err(fault) => (Err(fault), device),
     }
 }
 
 /// Returns why the image on a device is refused, or `None` if a kernel opens it. The fault has the least reason that
-/// applies, of ten, and the first place where it does. Copies the sectors into memory.
+/// applies, of ten, and the first place where it does.
 ///
 /// Returns the device too, and writes nothing to it. Returns `Failed` exactly if the device failed, and `NoMemory` if
 /// memory ran out; never `Bad`.
@@ -124,7 +96,7 @@ pub fn explain<D: Device, S: WholeStore<D>>(
     match S::open(alloc, device, setting, &mut None) {
         Ok(store) => explain_objects(alloc, store),
         Err(refused) => match refused.fault {
-            OpenFault::Bad(_) => explain_sectors(alloc, refused.device),
+            OpenFault::Bad(reason) => explain_sectors(alloc, refused.device, reason),
             OpenFault::Failed | OpenFault::NoMemory => (Err(refused.fault), refused.device),
         },
     }

@@ -15,6 +15,6 @@ pub use explaining::explain;
 pub use fault::{ImageFault, Misnamed, Unmatched};
 pub use laws::images_are_bad_for_one_reason;
 pub use sectors::{
-    DirectoryPart, FramePart, GeometryPart, HeaderPart, NotCounted, SectorFault, SuperblockPart,
-    find_in_sectors,
+    DirectoryPart, FramePart, GeometryPart, HeaderPart, NotCounted, NotPaired, SectorFault,
+    SuperblockPart, UnitPart,
 };

@@ -1,14 +1,16 @@
-// Finding what is wrong with the sectors of an image, and where: reasons 1 to 7.
+// Finding the place of what is wrong with the sectors of an image: reasons 1 to 7.
 mod directory;
 mod fault;
 mod finding;
 mod frame;
 mod header;
-mod place;
 mod reading;
+mod slots;
 mod superblock;
+mod unit;
 
 pub use fault::{
-    DirectoryPart, FramePart, GeometryPart, HeaderPart, NotCounted, SectorFault, SuperblockPart,
+    DirectoryPart, FramePart, GeometryPart, HeaderPart, NotCounted, NotPaired, SectorFault,
+    SuperblockPart, UnitPart,
 };
-pub use finding::find_in_sectors;
+pub(crate) use finding::find_place;

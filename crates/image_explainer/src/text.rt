@@ -4,13 +4,15 @@ ghost use Rattle.image_explainer.specs.Text.{fault_text, holder_text, kind_text,
 ghost use Rattle.image_explainer.specs.Text.{place_text, sectors_text, unbanked_text, unmatched_text};
 ghost use Rattle.image_explainer.specs.Text.{directory_part_text, directory_text, frame_part_text, frame_text};
 ghost use Rattle.image_explainer.specs.Text.{geometry_text, header_part_text, header_text, no_header_text};
-ghost use Rattle.image_explainer.specs.Text.{not_counted_text, numbered, superblock_text};
+ghost use Rattle.image_explainer.specs.Text.{no_pair_text, not_counted_text, not_paired_text, numbered};
+ghost use Rattle.image_explainer.specs.Text.{superblock_text, unit_text};
 ghost use Rattle.image_explainer.specs.Breaking.{reason_of};
 ghost use Rattle.image_explainer.specs.SectorBreaking.{sector_reason};
 
 use crate::fault::{ImageFault, Misnamed, Unmatched};
 use crate::{
-    DirectoryPart, FramePart, GeometryPart, HeaderPart, NotCounted, SectorFault, SuperblockPart,
+    DirectoryPart, FramePart, GeometryPart, HeaderPart, NotCounted, NotPaired, SectorFault,
+    SuperblockPart, UnitPart,
 };
 use layout::BadImage;
 use model::{Capability, Role};
@@ -24,8 +26,9 @@ fn superblock_line(part: SuperblockPart) -> LineText
 {
     match part {
         SuperblockPart::Magic => LineText::new(b"superblock: the magic is not EROSCKPT"),
-        SuperblockPart::Version => LineText::new(b"superblock: the version is not 1 or 2"),
+        SuperblockPart::Version => LineText::new(b"superblock: the version is not 1, 2 or 3"),
         SuperblockPart::Tail => LineText::new(b"superblock: a byte from 256 on is not 0"),
+        SuperblockPart::Seal => LineText::new(b"superblock: the seal is wrong"),
     }
 }
 
@@ -85,6 +88,48 @@ fn no_header_line(first: NotCounted, second: NotCounted) -> LineText
     line
 }
 
+// Appends why the header of a slot is in no pair.
+fn add_not_paired(line: &mut LineText, why: NotPaired)
+    requires { length line.old ≤ 170 }
+    ensures text { line.new ≡ line.old ++ not_paired_text why }
+    ensures short { length line.new ≤ length line.old + 62 }
+{
+    match why {
+        NotPaired::Unnumbered => line.push(b" has a gate without a number"),
+        NotPaired::Unsound => line.push(b" is not a sealed header"),
+        NotPaired::Misplaced(sequence) => {
+            line.push(b" has the number");
+            line.number(sequence);
+            line.push(b" of another slot");
+        }
+        NotPaired::Renumbered { sequence, gate } => {
+            line.push(b" has number");
+            line.number(sequence);
+            line.push(b" and gate");
+            line.number(gate);
+        }
+        NotPaired::Alone(sequence) => {
+            line.push(b" has the number");
+            line.number(sequence);
+            line.push(b" and no neighbour");
+        }
+    }
+}
+
+// Returns the line that says why no two headers are a pair.
+fn no_pair_line(first: NotPaired, second: NotPaired, third: NotPaired) -> LineText
+    ensures text { result ≡ no_pair_text first second third }
+    ensures short { length result ≤ 220 }
+{
+    let mut line = LineText::new(b"header 0");
+    add_not_paired(&mut line, first);
+    line.push(b", header 1");
+    add_not_paired(&mut line, second);
+    line.push(b", and header 2");
+    add_not_paired(&mut line, third);
+    line
+}
+
 // Appends what is wrong with a header.
 fn add_header_part(line: &mut LineText, part: HeaderPart)
     requires { length line.old ≤ 40 }
@@ -116,6 +161,10 @@ fn add_header_part(line: &mut LineText, part: HeaderPart)
             line.number(age);
         }
         HeaderPart::Bytes => line.push(b": the magic is not EROSHEAD, or a byte is not 0"),
+        HeaderPart::Lost(number) => {
+            line.push(b": it is damaged, but its gate has the number");
+            line.number(number);
+        }
     }
 }
 
@@ -144,20 +193,24 @@ fn add_order(line: &mut LineText, entry: u64, object: u64, before: u64)
     line.push(b" of the entry before");
 }
 
-// Appends what is wrong with an entry of a directory.
+// Appends what is wrong with a directory or with an entry of it.
 fn add_entry(line: &mut LineText, part: DirectoryPart)
     requires { length line.old ≤ 60 }
     ensures text { line.new ≡ line.old ++ directory_part_text part }
     ensures short { length line.new ≤ 200 }
 {
-    line.push(b", entry");
     match part {
+        DirectoryPart::Unsealed => line.push(b": the seal is wrong"),
+        DirectoryPart::Rest => line.push(b": a byte after its entries is not 0"),
+        DirectoryPart::Sums => line.push(b": its seals do not add up to the sums in the header"),
         DirectoryPart::Object { entry, object } => {
+            line.push(b", entry");
             line.number(entry);
             line.push(b": there is no object");
             line.number(object);
         }
         DirectoryPart::Slot { entry, slot } => {
+            line.push(b", entry");
             line.number(entry);
             line.push(b": there is no slot");
             line.number(slot);
@@ -166,12 +219,16 @@ fn add_entry(line: &mut LineText, part: DirectoryPart)
             entry,
             object,
             before,
-        } => add_order(line, entry, object, before),
+        } => {
+            line.push(b", entry");
+            add_order(line, entry, object, before);
+        }
         DirectoryPart::Shared {
             first,
             second,
             slot,
         } => {
+            line.push(b", entry");
             line.number(second);
             line.push(b": slot");
             line.number(slot);
@@ -188,6 +245,23 @@ fn directory_line(sector: u64, part: DirectoryPart) -> LineText
 {
     let mut line = LineText::numbered(b"directory in sector", sector);
     add_entry(&mut line, part);
+    line
+}
+
+// Returns the line about a cluster or a page frame.
+fn unit_line(number: u64, is_page: bool, part: UnitPart) -> LineText
+    ensures text { result ≡ unit_text number is_page part }
+    ensures short { length result ≤ 150 }
+{
+    let kind: &[u8] = if is_page { b"page" } else { b"cluster of node" };
+    let mut line = LineText::numbered(kind, number);
+    match part {
+        UnitPart::Unsealed => line.push(b": the seal is wrong"),
+        UnitPart::Rest if is_page => {
+            line.push(b": its header sector does not have the sums of its words")
+        }
+        UnitPart::Rest => line.push(b": a byte after its frames is not 0"),
+    }
     line
 }
 
@@ -379,8 +453,17 @@ fn sectors_line(fault: SectorFault) -> LineText
         SectorFault::Superblock(part) => superblock_line(part),
         SectorFault::Geometry(part) => geometry_line(part),
         SectorFault::NoHeader(first, second) => no_header_line(first, second),
+        SectorFault::NoPair(first, second, third) => no_pair_line(first, second, third),
         SectorFault::Header { sector, part } => header_line(sector, part),
         SectorFault::Directory { sector, part } => directory_line(sector, part),
+        SectorFault::Unit {
+            number,
+            is_page,
+            part,
+        } => unit_line(number, is_page, part),
+        SectorFault::Root => {
+            LineText::new(b"the clusters and pages do not add up to the root in the header")
+        }
         SectorFault::Frame {
             number,
             is_page,
@@ -397,9 +480,10 @@ fn sector_reason_of(fault: SectorFault) -> BadImage
         SectorFault::Small { .. } => BadImage::Small,
         SectorFault::Superblock(_) => BadImage::NotASuperblock,
         SectorFault::Geometry(_) => BadImage::BadGeometry,
-        SectorFault::NoHeader(..) => BadImage::NoHeader,
+        SectorFault::NoHeader(..) | SectorFault::NoPair(..) => BadImage::NoHeader,
         SectorFault::Header { .. } => BadImage::BadHeader,
         SectorFault::Directory { .. } => BadImage::BadDirectory,
+        SectorFault::Unit { .. } | SectorFault::Root => BadImage::BadFrame,
         SectorFault::Frame { .. } => BadImage::BadFrame,
     }
 }

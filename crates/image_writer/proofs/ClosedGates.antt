@@ -1,50 +1,112 @@
--- While both gates are closed, no header is committed, whatever is written to other sectors.
-use Rattle.image_writer.proofs.Names.{ℕ, inl, inr, ⊎_elim, arith, Disk, Image, Elsewhere, IsTorn, LeavesOnly, leaves_on, leaves_weaker, WritesAt, AreClosed}
-use Rattle.image_writer.proofs.Names.{SparesRest, WasKeptOrHasNone, none_committed, IsBeforeOrNone, LeavesClosed}
-use Rattle.std.proofs.Common.{◌≡◌, ◌⊎◌, ◌+◌, ◌≤◌}
+-- While all gates are closed, no header is committed, whatever is written to other sectors.
+use Rattle.image_writer.proofs.Names.{ℕ, true, sym, subst, arith, inl, inr, Disk, Image, Elsewhere, IsTorn, Tears, LeavesOnly, leaves_on, leaves_weaker, Plan}
+use Rattle.image_writer.proofs.Names.{Version, row, gate_place, header_place, IsClosedBy, HaveHeaders, IsShut, LeavesShut, header_before, SealedHeader}
+use Rattle.image_writer.proofs.Names.{sealed_header_bytes, cases_lt, One, Two, Three, first_some, opening_stays}
+use Rattle.std.proofs.Common.{◌≡◌, ◌+◌, ◌-◌, ◌*◌, ◌<◌, ◌≤◌, ◌∙◌}
 
--- the n sectors from `at` on don't contain a gate: they lie before sector 2, or from sector 5 on
-abbrev pub AreBeside : ℕ → ℕ → Type 0
-AreBeside at n = (at + n ≤ 2) ⊎ (5 ≤ at)
+-- ---- writes beside the superblock and the gates
 
-spared : (at n : ℕ) (old new : Image) → AreBeside at n → Elsewhere at n old new → (new 2 ≡ old 2) × (new 4 ≡ old 4)
-spared at n old new is change = search arith
+-- the superblock and all gates of a version are unchanged
+pub record Spares (v : Version) (old new : Image) : Type 0 where
+  pub superblock : new 0 ≡ old 0
+  pub gates : (k : ℕ) → k < (row v).header_slots → new (gate_place v k) ≡ old (gate_place v k)
 
-pub still_closed : (at n : ℕ) (old new : Image) → AreBeside at n → Elsewhere at n old new → AreClosed old → AreClosed new
-still_closed at n old new beside change closed = search (arith, spared)
+-- the n sectors from `at` on contain neither the superblock nor a gate
+abbrev pub AreBeside : Version → ℕ → ℕ → Type 0
+AreBeside v at n = (old new : Image) → Elsewhere at n old new → Spares v old new
 
-torn_closed : (at n : ℕ) (disk : Disk) → AreBeside at n → LeavesClosed disk → (c : Image) → IsTorn at n disk c → AreClosed c
-torn_closed at n disk beside closed c torn = still_closed at n torn.0 c beside torn.2 (closed torn.0 torn.1)
+-- homes and log lie so
+pub behind_all : (v : Version) (at n : ℕ) → (row v).first_home ≤ at → AreBeside v at n
+behind_all v at n behind old new change =
+    let some = first_some v in
+    record {
+      superblock = change.before 0 (omega (arith, some, behind));
+      gates = (opening_stays v at n old new behind change).gates;
+    }
+
+-- gates lie before the homes
+pub gates_before : (v : Version) (k : ℕ) → k < (row v).header_slots → gate_place v k < (row v).first_home
+gates_before One k lt = omega (arith, lt)
+gates_before Two k lt = omega (arith, lt)
+gates_before Three k lt = omega (arith, lt)
+
+-- a sector that is neither
+one_kept : (at i : ℕ) (old new : Image) → Elsewhere at 1 old new → (i ≡ at → ⊥) → new i ≡ old i
+one_kept at i old new change other = elim (cases_lt i at) [
+  | inl lt ↦ change.before i lt
+  | inr le ↦ change.after i (omega (arith, le, other))
+]
+
+-- headers lie so
+pub header_beside : (v : Version) (k : ℕ) → AreBeside v (header_place v k) 1
+header_beside One k old new change = record {
+  superblock = one_kept (1 * (1 + 2 * k)) 0 old new change (λ e. omega (arith, e));
+  gates = λ j lt. one_kept (1 * (1 + 2 * k)) (1 * (2 + 2 * j)) old new change (λ e. omega (arith, e));
+}
+header_beside Two k old new change = record {
+  superblock = one_kept (1 * (1 + 2 * k)) 0 old new change (λ e. omega (arith, e));
+  gates = λ j lt. one_kept (1 * (1 + 2 * k)) (1 * (2 + 2 * j)) old new change (λ e. omega (arith, e));
+}
+header_beside Three k old new change = record {
+  superblock = one_kept (8 * (1 + 2 * k)) 0 old new change (λ e. omega (arith, e));
+  gates = λ j lt. one_kept (8 * (1 + 2 * k)) (8 * (2 + 2 * j)) old new change (λ e. omega (arith, e));
+}
+
+still_shut : (p : Plan) (old new : Image) → Spares p.version old new → IsShut p old → IsShut p new
+still_shut p old new spares was = record {
+  superblock = spares.superblock ∙ was.superblock;
+  gates = λ k lt. subst (IsClosedBy (row p.version).sealed) (sym (spares.gates k lt)) (was.gates k lt);
+}
+
+torn_shut : (p : Plan) (at n : ℕ) (disk : Disk) → AreBeside p.version at n → LeavesShut p disk → (c : Image) →
+    IsTorn at n disk c → IsShut p c
+torn_shut p at n disk beside shut c torn = still_shut p torn.0 c (beside torn.0 c torn.2) (shut torn.0 torn.1)
 
 -- a write of such sectors leaves the gates closed
-pub leaves_closed : (at n : ℕ) {old new : Disk} → AreBeside at n → LeavesClosed old → WritesAt at n old new → LeavesClosed new
-leaves_closed at n {old} {new} beside closed writes = λ c left. torn_closed at n old beside closed c (writes.crash c left)
+pub leaves_shut : (p : Plan) (at n : ℕ) (old new : Disk) → AreBeside p.version at n → LeavesShut p old →
+    Tears at n old new → LeavesShut p new
+leaves_shut p at n old new beside shut crash = λ c left. torn_shut p at n old beside shut c (crash c left)
 
 -- at each moment of such a write, a crash leaves the gates closed
-pub closed_run : (at n : ℕ) {old new : Disk} → AreBeside at n → LeavesClosed old → WritesAt at n old new →
-    LeavesOnly old new (λ c. AreClosed c)
-closed_run at n {old} {new} beside closed writes = search (arith, leaves_weaker, torn_closed)
+pub shut_run : (p : Plan) (at n : ℕ) {old new : Disk} → AreBeside p.version at n → LeavesShut p old →
+    LeavesOnly old new (λ c. IsTorn at n old c) → LeavesOnly old new (λ c. IsShut p c)
+shut_run p at n {old} {new} beside shut run =
+    leaves_weaker {old = old} {new = new} {P = λ c. IsTorn at n old c} (λ c. IsShut p c) (torn_shut p at n old beside shut) run
 
 -- one more such write after a run leaves the gates closed
-pub closed_on : (at n : ℕ) {old mid new : Disk} → LeavesOnly old mid (λ c. AreClosed c) → AreBeside at n → LeavesClosed mid →
-    WritesAt at n mid new → LeavesOnly old new (λ c. AreClosed c)
-closed_on at n {old} {mid} {new} first beside closed writes = search (arith, leaves_on, closed_run)
+pub shut_on : (p : Plan) (at n : ℕ) {old mid new : Disk} → LeavesOnly old mid (λ c. IsShut p c) → AreBeside p.version at n →
+    LeavesShut p mid → LeavesOnly mid new (λ c. IsTorn at n mid c) → LeavesOnly old new (λ c. IsShut p c)
+shut_on p at n {old} {mid} {new} first beside shut run =
+    leaves_on {old = old} {mid = mid} {new = new} {P = λ c. IsShut p c} first (shut_run p at n {old = mid} {new = new} beside shut run)
 
--- ---- the whole call
+-- ---- headers
 
-before_or_none : (disk : Disk) (c : Image) → WasKeptOrHasNone disk c → IsBeforeOrNone disk c
-before_or_none disk c (d, left, kept) = ⊎_elim (λ same. inl (d, left, record { elsewhere = kept.elsewhere; committed = same })) inr
-    kept.committed
+-- headers lie between the superblock and the homes, in the first 56 sectors
+pub headers_low : (v : Version) (k : ℕ) → k < (row v).header_slots →
+    (0 < header_place v k) × (header_place v k < (row v).first_home) × (header_place v k < 56)
+headers_low One k lt = (omega arith, omega (arith, lt), omega (arith, lt))
+headers_low Two k lt = (omega arith, omega (arith, lt), omega (arith, lt))
+headers_low Three k lt = (omega arith, omega (arith, lt), omega (arith, lt))
 
--- while the gates are being closed, a crash leaves the old committed header or none
-pub closing : {old new : Disk} → LeavesOnly old new (λ c. WasKeptOrHasNone old c) → LeavesOnly old new (λ c. IsBeforeOrNone old c)
-closing {old} {new} run = search (arith, leaves_weaker, before_or_none)
+-- so a change of one is a change before the homes
+pub header_within : (v : Version) (k : ℕ) (old new : Image) → k < (row v).header_slots → Elsewhere (header_place v k) 1 old new →
+    Elsewhere 1 ((row v).first_home - 1) old new
+header_within v k old new lt change =
+    let low = headers_low v k lt in
+    record {
+      before = λ i less. change.before i (omega (arith, less, low.0));
+      after = λ i le. change.after i (omega (arith, le, low.1));
+    }
 
--- if all writes follow the closing of the gates, a crash leaves the old committed header or none
-pub after_closing : {old mid new : Disk} → LeavesOnly old mid (λ c. IsBeforeOrNone old c) → LeavesOnly mid new (λ c. AreClosed c) →
-    LeavesOnly old new (λ c. IsBeforeOrNone old c)
-after_closing {old} {mid} {new} first second = search (arith, leaves_on, leaves_weaker, none_committed)
+-- with seals, the second header is written after the first
+pub both_written : (v : Version) (mid new : Image) (h : SealedHeader) → (row v).sealed ≡ true →
+    mid (header_place v 1) ≡ sealed_header_bytes (header_before h) → Elsewhere (header_place v 2) 1 mid new →
+    new (header_place v 2) ≡ sealed_header_bytes h → HaveHeaders true h new
+both_written One mid new h sealed first change second = absurd (cc sealed)
+both_written Two mid new h sealed first change second = absurd (cc sealed)
+both_written Three mid new h sealed first change second = (change.before 24 (omega arith) ∙ first, second)
 
--- a change of the gates alone is one within the first `total` sectors
-pub gates_within : (total : ℕ) (old new : Image) → 5 ≤ total → SparesRest old new → Elsewhere 0 total old new
-gates_within total old new enough spares = search arith
+pub some_slots : (v : Version) → 0 < (row v).header_slots
+some_slots One = omega arith
+some_slots Two = omega arith
+some_slots Three = omega arith

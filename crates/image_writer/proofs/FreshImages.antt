@@ -1,124 +1,253 @@
--- A fresh image denotes its saved state once its gate is open.
-use Rattle.image_writer.proofs.Names.{inl, inr, ℕ, Bool, true, false, List, [], length, Some, Result, refl, ap, arith, OnOk, Frame, Geometry, frame_at}
-use Rattle.image_writer.proofs.Names.{AreKeepable, object_count, Disk, Image, LeavesOnly, leaves_on, leaves_weaker, Agrees, Elsewhere, agrees_is, Entry}
-use Rattle.image_writer.proofs.Names.{CheckpointHeader, IsDirectory, directory_bytes, frame_bytes, is_open, IsHeader, header_bytes, Encodes, HasNoHeader}
-use Rattle.image_writer.proofs.Names.{committed_of, committed_bytes, directory_in, does_count, frame_in, sectors_from, sequence_in, Plan, IsPlan, half_within}
-use Rattle.image_writer.proofs.Names.{same_sectors, places_within, AreClosed, none_committed, Holds, SavedFrames, kept_of, half_behind, sequences_reported}
-use Rattle.image_writer.proofs.Names.{frames_behind, HasOpeningSectors, IsBeforeOrNone, IsLeftWriting, IsWritten, first_header, state_of, subst, sym, entry_at}
-use Rattle.image_writer.proofs.Names.{home_place, place_length, slot_sector, EndsInZeros, EndInZeros, IsOpened}
-use Rattle.std.proofs.Common.{◌≡◌, ◌⊎◌, ◌^◌, ◌<◌, ◌≤◌, ◌+◌, ◌-◌, ◌%◌, ◌∙◌}
+-- A fresh image denotes its saved state once its gates are open.
+use Rattle.image_writer.proofs.Names.{ℕ, Bool, List, [], length, true, false, Some, Result, inl, inr, refl, ap, sym, subst, arith, OnOk, Frame, Geometry}
+use Rattle.image_writer.proofs.Names.{AreKeepable, Disk, Image, LeavesOnly, leaves_on, leaves_weaker, Agrees, Elsewhere, agrees_is, Entry, entry_at}
+use Rattle.image_writer.proofs.Names.{CheckpointHeader, IsDirectory, IsHeader, Encodes, Plan, IsPlan, Version, row, half_within, Holds, SavedFrames, kept_of}
+use Rattle.image_writer.proofs.Names.{home_place, place_length, slot_sector, same_sectors, places_begin, header_bytes, is_open, committed_of, does_count}
+use Rattle.image_writer.proofs.Names.{sequence_in, sequences_reported, Ends, AreOpenBy, EndInZeros, GatesAreClosed, HasNoHeader, HasNoneBy, HaveHeaders}
+use Rattle.image_writer.proofs.Names.{IsBeforeOrNone, IsLeftWriting, IsWritten, SparesBy, first_header, header_before, state_of, ⊎_elim, cases_Bool, CommitsIf}
+use Rattle.image_writer.proofs.Names.{CommitsUnsealed, SealedHeader, One, Two, Three, one_plan, half_has, numbered_gate_bytes, header_numbers}
+use Rattle.image_writer.proofs.Names.{sealed_header_bytes, AreWords, IsReady, plain_first, plain_sequence, sealed_is, encoded, words_of}
+use Rattle.std.proofs.Common.{◌≡◌, ◌⊎◌, ◌^◌, ◌≤◌, ◌+◌, ◌%◌, ◌∙◌}
 use Rattle.std.specs.Prelude.{◌==◌, ◌&&◌}
-use Rattle.std.proofs.lemmas.Bool.{false≢true}
-use Rattle.layout.specs.Denoted.{AreEntriesIf, sums_if}
-use Rattle.ckpt_log.proofs.AnyVersions.{plain_from, plain_sequence}
-use Rattle.ckpt_log.proofs.CommittedHeaders.{plain, plain_words}
-use Rattle.image_writer.proofs.SlotFrames.{frame_low, half_low, slot_behind}
+use Rattle.layout.specs.Committed.{Commits}
+use Rattle.ckpt_log.proofs.Closings.{none_committed as none_plain}
+use Rattle.image_writer.proofs.OldImages.{KeptBehind, ready_kept}
+use Rattle.image_writer.proofs.SealedPair.{either, written}
+use Rattle.image_writer.proofs.SlotFrames.{slot_behind}
+
+-- an image of a valid superblock has room for the header slots of each version
+pub enough : (p : Plan) → IsPlan p → 56 ≤ p.total
+enough p fits =
+    let within = half_within p 0 fits in
+    let slots = half_has p.version p.geometry in
+    omega (arith, within.0, within.1, slots, fits.geometry.least_log)
+
+-- ---- versions without seals: one gate
 
 -- if the first header counts, and the second doesn't, the first is committed
 first_alone : (first second : Bool) (m n : ℕ) → first ≡ true → second ≡ false → committed_of first m second n ≡ Some 0
 first_alone first second m n is isnt = rw (is, isnt) refl
 
--- an image of a valid superblock has at least five sectors
-pub five : (p : Plan) → IsPlan p → 5 ≤ p.total
-five p fits = let within = half_within p 0 fits in omega (arith, within.0, within.1)
+module _ (p : Plan) (h : SealedHeader) (es : List Entry) (frames : List Frame) (old c : Image) (is : IsWritten p h es frames old)
+    (plain : (row p.version).sealed ≡ false) (first : h.header.sequence ≡ 0) (change : SparesBy false old c) where
+  plain_header : c 1 ≡ header_bytes h.header
+  plain_header =
+      change 1 (λ e. omega (arith, e))
+      ∙ subst (λ (b : Bool). HaveHeaders b h old) plain is.headers
 
--- a change of the first gate keeps all sectors from 5 on
-behind : (at n : ℕ) (old new : Image) → 5 ≤ at → Elsewhere 2 1 old new → sectors_from new at n ≡ sectors_from old at n
-behind at n old new low change = same_sectors at n old new (λ i lt. change.after (at + i) (omega (arith, low)))
+  second_closed : is_open (c 4) ≡ false
+  second_closed =
+      ap is_open (change 4 (λ e. omega (arith, e))) ∙ gate_at p.version old plain is.shut.gates where
+        gate_at : (v : Version) (i : Image) → (row v).sealed ≡ false → GatesAreClosed v i → is_open (i 4) ≡ false
+        gate_at One i e closed = closed 1 (omega arith)
+        gate_at Two i e closed = closed 1 (omega arith)
+        gate_at Three i e closed = absurd (cc e)
 
-module _ (p : Plan) (h : CheckpointHeader) (es : List Entry) (frames : List Frame) (old new : Image) (is : IsWritten p h es frames old)
-    (first : h.sequence ≡ 0)
-    (change : Elsewhere 2 1 old new) (gate : is_open (new 2) ≡ true) where
-  header_is : new 1 ≡ header_bytes h
-  header_is = change.before 1 (omega arith) ∙ is.opening.header
-
-  header_counts : does_count (new 1) (new 2) 0 ≡ true
-  header_counts = search (arith, header_is, sequences_reported)
-
-  other_does_not : does_count (new 3) (new 4) 1 ≡ false
-  other_does_not = ap (λ (open' : Bool). open' && (sequence_in (new 3) % 2 == 1))
-      (ap is_open (change.after 4 (omega arith)) ∙ is.closed.second)
-
-  committed : committed_bytes new ≡ Some (header_bytes h)
-  committed = search (arith, first_alone, header_counts, other_does_not, header_is)
-
-  directory_stays : (n : ℕ) → directory_in new p h.generation n ≡ directory_in old p h.generation n
-  directory_stays n = search (arith, half_low, behind)
-
-  frame_stays : (a : ℕ) → a < object_count p.geometry → frame_in new p h.generation es a ≡ frame_in old p h.generation es a
-  frame_stays a lt = search (arith, behind, frame_low)
-
-  pub denotes : (size : ℕ) → IsHeader 0 p.geometry.log h → IsDirectory p.geometry es → length es ≡ h.entries → p.total ≤ size →
-      AreKeepable p.geometry h.age frames → Encodes new size (state_of p h es frames)
-  denotes size header directory count whole keepable =
-      let enough = five p is.plan in
+  plain_commits : is_open (c 2) ≡ true → CommitsUnsealed c h
+  plain_commits gate =
+      let counts : does_count (c 1) (c 2) 0 ≡ true = search (arith, plain_header, sequences_reported) in
+      let other : does_count (c 3) (c 4) 1 ≡ false =
+      ap (λ (open' : Bool). open' && (sequence_in (c 3) % 2 == 1)) second_closed in
       record {
-        plan = record {
-          opened = is.opened;
-          least = omega (arith, enough, whole);
-          whole = whole;
-          fits = is.plan;
-          spelt = change.before 0 (omega arith) ∙ is.opening.superblock;
-        };
-        commit = plain h;
-        same = refl;
-        header = record {
-          committed = plain_from p.version is.opened new (plain h)
-              (record { spelt = committed; sums = record { root = refl; directory = refl }; fits = plain_words h header });
-          fits = subst (λ (least : ℕ). IsHeader least p.geometry.log h) (sym (plain_sequence p.version is.opened)) header;
-        };
-        directory = record {
-          count = count;
-          fits = directory;
-          spelt = subst (λ (b : Bool). AreEntriesIf b new p h.generation es) (sym is.opened)
-              (directory_stays (length es) ∙ is.directory);
-          sums = ap (λ (b : Bool). sums_if b es) is.opened;
-        };
-        count = keepable.count;
-        each = λ a lt. (keepable.each a lt, frame_stays a lt ∙ is.placed a lt);
-        units = λ sealed. absurd (false≢true (sym is.opened ∙ sealed));
+        spelt = search (arith, first_alone, counts, other, plain_header);
+        sums = is.fits.plain plain;
+        fits = is.fits.words;
       }
 
--- ---- while the gate is being opened
+  plain_none : is_open (c 2) ≡ false → HasNoneBy false c
+  plain_none gate = none_plain c (record { first = gate; second = second_closed })
 
--- a torn gate is open, and then the whole image is there; or it is closed
-module _ (p : Plan) (h : CheckpointHeader) (es : List Entry) (frames : List Frame) (old c : Image) (is : IsWritten p h es frames old)
-    (first : h.sequence ≡ 0)
-    (change : Elsewhere 2 1 old c) (size : ℕ) (header : IsHeader 0 p.geometry.log h)
-    (directory : IsDirectory p.geometry es) (count : length es ≡ h.entries) (whole : p.total ≤ size)
-    (keepable : AreKeepable p.geometry h.age frames) where
-  opening_by : (b : Bool) → is_open (c 2) ≡ b → HasNoHeader c ⊎ Holds size c (kept_of (state_of p h es frames))
-  opening_by true gate = inr (
-    state_of p h es frames,
-    denotes p h es frames old c is first change gate size header directory count whole
-        keepable,
-    refl,
-  )
-  opening_by false gate = inl (none_committed c (record {
-    first = gate;
-    second = ap is_open (change.after 4 (omega arith))
-        ∙ is.closed.second;
-  }))
+  plain_behind : KeptBehind p.version old c
+  plain_behind =
+      let start = plain_first p.version plain in
+      record {
+        superblock = change 0 (λ e. omega (arith, e));
+        behind = λ i low. change i (λ e. omega (arith, e, low, start));
+      }
 
-  opening : HasNoHeader c ⊎ Holds size c (kept_of (state_of p h es frames))
-  opening = opening_by (is_open (c 2)) refl
+-- ---- versions with seals: two gates
 
--- before the gate is opened, a crash leaves the old image or no committed header
-pub not_yet : {old mid : Disk} (saved : SavedFrames) → LeavesOnly old mid (λ c. IsBeforeOrNone old c) →
+module _ (p : Plan) (h : SealedHeader) (es : List Entry) (frames : List Frame) (old c : Image) (is : IsWritten p h es frames old)
+    (sealed : (row p.version).sealed ≡ true) (number : h.header.sequence ≡ 2) (change : SparesBy true old c) where
+  both_headers : HaveHeaders true h old
+  both_headers = subst (λ (b : Bool). HaveHeaders b h old) sealed is.headers
+
+  words_before : AreWords (header_numbers (header_before h))
+  words_before =
+      let w = is.fits.words in
+      words_of (header_before h) (omega arith) (w 2 0 (omega arith)) (w 3 0 (omega arith)) (w 4 0 (omega arith)) (w 5 0 (omega arith))
+      (w 6 0 (omega arith)) (w 7 0 (omega arith)) (w 8 0 (omega arith)) (w 9 0 (omega arith)) (w 10 0 (omega arith))
+
+  first_there : c 24 ≡ sealed_header_bytes (header_before h)
+  first_there = change 24 (λ e. omega (arith, e)) (λ e. omega (arith, e)) ∙ both_headers.0
+
+  second_there : c 40 ≡ sealed_header_bytes h
+  second_there = change 40 (λ e. omega (arith, e)) (λ e. omega (arith, e)) ∙ both_headers.1
+
+  gate_closed : c 16 ≡ numbered_gate_bytes 0
+  gate_closed =
+      change 16 (λ e. omega (arith, e)) (λ e. omega (arith, e)) ∙ gate_at p.version old sealed is.shut.gates where
+        gate_at : (v : Version) (i : Image) → (row v).sealed ≡ true → GatesAreClosed v i → i 16 ≡ numbered_gate_bytes 0
+        gate_at One i e closed = absurd (cc e)
+        gate_at Two i e closed = absurd (cc e)
+        gate_at Three i e closed = closed 0 (omega arith)
+
+  sealed_either : CommitsIf true c h ⊎ HasNoneBy true c
+  sealed_either = either c h is.fits.words words_before number first_there second_there gate_closed
+
+  sealed_commits : AreOpenBy true c → CommitsIf true c h
+  sealed_commits opened = written c h is.fits.words words_before number first_there second_there gate_closed opened.0 opened.1
+
+  sealed_behind : KeptBehind p.version old c
+  sealed_behind =
+      let start = ap (λ (v : Version). (row v).first_home) (sealed_is p.version sealed) in
+      record {
+        superblock = change 0 (λ e. omega (arith, e)) (λ e. omega (arith, e));
+        behind = λ i low. change i (λ e. omega (arith, e, low, start)) (λ e. omega (arith, e, low, start));
+      }
+
+-- ---- all versions
+
+module _ (p : Plan) (h : SealedHeader) (es : List Entry) (frames : List Frame) (old c : Image) (is : IsWritten p h es frames old)
+    (first : h.header.sequence ≡ (row p.version).first_sequence) where
+  commits_by : (b : Bool) → (row p.version).sealed ≡ b → SparesBy b old c → CommitsIf b c h ⊎ HasNoneBy b c
+  commits_by true sealed change =
+      let number = first ∙ ap (λ (v : Version). (row v).first_sequence) (sealed_is p.version sealed) in
+      sealed_either p h es frames old c is sealed number change
+  commits_by false plain change =
+      elim (cases_Bool (is_open (c 2))) [
+        | inl gate ↦ inl (plain_commits p h es frames old c is plain (first ∙ plain_sequence p.version plain) change gate)
+        | inr gate ↦ inr (plain_none p h es frames old c is plain (first ∙ plain_sequence p.version plain) change gate)
+      ]
+
+  opened_by : (b : Bool) → (row p.version).sealed ≡ b → SparesBy b old c → AreOpenBy b c → CommitsIf b c h
+  opened_by true sealed change opened =
+      let number = first ∙ ap (λ (v : Version). (row v).first_sequence) (sealed_is p.version sealed) in
+      sealed_commits p h es frames old c is sealed number change opened
+  opened_by false plain change opened =
+      plain_commits p h es frames old c is plain (first ∙ plain_sequence p.version plain) change opened
+
+  behind_by : (b : Bool) → (row p.version).sealed ≡ b → SparesBy b old c → KeptBehind p.version old c
+  behind_by true sealed change =
+      let number = first ∙ ap (λ (v : Version). (row v).first_sequence) (sealed_is p.version sealed) in
+      sealed_behind p h es frames old c is sealed number change
+  behind_by false plain change = plain_behind p h es frames old c is plain (first ∙ plain_sequence p.version plain) change
+
+  module _ (change : SparesBy (row p.version).sealed old c) where
+    pub behind : KeptBehind p.version old c
+    behind = behind_by (row p.version).sealed refl change
+
+    named_here : HasNoneBy (row p.version).sealed c → HasNoHeader c
+    named_here none q fits spelt =
+        let same : q ≡ p = one_plan q p fits is.plan (sym spelt ∙ behind.superblock ∙ is.shut.superblock) in
+        subst (λ (r : Plan). HasNoneBy (row r.version).sealed c) (sym same) none
+
+    module _ (size : ℕ) (header : IsHeader (row p.version).first_sequence p.geometry.log h.header) (directory : IsDirectory p.geometry es)
+        (count : length es ≡ h.header.entries) (whole : p.total ≤ size) (keepable : AreKeepable p.geometry h.header.age frames) where
+      ready : IsReady old size (state_of p h.header es frames) h
+      ready =
+          let least = enough p is.plan in
+          record {
+            same = refl;
+            plan = record { least = omega (arith, least, whole); whole = whole; fits = is.plan; spelt = is.shut.superblock };
+            header = header;
+            directory = record { count = count; fits = directory; spelt = is.parts.directory; sums = is.parts.sums };
+            count = keepable.count;
+            each = λ a lt. (keepable.each a lt, is.parts.placed a lt);
+            units = is.parts.units;
+          }
+
+      denotes_if : Commits p.version c h → Encodes c size (state_of p h.header es frames)
+      denotes_if commits = encoded (ready_kept old c size (state_of p h.header es frames) h behind ready) commits
+
+      -- after the gates are opened, the image denotes the state
+      pub denotes : AreOpenBy (row p.version).sealed c → Encodes c size (state_of p h.header es frames)
+      denotes opened = denotes_if (opened_by (row p.version).sealed refl change opened)
+
+      -- while the gates are being opened, it denotes the state, or no header is committed
+      pub opening : HasNoHeader c ⊎ Holds size c (kept_of (state_of p h.header es frames))
+      opening =
+          ⊎_elim (λ commits. inr (state_of p h.header es frames, denotes_if commits, refl)) (λ none. inl (named_here none))
+          (commits_by (row p.version).sealed refl change)
+
+-- opening the gates keeps the zeros of all clusters
+pub still_zeros : (p : Plan) (generation : ℕ) (es : List Entry) (old new : Image) → IsPlan p → KeptBehind p.version old new →
+    EndInZeros p generation es old → EndInZeros p generation es new
+still_zeros p generation es old new fits kept zeros = record {
+  home = λ a lt.
+      let begins = places_begin p a fits lt in
+      subst (Ends p a) (sym (same_sectors (home_place p a) (place_length p a) old new
+      (λ i inside. kept.behind (home_place p a + i) (omega (arith, begins)))))
+      (zeros.home a lt);
+  slots = λ j lt.
+      let at = slot_sector p generation (entry_at es j).slot in
+      let n : ℕ = (entry_at es j).object in
+      let begins = slot_behind p generation (entry_at es j).slot fits in
+      subst (Ends p n) (sym (same_sectors at (place_length p n) old new (λ i inside. kept.behind (at + i) (omega (arith, begins)))))
+      (zeros.slots j lt);
+}
+
+-- all parts of an image with this header are written; the header that will be committed has its sums
+abbrev pub IsWrittenFor : Plan → CheckpointHeader → List Entry → List Frame → Image → Type 0
+IsWrittenFor p header es frames image = (h : SealedHeader) × (h.header ≡ header) × IsWritten p h es frames image
+
+module _ (p : Plan) (header : CheckpointHeader) (es : List Entry) (frames : List Frame) (old : Image)
+    (is : IsWrittenFor p header es frames old) (first : header.sequence ≡ (row p.version).first_sequence) (size : ℕ)
+    (limits : IsHeader (row p.version).first_sequence p.geometry.log header) (directory : IsDirectory p.geometry es)
+    (count : length es ≡ header.entries) (whole : p.total ≤ size) (keepable : AreKeepable p.geometry header.age frames) (c : Image)
+    (change : SparesBy (row p.version).sealed old c) where
+  abbrev h : SealedHeader
+  h = is.0
+
+  number : h.header.sequence ≡ (row p.version).first_sequence
+  number = ap (λ (x : CheckpointHeader). x.sequence) is.1 ∙ first
+
+  fits : IsHeader (row p.version).first_sequence p.geometry.log h.header
+  fits = subst (λ (x : CheckpointHeader). IsHeader (row p.version).first_sequence p.geometry.log x) (sym is.1) limits
+
+  entries : length es ≡ h.header.entries
+  entries = count ∙ ap (λ (x : CheckpointHeader). x.entries) (sym is.1)
+
+  kept : AreKeepable p.geometry h.header.age frames
+  kept = subst (λ (x : CheckpointHeader). AreKeepable p.geometry x.age frames) (sym is.1) keepable
+
+  pub denotes_for : AreOpenBy (row p.version).sealed c → Encodes c size (state_of p header es frames)
+  denotes_for opened =
+      subst (λ (x : CheckpointHeader). Encodes c size (state_of p x es frames)) is.1
+      (denotes p h es frames old c is.2 number change size fits directory entries whole kept opened)
+
+  pub opening_for : HasNoHeader c ⊎ Holds size c (kept_of (state_of p header es frames))
+  opening_for =
+      subst (λ (x : CheckpointHeader). HasNoHeader c ⊎ Holds size c (kept_of (state_of p x es frames))) is.1
+      (opening p h es frames old c is.2 number change size fits directory entries whole kept)
+
+  pub zeros_for : EndInZeros p header.generation es c
+  zeros_for =
+      subst (λ (x : CheckpointHeader). EndInZeros p x.generation es c) is.1
+      (still_zeros p h.header.generation es old c is.2.plan (behind p h es frames old c is.2 number change) is.2.parts.zeros)
+
+-- ---- runs
+
+-- before the gates are opened, a crash leaves the old image or no committed header
+pub not_yet : (old mid : Disk) (saved : SavedFrames) → LeavesOnly old mid (λ c. IsBeforeOrNone old c) →
     LeavesOnly old mid (λ c. IsLeftWriting old saved c)
-not_yet {old} {mid} saved run = search (arith, leaves_weaker)
+not_yet old mid saved run =
+    leaves_weaker {old = old} {new = mid} {P = λ c. IsBeforeOrNone old c} (λ c. IsLeftWriting old saved c)
+    (λ c is. ⊎_elim (λ was. inl was) (λ none. inr (inl none)) is) run
 
--- while the gate is being opened, a crash leaves the new image or no committed header
-pub opening_run : (p : Plan) (h : CheckpointHeader) (es : List Entry) (frames : List Frame) {old mid new : Disk} →
-    IsWritten p h es frames mid.seen → h.sequence ≡ 0 → IsHeader 0 p.geometry.log h → IsDirectory p.geometry es → length es ≡ h.entries
-    → p.total ≤ old.sectors → AreKeepable p.geometry h.age frames
-    → LeavesOnly old mid (λ c. IsBeforeOrNone old c) → LeavesOnly mid new (λ c. Elsewhere 2 1 mid.seen c) →
-    LeavesOnly old new (λ c. IsLeftWriting old (kept_of (state_of p h es frames)) c)
-opening_run p h es frames {old} {mid} {new} is first_header header directory count whole keepable first second =
-    leaves_on {old = old} {mid = mid} {new = new} {P = λ c. IsLeftWriting old (kept_of (state_of p h es frames)) c}
-    (not_yet {old = old} {mid = mid} (kept_of (state_of p h es frames)) first)
-    (leaves_weaker {old = mid} {new = new} {P = λ c. Elsewhere 2 1 mid.seen c} (λ c. IsLeftWriting old (kept_of (state_of p h es frames)) c)
-    (λ c change. inr (opening p h es frames mid.seen c is first_header change old.sectors header directory count whole keepable)) second)
+-- while the gates are being opened, a crash leaves the new image or no committed header
+pub opening_run : (p : Plan) (header : CheckpointHeader) (es : List Entry) (frames : List Frame) (old mid new : Disk) →
+    IsWrittenFor p header es frames mid.seen → header.sequence ≡ (row p.version).first_sequence →
+    IsHeader (row p.version).first_sequence p.geometry.log header → IsDirectory p.geometry es → length es ≡ header.entries
+    → p.total ≤ old.sectors → AreKeepable p.geometry header.age frames
+    → LeavesOnly old mid (λ c. IsBeforeOrNone old c) → LeavesOnly mid new (λ c. SparesBy (row p.version).sealed mid.seen c) →
+    LeavesOnly old new (λ c. IsLeftWriting old (kept_of (state_of p header es frames)) c)
+opening_run p header es frames old mid new is number limits directory count whole keepable first second =
+    leaves_on {old = old} {mid = mid} {new = new} {P = λ c. IsLeftWriting old (kept_of (state_of p header es frames)) c}
+    (not_yet old mid (kept_of (state_of p header es frames)) first)
+    (leaves_weaker {old = mid} {new = new} {P = λ c. SparesBy (row p.version).sealed mid.seen c}
+    (λ c. IsLeftWriting old (kept_of (state_of p header es frames)) c)
+    (λ c change. inr (opening_for p header es frames mid.seen is number old.sectors limits directory count whole keepable c change)) second)
 
 -- ---- a fresh image has no entries
 
@@ -126,8 +255,8 @@ pub no_directory : (g : Geometry) → IsDirectory g []
 no_directory g = search arith
 
 -- the first header is within the limits
-pub header_fits : (room age : ℕ) → age ≤ 2 ^ 62 → IsHeader 0 room (first_header age)
-header_fits room age most = record {
+pub header_fits : (v : Version) (room age : ℕ) → age ≤ 2 ^ 62 → IsHeader (row v).first_sequence room (first_header v age)
+header_fits v room age most = record {
   entries = omega arith;
   age = most;
   generation = omega arith;
@@ -142,40 +271,6 @@ pub durable_is : {T E : Type 0} (result : Result T E) (left P : Image → Type 0
     OnOk result ((c : Image) → left c → Agrees c seen) → OnOk result ((c : Image) → left c → P c)
 durable_is {T} {E} result left P seen is only = search (arith, agrees_is)
 
--- after a sync, all parts of the image are written
-pub all_written : (p : Plan) (h : CheckpointHeader) (es : List Entry) (frames : List Frame) (front behind now : Image) → IsPlan p →
-    IsOpened p.version → HasOpeningSectors p h front → Elsewhere 5 (p.total - 5) front behind
-    → directory_in behind p h.generation (length es) ≡ directory_bytes es →
-    ((a : ℕ) → a < object_count p.geometry → frame_in behind p h.generation es a ≡ frame_bytes p.geometry a (frame_at frames a))
-    → EndInZeros p h.generation es behind → AreClosed behind → Agrees now behind → IsWritten p h es frames now
-all_written p h es frames front behind now fits opened has change directory placed zeros closed same =
-    let e : now ≡ behind = agrees_is now behind same in
-    record {
-      plan = fits;
-      opened = opened;
-      opening = record {
-        superblock = ap (λ (i : Image). i 0) e ∙ change.before 0 (omega arith) ∙ has.superblock;
-        header = ap (λ (i : Image). i 1) e ∙ change.before 1 (omega arith) ∙ has.header;
-      };
-      closed = subst AreClosed (sym e) closed;
-      directory = ap (λ (i : Image). directory_in i p h.generation (length es)) e ∙ directory;
-      placed = λ a lt. ap (λ (i : Image). frame_in i p h.generation es a) e ∙ placed a lt;
-      zeros = subst (EndInZeros p h.generation es) (sym e) zeros;
-    }
-
--- opening the gate keeps the zeros of all clusters
-pub still_zeros : (p : Plan) (generation : ℕ) (es : List Entry) (old new : Image) → IsPlan p → Elsewhere 2 1 old new →
-    EndInZeros p generation es old → EndInZeros p generation es new
-still_zeros p generation es old new fits change zeros = record {
-  home = λ a lt. subst (EndsInZeros p a) (sym (behind (home_place p a) (place_length p a) old new (places_within p a fits lt).0 change))
-      (zeros.home a lt);
-  slots = λ j lt.
-      let at = slot_sector p generation (entry_at es j).slot in
-      let n : ℕ = (entry_at es j).object in
-      subst (EndsInZeros p n) (sym (behind at (place_length p n) old new (slot_behind p generation (entry_at es j).slot fits) change))
-      (zeros.slots j lt);
-}
-
 -- ---- sectors of the image
 
 -- a change of sectors within the total is a change within the image
@@ -184,3 +279,16 @@ widened total at n old new inside change = record {
   before = λ i lt. absurd (omega (arith, lt));
   after = λ i le. change.after i (omega (arith, le, inside));
 }
+
+gates_by : (b : Bool) (total : ℕ) (old new : Image) → 56 ≤ total → SparesBy b old new → Elsewhere 0 total old new
+gates_by false total old new least spares = record {
+  before = λ i lt. absurd (omega (arith, lt));
+  after = λ i le. spares i (λ e. omega (arith, e, le, least));
+}
+gates_by true total old new least spares = record {
+  before = λ i lt. absurd (omega (arith, lt));
+  after = λ i le. spares i (λ e. omega (arith, e, le, least)) (λ e. omega (arith, e, le, least));
+}
+
+pub gates_within : (p : Plan) (old new : Image) → IsPlan p → SparesBy (row p.version).sealed old new → Elsewhere 0 p.total old new
+gates_within p old new fits spares = gates_by (row p.version).sealed p.total old new (enough p fits) spares

@@ -1,76 +1,107 @@
 -- Which saved frames an image holds while its gates are being closed.
-use Rattle.image_writer.proofs.Names.{ℕ, Bool, None, Some, List, length, ap, sym, subst, arith, Image, Entry, directory_in, frame_in, sectors_from, Plan, IsPlan}
-use Rattle.image_writer.proofs.Names.{same_sectors, KeepsImage, Holds, SavedFrames, KeptHoldsTheSame, NoneIsHeld, Encodes, header_bytes, frame_at}
-use Rattle.std.proofs.Common.{◌≡◌, ◌+◌, ◌<◌, ◌≤◌, ◌∙◌}
-use Rattle.std.proofs.lemmas.Bool.{false≢true}
-use Rattle.layout.specs.Committed.{CommitsUnsealed, option_at}
-use Rattle.layout.specs.Denoted.{AreEntriesIf, SavedState}
-use Rattle.layout.specs.Frame.{IsFrameOf}
-use Rattle.ckpt_log.proofs.AnyVersions.{plain_from, plain_to}
-use Rattle.image_writer.proofs.SlotFrames.{frame_low, half_low}
+use Rattle.image_writer.proofs.Names.{ℕ, Bool, List, None, Some, true, false, ap, sym, subst, arith, Image, Plan, IsPlan, Version, row, header_bytes, Holds}
+use Rattle.image_writer.proofs.Names.{SavedFrames, KeptHoldsTheSame, NoneIsHeld, Encodes, KeepsAs, KeepsImage, SameHeaderBy, HasNoneBy, frames_behind}
+use Rattle.image_writer.proofs.Names.{places_begin, half_behind, Entry, CommitsIf, option_at, SavedState, IsFrameOf, place_length, directory_sector}
+use Rattle.image_writer.proofs.Names.{frame_sector, directory_length, SealedHeader, IsReady, SameBlocks, SameFrom, encoded, same_directory, same_frames}
+use Rattle.image_writer.proofs.Names.{same_units, frame_at}
+use Rattle.std.proofs.Common.{◌≡◌, ◌+◌, ◌≤◌, ◌∙◌}
+use Rattle.image_writer.proofs.OldGates.{gates_low, superblock_stays}
+use Rattle.image_writer.proofs.ClosedGates.{gates_before}
 
-module _ (old new : Image) (kept : KeepsImage old new) where
-  -- the sectors from 5 on are unchanged
-  behind : (at n : ℕ) → 5 ≤ at → sectors_from new at n ≡ sectors_from old at n
-  behind at n low = same_sectors at n old new (λ i lt. kept.elsewhere (at + i) (λ is. omega (arith, low, is))
-      (λ is. omega (arith, low, is)))
+-- ---- a state whose header slots change
 
-  same_directory : (p : Plan) (generation n : ℕ) → IsPlan p → directory_in new p generation n ≡ directory_in old p generation n
-  same_directory p generation n fits = search (arith, half_low, behind)
+-- the superblock, and all sectors behind the header slots, are unchanged
+pub record KeptBehind (v : Version) (old new : Image) : Type 0 where
+  pub superblock : new 0 ≡ old 0
+  pub behind : (i : ℕ) → (row v).first_home ≤ i → new i ≡ old i
 
-  same_frame : (p : Plan) (generation : ℕ) (es : List Entry) (object : ℕ) → IsPlan p → object < p.geometry.nodes + p.geometry.pages →
-      frame_in new p generation es object ≡ frame_in old p generation es object
-  same_frame p generation es object fits lt = search (arith, behind, frame_low)
+pub same_from : {v : Version} {old new : Image} (at n : ℕ) → KeptBehind v old new → (row v).first_home ≤ at → SameFrom at n old new
+same_from at n kept low i lt = kept.behind (at + i) (omega (arith, low))
 
-  encodes : (size : ℕ) (s : SavedState) → Encodes old size s → Encodes new size s
-  encodes size s is =
-      let v = s.plan.version in
-      let opened = is.plan.opened in
-      let was : CommitsUnsealed old is.commit = plain_to v opened old is.commit is.header.committed in
-      let generation = is.commit.header.generation in
-      record {
-        plan = record {
-          opened = opened;
-          least = is.plan.least;
-          whole = is.plan.whole;
-          fits = is.plan.fits;
-          spelt = kept.elsewhere 0 (λ e. omega (arith, e)) (λ e. omega (arith, e)) ∙ is.plan.spelt;
-        };
-        commit = is.commit;
-        same = is.same;
-        header = record {
-          committed = plain_from v opened new is.commit
-              (record { spelt = kept.committed ∙ was.spelt; sums = was.sums; fits = was.fits });
-          fits = is.header.fits;
-        };
-        directory = record {
-          count = is.directory.count;
-          fits = is.directory.fits;
-          spelt =
-              subst (λ (b : Bool). AreEntriesIf b new s.plan generation s.directory) (sym opened)
-              (same_directory s.plan generation (length s.directory) is.plan.fits
-              ∙ subst (λ (b : Bool). AreEntriesIf b old s.plan generation s.directory) opened is.directory.spelt);
-          sums = is.directory.sums;
-        };
-        count = is.count;
-        each = λ object lt.
-            subst (λ (bytes : List ℕ). IsFrameOf s.plan.geometry s.header.age object bytes (frame_at s.frames object))
-            (sym (same_frame s.plan s.header.generation s.directory object is.plan.fits lt)) (is.each object lt);
-        units = λ sealed. absurd (false≢true (sym opened ∙ sealed));
-      }
+pub kept_blocks : (p : Plan) (generation : ℕ) (es : List Entry) (old new : Image) → IsPlan p → KeptBehind p.version old new →
+    SameBlocks p generation es old new
+kept_blocks p generation es old new fits kept object lt =
+    same_from (frame_sector p generation es object) (place_length p object) kept
+    (frames_behind p generation es object fits (places_begin p object fits lt))
 
-  holds : (size : ℕ) (saved : SavedFrames) → Holds size old saved → Holds size new saved
-  holds size saved (s, is, same) = (s, encodes size s is, same)
+pub ready_kept : (old new : Image) (size : ℕ) (s : SavedState) (h : SealedHeader) → KeptBehind s.plan.version old new →
+    IsReady old size s h → IsReady new size s h
+ready_kept old new size s h kept was =
+    let half = half_behind s.plan h.header.generation was.plan.fits in
+    let blocks = kept_blocks s.plan s.header.generation s.directory old new was.plan.fits kept in
+    record {
+      same = was.same;
+      plan = record {
+        least = was.plan.least;
+        whole = was.plan.whole;
+        fits = was.plan.fits;
+        spelt = kept.superblock ∙ was.plan.spelt;
+      };
+      header = was.header;
+      directory = same_directory old new s.plan h s.directory
+          (same_from (directory_sector s.plan h.header.generation) (directory_length s.plan.version h.header.entries) kept
+          (omega (arith, half))) was.directory;
+      count = was.count;
+      each = λ object lt.
+          subst (λ (bytes : List ℕ). IsFrameOf s.plan.geometry s.header.age object bytes (frame_at s.frames object))
+          (sym (same_frames old new s.plan s.header s.directory object (blocks object lt))) (was.each object lt);
+      units = λ is. same_units old new s.plan h.root s.header.generation s.directory blocks (was.units is);
+    }
+
+ready_of : {image : Image} {size : ℕ} {s : SavedState} (is : Encodes image size s) → IsReady image size s is.commit
+ready_of is = record {
+  same = is.same;
+  plan = is.plan;
+  header = is.header.fits;
+  directory = is.directory;
+  count = is.count;
+  each = is.each;
+  units = is.units;
+}
+
+-- ---- an image whose gates change
+
+same_commit : (b : Bool) (old new : Image) (h : SealedHeader) → SameHeaderBy b old new → CommitsIf b old h → CommitsIf b new h
+same_commit false old new h same is = record { spelt = same ∙ is.spelt; sums = is.sums; fits = is.fits }
+same_commit true old new h same is = (same h).0 is
+
+back_by : (b : Bool) (old new : Image) → SameHeaderBy b old new → SameHeaderBy b new old
+back_by false old new same = sym same
+back_by true old new same = λ h. ((same h).1, (same h).0)
+
+kept_behind : (v : Version) (old new : Image) → KeepsAs v old new → KeptBehind v old new
+kept_behind v old new keeps = record {
+  superblock = superblock_stays v old new keeps.elsewhere;
+  behind = λ i low. keeps.elsewhere i (λ k lt e. let before = gates_before v k lt in omega (arith, e, low, before));
+}
+
+encodes : (old new : Image) (size : ℕ) (s : SavedState) → KeepsImage old new → Encodes old size s → Encodes new size s
+encodes old new size s kept is =
+    let keeps = kept.kept s.plan is.plan.fits is.plan.spelt in
+    encoded (ready_kept old new size s is.commit (kept_behind s.plan.version old new keeps) (ready_of is))
+    (same_commit (row s.plan.version).sealed old new is.commit keeps.committed is.header.committed)
 
 -- `KeepsImage` is symmetric
 back : (old new : Image) → KeepsImage old new → KeepsImage new old
-back old new kept = record { elsewhere = λ i two four. sym (kept.elsewhere i two four); committed = sym kept.committed }
+back old new kept = record {
+  elsewhere = λ i other. sym (kept.elsewhere i other);
+  kept = λ p fits spelt.
+      let same : new 0 ≡ old 0 = kept.elsewhere 0 (λ v k lt e. let low = (gates_low v k lt).0 in omega (arith, e, low)) in
+      let keeps = kept.kept p fits (sym same ∙ spelt) in
+      record { elsewhere = λ i other. sym (keeps.elsewhere i other); committed = back_by (row p.version).sealed old new keeps.committed };
+}
+
+holds : (old new : Image) → KeepsImage old new → (size : ℕ) (saved : SavedFrames) → Holds size old saved → Holds size new saved
+holds old new kept size saved (s, is, same) = (s, encodes old new size s kept is, same)
 
 pub kept_holds_the_same : KeptHoldsTheSame
 kept_holds_the_same size old new saved kept = (holds old new kept size saved, holds new old (back old new kept) size saved)
 
+none_commits : (b : Bool) (c : Image) (h : SealedHeader) → HasNoneBy b c → CommitsIf b c h → ⊥
+none_commits false c h none is =
+    let lost : None ≡ Some (header_bytes h.header) = sym (ap (option_at c) none) ∙ is.spelt in cc
+none_commits true c h none is = none h is
+
 pub none_is_held : NoneIsHeld
 none_is_held size c saved none (s, is, same) =
-    let was : CommitsUnsealed c is.commit = plain_to s.plan.version is.plan.opened c is.commit is.header.committed in
-    let lost : None ≡ Some (header_bytes is.commit.header) = sym (ap (option_at c) none) ∙ was.spelt in
-    cc
+    none_commits (row s.plan.version).sealed c is.commit (none s.plan is.plan.fits is.plan.spelt) is.header.committed

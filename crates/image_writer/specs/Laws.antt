@@ -1,8 +1,8 @@
 -- While the gates of an image are being closed, it holds the same saved frames. After the last gate is closed, it
 -- holds none.
-use Rattle.image_writer.specs.Names.{ℕ, Image, KeepsImage, Holds, SavedFrames}
+use Rattle.image_writer.specs.Names.{ℕ, Image, Holds, SavedFrames}
 use Rattle.std.specs.Prelude.{◌↔◌}
-use Rattle.image_writer.specs.Written.{HasNoHeader}
+use Rattle.image_writer.specs.Written.{HasNoHeader, KeepsImage}
 
 -- if only gates change, and the committed header stays the same, the image holds the saved frames that it held before,
 -- if any

@@ -2,3 +2,4 @@ pub mod Names
 pub mod Homes
 pub mod Laws
 pub mod Written
+pub mod Parts

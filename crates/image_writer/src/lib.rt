@@ -2,6 +2,7 @@
 #![tactic(auto)]
 
 mod blocks;
+mod closing;
 mod homes;
 mod image;
 pub mod laws;

@@ -27,7 +27,7 @@ module _ (c : Image) (size : ℕ) (s : SavedState) (denoted : Encodes c size s) 
   pub frames_not_bad : (reason : BadImage) → IsBadBy c size reason → ⊥
   frames_not_bad bad.Small why = big_enough why
   frames_not_bad bad.NotASuperblock why = why.1 (subst HasMark (sym denoted.plan.spelt)
-      (marked s.plan denoted.plan.fits.few denoted.plan.opened))
+      (marked s.plan denoted.plan.fits.few))
   frames_not_bad bad.BadGeometry why = why.2 s.plan denoted.plan.fits denoted.plan.spelt
   frames_not_bad bad.NoHeader why =
       none_committed why.0.version c (denoted_by why.0 why.1).commit why.2 (denoted_by why.0 why.1).header.committed

@@ -5,7 +5,7 @@ use Rattle.layout.proofs.Names.{take_more, take_more_set, take_all, take_at, dro
 use Rattle.layout.proofs.Names.{length-take-le, length-drop, take-append-drop, length-map, get_or_append_left, get_or-append-add, get_or-map, take-add}
 use Rattle.layout.proofs.Names.{flat_map-append, All-same, All-push, All-nil, All-tail, All-head, All-append, All-replicate, Geometry, Extent, HomeRange}
 use Rattle.layout.proofs.Names.{Version, number, half_number, zeros, Plan, version_number, plan_of, range_extent, half_extent, IsWithin, range_bytes}
-use Rattle.layout.proofs.Names.{ranges_bytes, unused, superblock_bytes, HasMark, IsPlan, RangeFits, IsOpened, HasEnd, sector_with, superblock_front}
+use Rattle.layout.proofs.Names.{ranges_bytes, unused, superblock_bytes, HasMark, IsPlan, RangeFits, HasEnd, sector_with, superblock_front}
 use Rattle.layout.proofs.Names.{Bool, true, false, row, Option, IfSome, IfNone, IsSealed, body_of, sums_bytes, sums_of, with_seal}
 use Rattle.std.proofs.Common.{◌≡◌, ◌+◌, ◌-◌, ◌*◌, ◌/◌, ◌%◌, ◌^◌, ◌<◌, ◌≤◌, ◌∷◌, ◌++◌, ◌∙◌}
 use Rattle.std.specs.Prelude.{Some, None}
@@ -178,10 +178,10 @@ version_from bytes second v next fits is = grind (arith, nat_tests, half_reporte
 -- ---- what a version found in a sector implies
 
 module _ (bytes : List ℕ) (second : ℕ) (next : drop 8 bytes ≡ number second ++ drop 16 bytes) (fits : second < 2 ^ 64) where
-  unmarked : ((v : Version) → IsOpened v → second % 4294967296 ≡ version_number v → ⊥) → HasMark bytes → ⊥
-  unmarked none mark = none mark.version.0 mark.version.2 (version_from bytes second mark.version.0 next fits mark.version.1)
+  unmarked : ((v : Version) → second % 4294967296 ≡ version_number v → ⊥) → HasMark bytes → ⊥
+  unmarked none mark = none mark.version.0 (version_from bytes second mark.version.0 next fits mark.version.1)
 
-  pub none_unmarked : (found : Option Version) → ((v : Version) → IsOpened v → second % 4294967296 ≡ version_number v → ⊥) →
+  pub none_unmarked : (found : Option Version) → ((v : Version) → second % 4294967296 ≡ version_number v → ⊥) →
       IfNone found (HasMark bytes → ⊥)
   none_unmarked None none = unmarked none
   none_unmarked (Some v) none = tt
@@ -415,9 +415,9 @@ superblock_sealed bytes p is e =
     sealed_seal bytes (superblock_front p ++ zeros 232) (e ∙ ap (λ (s : Bool). sector_with s (superblock_front p)) is)
 
 -- the bytes of a superblock have its magic, its version, and the end of its version
-pub marked : (p : Plan) → length p.ranges ≤ 8 → IsOpened p.version → HasMark (superblock_bytes p)
+pub marked : (p : Plan) → length p.ranges ≤ 8 → HasMark (superblock_bytes p)
 unfolding superblock_bytes number
-marked p few opened =
+marked p few =
     let e : superblock_bytes p ≡ number magic ++ stream (second_of p ∷ numbers_of p) (ranges_bytes (eight_ranges p.ranges) ++ end_of p) =
     plan_stream p few in
     let next : drop 8 (superblock_bytes p) ≡ number (second_of p) ++ stream (numbers_of p) (ranges_bytes
@@ -435,20 +435,9 @@ marked p few opened =
             ∙ front_half (second_of p) (stream (numbers_of p) (ranges_bytes (eight_ranges p.ranges) ++ end_of p))
             (omega (arith, few, few_versions p.version))
             ∙ ap half_number (omega (arith, few, few_versions p.version)),
-        opened,
       );
       blank = has_end (row p.version).sealed (superblock_front p) (front_long p few);
     }
-
--- a superblock with a mark has a version that programs open
-pub opened_of : (p : Plan) → length p.ranges ≤ 8 → HasMark (superblock_bytes p) → IsOpened p.version
-unfolding number
-opened_of p few mark =
-    let e = plan_stream p few in
-    let small = few_versions p.version in
-    let read : second_of p % 4294967296 ≡ version_number mark.version.0 =
-    version_from (superblock_bytes p) (second_of p) mark.version.0 (rw e refl) (omega (arith, few, small)) mark.version.1 in
-    subst IsOpened (one_version mark.version.0 p.version (omega (arith, read, small))) mark.version.2
 
 pub plan_found : (v : Version) (bytes : List ℕ) (second : ℕ) (g : Geometry) (all : List HomeRange) (half_0 half_1 total used : ℕ)
     → bytes ≡ stream (magic ∷ second ∷ numbers_of (plan_of v g all half_0 half_1 total)) (ranges_bytes all ++ drop 256 bytes)

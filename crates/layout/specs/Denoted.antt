@@ -12,15 +12,14 @@ use Rattle.layout.specs.Frame.{IsFrameOf}
 use Rattle.layout.specs.Header.{IsHeader}
 use Rattle.layout.specs.Image.{directory_in, directory_sector, frame_in, total_in}
 use Rattle.layout.specs.Superblock.{Plan, superblock_bytes, HasMark, IsPlan}
-use Rattle.layout.specs.Version.{IsOpened, row}
+use Rattle.layout.specs.Version.{row}
 use Rattle.layout.specs.sealed.Directory.{AreEntries, sums_of_entries}
 use Rattle.layout.specs.sealed.Units.{HasUnits}
 
 -- ---- the parts of a saved state
 
--- the superblock of an image; programs do not open version 3 yet
+-- the superblock of an image
 pub record HasPlan (image : Image) (size : ℕ) (p : Plan) : Type 0 where
-  pub opened : IsOpened p.version
   pub least : 5 ≤ size
   pub whole : p.total ≤ size
   pub fits : IsPlan p

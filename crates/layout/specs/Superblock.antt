@@ -10,7 +10,7 @@ use Rattle.layout.specs.declared.half.Half.{Half}
 use Rattle.layout.specs.declared.half.Half.TheVariants.{First, Second}
 use Rattle.layout.specs.declared.version.Version.{Version}
 use Rattle.layout.specs.Bytes.{number, half_number, zeros}
-use Rattle.layout.specs.Version.{IsOpened, aligned, directory_length, row}
+use Rattle.layout.specs.Version.{aligned, directory_length, row}
 use Rattle.layout.specs.sealed.Sector.{with_seal}
 use Rattle.seal.specs.Seal.{IsSealed}
 
@@ -59,10 +59,10 @@ abbrev pub HasEnd : Bool → List ℕ → Type 0
 HasEnd true bytes = (take 232 (drop 256 bytes) ≡ zeros 232) × IsSealed bytes
 HasEnd false bytes = drop 256 bytes ≡ zeros 256
 
--- magic, version and the bytes from 256 on are those of a superblock that programs open
+-- magic, version and the bytes from 256 on are those of a superblock
 pub record HasMark (bytes : List ℕ) : Type 0 where
   pub magic : take 8 bytes ≡ codes "EROSCKPT"
-  pub version : (v : Version) × (take 4 (drop 8 bytes) ≡ half_number (version_number v)) × IsOpened v
+  pub version : (v : Version) × (take 4 (drop 8 bytes) ≡ half_number (version_number v))
   pub blank : HasEnd (row version.0).sealed bytes
 
 -- the limits of the numbers of nodes, pages and log slots

@@ -46,7 +46,7 @@ row Three = record {
   sealed = true;
 }
 
--- programs do not open version 3 yet
+-- a version without seals
 abbrev pub IsOpened : Version → Type 0
 IsOpened v = (row v).sealed ≡ false
 

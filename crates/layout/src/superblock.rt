@@ -10,7 +10,7 @@ ghost use Rattle.layout.specs.Superblock.{HasEnd, HasMark};
 ghost use Rattle.layout.specs.Superblock.{IsGeometry, IsNext, Cover, extents, IsPlan, IsPlanRefused, RangeFits};
 ghost use Rattle.layout.specs.Superblock.{plan_of};
 ghost use Rattle.layout.specs.Superblock.{half_start};
-ghost use Rattle.layout.specs.Version.{IsOpened, row};
+ghost use Rattle.layout.specs.Version.{row};
 
 use crate::bad_image::BadImage;
 use crate::bytes::{blank, is_blank_between, is_blank_from, number_at, put_number};
@@ -367,14 +367,13 @@ fn has_end(version: Version, bytes: &[u8]) -> bool
     }
 }
 
-// Returns the version in a superblock's sector. Returns `None` for another magic, a version that
-// programs do not open, or a byte after the ranges that isn't 0.
+// Returns the version in a superblock's sector. Returns `None` for another magic, an unknown version, or bytes after the
+// ranges that aren't those of this version.
 fn version_in(bytes: &[u8]) -> Option<Version>
     requires { length bytes.now ≡ 512 }
     ensures magic { IfSome result (λ _. take 8 bytes.now ≡ codes "EROSCKPT") }
     ensures version { IfSome result (λ v. take 4 (drop 8 bytes.now) ≡ half_number (version_number v)) }
     ensures blank { IfSome result (λ v. HasEnd (row v).sealed bytes.now) }
-    ensures opened { IfSome result (λ v. IsOpened v) }
     ensures none { IfNone result (HasMark bytes.now → ⊥) }
 {
     let magic = number_at(bytes, 0);
@@ -419,13 +418,12 @@ fn read_plan(version: Version, bytes: &[u8]) -> Option<Superblock>
 
 /// Reads the 512 bytes of a superblock's sector.
 ///
-/// Returns `NotASuperblock` for another magic, a version that programs do not open, or a byte after the
-/// ranges that isn't 0. Returns `BadGeometry` if the bytes encode no superblock for another reason.
+/// Returns `NotASuperblock` for another magic, an unknown version, a byte after the ranges that isn't 0, or a sector of a
+/// sealed version whose seal is wrong. Returns `BadGeometry` if the bytes encode no superblock for another reason.
 pub fn decode_superblock(bytes: &[u8]) -> Result<Superblock, BadImage>
     requires { length bytes.now ≡ 512 }
     ensures found { IfOk result (λ s. bytes.now ≡ superblock_bytes s) }
     ensures fits { IfOk result (λ s. IsPlan s) }
-    ensures opened { IfOk result (λ s. IsOpened s.version) }
     ensures refused { IfErr result (λ e. IsPlanRefused bytes.now e) }
 {
     match version_in(bytes) {

@@ -1,6 +1,6 @@
 // The versions of the layout, and the numbers in which they differ.
 ghost use Rattle.std.specs.Prelude.{◌≡◌, ◌<◌, ◌≤◌, IfSome, IfNone};
-ghost use Rattle.layout.specs.Version.{IsOpened, row};
+ghost use Rattle.layout.specs.Version.{row};
 ghost use Rattle.layout.specs.Superblock.{version_number};
 
 /// A version of the layout.
@@ -105,23 +105,16 @@ impl Version {
         self.row().number
     }
 
-    /// Returns the version with a number, or `None` if no version that programs open has it. A sealed version isn't
-    /// opened yet.
+    /// Returns the version with a number, or `None` if no version has it.
     pub fn with_number(number: u64) -> Option<Version>
         ensures some { IfSome result (λ v. number ≡ version_number v) }
-        ensures opened { IfSome result (λ v. IsOpened v) }
-        ensures none { IfNone result ((v : Version) → IsOpened v → number ≡ version_number v → ⊥) }
+        ensures none { IfNone result ((v : Version) → number ≡ version_number v → ⊥) }
     {
-        let version = match number {
-            1 => Version::One,
-            2 => Version::Two,
-            3 => Version::Three,
-            _ => return None,
-        };
-        if version.row().sealed {
-            None
-        } else {
-            Some(version)
+        match number {
+            1 => Some(Version::One),
+            2 => Some(Version::Two),
+            3 => Some(Version::Three),
+            _ => None,
         }
     }
 }

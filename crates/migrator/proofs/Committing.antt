@@ -2,18 +2,20 @@
 use Rattle.migrator.proofs.Names.{nat_tests, IsPlan, ℕ, Option, Some, None, List, length, refl, sym, ap, subst, arith, replicate, length-replicate, Frame}
 use Rattle.migrator.proofs.Names.{frame_at, IsKeepable, AreKeepable, Image, Disk, Entry, Extent, CheckpointHeader, IsDirectory, IsFrameOf, frame_from, IsHeader}
 use Rattle.migrator.proofs.Names.{frame_in, frame_slot_in, half_sector, count_of, frame_read, frames_read, IsSpelt, AreSpelt, Plan, IsApart, IsInside}
-use Rattle.migrator.proofs.Names.{half_extent, half_within, length_read, read_at, spelt_same, spelt_at, beside_frame_slot, places_within, place_extent}
-use Rattle.migrator.proofs.Names.{directory_extent, frames_behind, directories_inside, Place, Nowhere, Whole, place_at, slot_of, taken_count, whole_count}
-use Rattle.migrator.proofs.Names.{entries_of, Put, put_at, put_or, overlaid, slot_bytes, puts_in, ArePut, most, Books, IsDurable, frozen_generation}
-use Rattle.migrator.proofs.Names.{working_generation, committed, generation_after, Stored, saved_state, frozen_of, stored_in, IsRunning, IsIntact, next_header}
-use Rattle.migrator.proofs.Names.{puts, on_snapshots, AreComplete, MayAdopt, SavesOnly, SparesKept, adopted, SparesFrames, Spares, maps_same, IsSoundOn}
-use Rattle.migrator.proofs.Names.{one_more, Version, entry_at, first_some, half_behind, inr, row, false≢true}
+use Rattle.migrator.proofs.Names.{half_extent, length_read, read_at, spelt_same, spelt_at, place_extent, directory_extent, frames_behind, directories_inside}
+use Rattle.migrator.proofs.Names.{Place, Nowhere, Whole, place_at, slot_of, taken_count, whole_count, entries_of, Put, put_at, put_or, overlaid, slot_bytes}
+use Rattle.migrator.proofs.Names.{puts_in, ArePut, most, Books, IsDurable, frozen_generation, working_generation, committed, generation_after, Stored}
+use Rattle.migrator.proofs.Names.{saved_state, frozen_of, stored_in, IsRunning, IsIntact, next_header, puts, on_snapshots, AreComplete, MayAdopt, SavesOnly}
+use Rattle.migrator.proofs.Names.{SparesKept, adopted, SparesFrames, Spares, maps_same, IsSoundOn, one_more, Version, entry_at, first_some, half_behind, inr}
+use Rattle.migrator.proofs.Names.{row, true, Sums, HasUnits, IsSlotSummed, slot_beside, alone_frame_slot, sealed_frame_slot, IsNextRoot}
 use Rattle.std.proofs.Common.{◌≡◌, ◌+◌, ◌-◌, ◌^◌, ◌<◌, ◌≤◌, ◌∙◌}
 use Rattle.std.specs.Prelude.{◌==◌}
 use Rattle.migrator.proofs.Tables.{all_whole, whole_taken, entries_directory, length_entries, slot_entries, blank_at, blank_table, tally-blank}
-use Rattle.migrator.proofs.PlacesApart.{state_stays, in_slot, in_frame_slot, at_home, frame_apart, home_apart, spares_other, homes_behind, no_entries}
+use Rattle.migrator.proofs.PlacesApart.{state_stays, at_home, page_own, frame_apart, home_apart, spares_other, homes_behind, no_entries}
 use Rattle.migrator.proofs.PlacesApart.{frame_slot_fits}
 use Rattle.migrator.proofs.Kept.{stored_stays, kept_on}
+use Rattle.migrator.proofs.NewFrames.{complete_seal, frame_new, new_home, new_own}
+use Rattle.migrator.proofs.NextUnits.{next_units}
 use Rattle.migrator.proofs.Putting.{put_is, later_half, other_parity, half_spares, none_spares, homes_spare}
 
 -- ---- what stays when a directory and a header are written
@@ -103,11 +105,6 @@ module _ {size : ℕ} {image : Image} {b : Books} (k : ℕ) (kept : IsIntact siz
   whole_at {n} {s} lt is = let less = whole_taken b.frozen in all_whole b.frozen n (omega (arith, was.1, stable))
       (omega (arith, lt, kept.frozen.count)) is
 
-  slot_frame_in : (n : ℕ) {s : ℕ} → slot_of (place_at b.frozen n) ≡ Some s → frame_in image b.plan (b.header.generation + 1)
-      (entries_of b.frozen) n ≡ slot_bytes image b.plan (b.header.generation + 1) s n
-  slot_frame_in n {s} is = in_slot image b.plan (b.header.generation + 1) (entries_of b.frozen) n kept.opened
-      (slot_entries b.frozen n ∙ is)
-
   abbrev saved_frames : List Frame
   saved_frames = frames_read image b.plan b.header.generation b.directory
 
@@ -119,7 +116,17 @@ module _ {size : ℕ} {image : Image} {b : Books} (k : ℕ) (kept : IsIntact siz
     -- the frame that the commit saves for an object without a slot is the saved one
     home_frame : {n : ℕ} → n < count_of b.plan → slot_of (place_at b.frozen n) ≡ None →
         frame_in image b.plan (b.header.generation + 1) (entries_of b.frozen) n ≡ frame_in image b.plan b.header.generation b.directory n
-    home_frame {n} lt none = grind (arith, nat_tests, slot_entries, at_home, beside_frame_slot, none_saved, in_frame_slot)
+    home_frame {n} lt none =
+        frame_new complete lt
+        ∙ new_home image b.plan (frozen_generation b) (entries_of b.frozen) n (slot_entries b.frozen n ∙ none)
+        ∙ sym (at_home image b.plan b.header.generation b.directory n (none_saved n))
+
+    -- that of an object with a slot is in its slot
+    slot_frame_in : {n s : ℕ} → n < count_of b.plan → slot_of (place_at b.frozen n) ≡ Some s →
+        frame_in image b.plan (b.header.generation + 1) (entries_of b.frozen) n ≡ slot_bytes image b.plan (b.header.generation + 1) s n
+    slot_frame_in {n} lt is =
+        frame_new complete lt
+        ∙ new_own image b.plan (frozen_generation b) (entries_of b.frozen) n (slot_entries b.frozen n ∙ is)
 
     frame_next : (n : ℕ) → n < count_of b.plan → frame_read image b.plan (b.header.generation + 1) (entries_of b.frozen) n
         ≡ put_or (put_at frozen_puts n) (frame_at saved_frames n)
@@ -129,6 +136,22 @@ module _ {size : ℕ} {image : Image} {b : Books} (k : ℕ) (kept : IsIntact siz
     pub frames_next : frames_read image b.plan (b.header.generation + 1) (entries_of b.frozen) ≡ overlaid frozen_puts saved_frames
     unfolding frames_read overlaid
     frames_next = search (arith, length_read, maps_same, frame_next)
+
+    -- a page with a slot has its sums there
+    page_summed : (row b.plan.version).sealed ≡ true → (n s : ℕ) → b.plan.geometry.nodes ≤ n → n < count_of b.plan →
+        slot_beside b.plan (entries_of b.frozen) n ≡ Some s → IsSlotSummed image b.plan (frozen_generation b) s n
+    page_summed sealed n s le lt beside =
+        let own = sym (slot_entries b.frozen n)
+        ∙ sym (alone_frame_slot b.plan (entries_of b.frozen) n kept.plan lt (page_own b.plan le) fs_fit.each)
+        ∙ sealed_frame_slot b.plan (entries_of b.frozen) n sealed ∙ beside in
+        kept.frozen.summed n s lt (whole_at lt own)
+
+    -- in version 3 the commit saves sealed units, which add up to the next root
+    pub units_next : {root : Sums} → IsNextRoot image b.plan (frozen_generation b) (entries_of b.frozen) b.root root →
+        (row b.plan.version).sealed ≡ true → HasUnits image b.plan root (frozen_generation b) (entries_of b.frozen)
+    units_next next sealed =
+        next_units (kept.units sealed) (kept.count ∙ was.0) (frozen_generation b) (entries_of b.frozen) sealed
+        (complete_seal complete sealed) (page_summed sealed) (next.sealed sealed)
 
     module _ {age : ℕ} (keepable : AreKeepable b.plan.geometry age (overlaid frozen_puts saved_frames)) where
       keepable_at : {n : ℕ} → n < count_of b.plan → IsKeepable b.plan.geometry age n
@@ -147,7 +170,7 @@ module _ {size : ℕ} {image : Image} {b : Books} (k : ℕ) (kept : IsIntact siz
         by (Some s) is =
             spelt_at image b.plan most age (b.header.generation + 1) (entries_of b.frozen) n
             (subst (λ (bytes : List ℕ). IsFrameOf b.plan.geometry most n bytes (frame_from b.plan.geometry n bytes))
-            (sym (slot_frame_in n is))
+            (sym (slot_frame_in lt is))
             (kept.frozen.spelt n s lt (whole_at lt is))) (keepable_at lt)
 
 -- ---- a commit
@@ -158,6 +181,7 @@ module _ (disk : Disk) {b : Books} (k : ℕ) (kept : IsIntact disk.sectors disk.
     (most_age : age ≤ 2 ^ 62)
     (keepable : AreKeepable b.plan.geometry age
     (overlaid (puts_in disk.seen b.plan (frozen_generation b) b.frozen) (frames_read disk.seen b.plan b.header.generation b.directory)))
+    {root : Sums} (next : IsNextRoot disk.seen b.plan (frozen_generation b) (entries_of b.frozen) b.root root)
   where
     abbrev extent : Extent
     extent = directory_extent b.plan (frozen_generation b) (taken_count b.frozen)
@@ -169,7 +193,7 @@ module _ (disk : Disk) {b : Books} (k : ℕ) (kept : IsIntact disk.sectors disk.
     putting = puts_in disk.seen b.plan (working_generation b) b.working
 
     abbrev after : Books
-    after = adopted (next_header age b) b.root es b
+    after = adopted (next_header age b) root es b
 
     directory_next : IsDirectory b.plan.geometry es
     directory_next = fs_fit k kept running stable
@@ -210,15 +234,13 @@ module _ (disk : Disk) {b : Books} (k : ℕ) (kept : IsIntact disk.sectors disk.
     committed_kept = record {
       readable = record {
         plan = kept.plan;
-        opened = kept.opened;
         inside = kept.inside;
         header = next_fits b kept.header later most_age kept.frozen.few kept.plan.geometry.most_log;
         count = length_entries b.frozen;
         directory = directory_next;
         saved = spelt_next k kept running stable complete keepable;
-        -- an opened image isn't sealed
-        units = λ sealed. absurd (false≢true (sym kept.opened ∙ sealed));
-        no_root = kept.no_root;
+        units = units_next k kept running stable complete next;
+        no_root = λ plain. next.plain plain ∙ kept.no_root plain;
       };
       few = omega arith;
       moved = λ i lt. absurd (omega (arith, lt));
@@ -244,7 +266,7 @@ module _ (disk : Disk) {b : Books} (k : ℕ) (kept : IsIntact disk.sectors disk.
       to_move = entries - 0;
     }
 
-    pub committed_stored : stored_in disk.seen (adopted (next_header age b) b.root (entries_of b.frozen) b)
+    pub committed_stored : stored_in disk.seen (adopted (next_header age b) root (entries_of b.frozen) b)
         ≡ on_snapshots (committed puts age (frozen_of disk.seen b k)) (stored_in disk.seen b)
     committed_stored =
         ap (λ (g : ℕ). stored_as (taken_count b.frozen) (puts_in disk.seen b.plan g b.working)
@@ -258,6 +280,6 @@ module _ (disk : Disk) {b : Books} (k : ℕ) (kept : IsIntact disk.sectors disk.
           same_move : (n : ℕ) (fs : List Frame) → stored_as n putting fs ≡ record (stored_as n putting fs) { to_move = n }
           same_move n fs = let same : n - 0 ≡ n = omega arith in ap (λ (m : ℕ). record (stored_as n putting fs) { to_move = m }) same
 
-    pub may_commit : IsDurable disk b → b.unwritten ≡ None → IsSoundOn disk b → MayAdopt disk b (next_header age b) b.root
+    pub may_commit : IsDurable disk b → b.unwritten ≡ None → IsSoundOn disk b → MayAdopt disk b (next_header age b) root
         (entries_of b.frozen)
     may_commit is written sound = search (committed_kept, spares_now, spares_kept, committed_spares)

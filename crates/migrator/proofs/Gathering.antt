@@ -1,26 +1,31 @@
 -- The saved frames of all objects that share a home are gathered in one block.
 use Rattle.migrator.proofs.Names.{nat_tests, ℕ, Option, Result, List, sym, ap, arith, OnOk, Image, Disk, Entry, Shape, home_place, place_length, shape_of}
-use Rattle.migrator.proofs.Names.{frame_in, frame_slot_in, sector_or, shaped_at, slot_sector, shape_bytes, Plan, ReadsOnly, WritesAt, EndsInZeros, HoldsHome}
+use Rattle.migrator.proofs.Names.{frame_in, bytes_at, sector_or, shaped_at, slot_sector, shape_bytes, Plan, ReadsOnly, WritesAt, EndsInZeros, HoldsHome}
 use Rattle.migrator.proofs.Names.{on_ok_weaker, zeros, IsGathered, IsCopied, Touches, zero, suc, refl, inl, inr, length, take, drop, subst, drop-drop, drop_all}
-use Rattle.migrator.proofs.Names.{shape_end, sectors_from, AreBeside, IsObject, IsFirstOf, HaveHome, blanked, drop_at, take-append-le, between_is}
-use Rattle.std.proofs.Common.{◌≡◌, ◌+◌, ◌-◌, ◌*◌, ◌≤◌, ◌++◌, ◌∙◌}
+use Rattle.migrator.proofs.Names.{shape_end, sectors_from, AreBeside, IsObject, IsFirstOf, HaveHome, blanked, drop_at, take-append-le, between_is, Ok, Err}
+use Rattle.migrator.proofs.Names.{Some, None, frame_slot_in, IsPlan, IsDirectory, count_of, row, true, false, places_within, frame_sector, block_in, IfSome}
+use Rattle.std.proofs.Common.{◌≡◌, ◌+◌, ◌-◌, ◌*◌, ◌<◌, ◌≤◌, ◌++◌, ◌∙◌}
+use Rattle.device.specs.Disk.{IsWhole}
+use Rattle.migrator.proofs.Blocks.{block_within, same_each}
+use Rattle.migrator.proofs.PlacesApart.{frame_slot_fits}
 
--- the frame read from an object's slot, or from home if it has none, is its saved frame
-pub frame_slot_bytes : (image : Image) (p : Plan) (generation : ℕ) (es : List Entry) (n : ℕ) {at : ℕ} {o : Option ℕ} →
-    o ≡ frame_slot_in p es n → at ≡ sector_or o (slot_sector p generation) (home_place p n) →
-    shaped_at image at (shape_of p n) ≡ frame_in image p generation es n
-frame_slot_bytes image p generation es n {at} {o} frame_slot place = grind (arith, nat_tests)
-
-pub one_gathered : {T E : Type 0} (result : Result T E) (old new : Image) (p : Plan) (generation : ℕ) (es : List Entry) (n : ℕ) {at : ℕ}
-    {o : Option ℕ} {s : Shape} (block : List ℕ) → s ≡ shape_of p n → new ≡ old → o ≡ frame_slot_in p es n →
-    at ≡ sector_or o (slot_sector p generation) (home_place p n)
+-- the frame read from a slot, or from home without one
+pub one_copied : {T E : Type 0} (result : Result T E) (old new : Image) (p : Plan) (generation : ℕ) (slot : Option ℕ) (n : ℕ) {at : ℕ}
+    {s : Shape} (block : List ℕ) → s ≡ shape_of p n → new ≡ old → at ≡ sector_or slot (slot_sector p generation) (home_place p n)
     → OnOk result (shape_bytes s block ≡ shaped_at new at s) → OnOk result (shape_bytes (shape_of p n) block
-    ≡ frame_in old p generation es n)
-one_gathered {T} {E} result old new p generation es n {at} {o} {s} block shape seen slot place copied =
+    ≡ bytes_at old (sector_or slot (slot_sector p generation) (home_place p n)) p n)
+one_copied {T} {E} result old new p generation slot n {at} {s} block shape seen place copied =
     on_ok_weaker result
     (λ is. ap (λ (t : Shape). shape_bytes t block) (sym shape) ∙ is ∙ ap (shaped_at new at) shape
-    ∙ ap (λ (i : Image). shaped_at i at (shape_of p n)) seen ∙
-    frame_slot_bytes old p generation es n slot place) copied
+    ∙ ap (λ (i : Image). shaped_at i at (shape_of p n)) seen ∙ ap (λ (k : ℕ). shaped_at old k (shape_of p n)) place) copied
+
+-- the slot with an object's frame is one of the log's
+pub frame_slot_low : (p : Plan) {es : List Entry} (n : ℕ) → IsDirectory p.geometry es →
+    IfSome (frame_slot_in p es n) (λ s. s < p.geometry.log)
+frame_slot_low p {es} n is = by (frame_slot_in p es n) refl where
+  by : (o : Option ℕ) → frame_slot_in p es n ≡ o → IfSome o (λ s. s < p.geometry.log)
+  by None none = tt
+  by (Some s) slot = frame_slot_fits p n is slot
 
 -- ---- a write after reads
 
@@ -31,13 +36,43 @@ home_touched {old} {mid} {new} {p} {q} n same reads writes = grind (arith, nat_t
 -- if the gathered block is written home, the home contains the saved frames
 pub gathered_copied : {T E : Type 0} (result : Result T E) (old new : Image) (p : Plan) (generation : ℕ) (es : List Entry) (n : ℕ)
     (block : List ℕ) → IsGathered old p generation es n block → OnOk result (HoldsHome p n block new) →
-    OnOk result (IsCopied old new p generation es n)
-gathered_copied {T} {E} result old new p generation es n block are held = grind (arith, nat_tests)
+    OnOk result ((row p.version).sealed ≡ true → (i : ℕ) → i < place_length p n →
+    new (home_place p n + i) ≡ old (frame_sector p generation es n + i)) → OnOk result (IsCopied old new p generation es n)
+gathered_copied {T} {E} (Ok x) old new p generation es n block are held same =
+    record { frames = λ m is_m home. held m is_m home ∙ are m is_m home; block = same }
+gathered_copied {T} {E} (Err e) old new p generation es n block are held same = tt
+
+-- a block that was read is the one that an object is read from
+pub block_read : {T E : Type 0} (result : Result T E) (old new : Image) (p : Plan) (generation : ℕ) (es : List Entry) (n : ℕ)
+    (block : List ℕ) {at sectors : ℕ} → new ≡ old → at ≡ frame_sector p generation es n → sectors ≡ place_length p n →
+    OnOk result (sectors_from new at sectors ≡ block) → OnOk result (block_in old p generation es n ≡ block)
+block_read result old new p generation es n block {at} {sectors} seen place size read =
+    on_ok_weaker result
+    (λ is. ap (λ (i : Image). sectors_from i (frame_sector p generation es n) (place_length p n)) (sym seen)
+    ∙ ap (λ (k : ℕ). sectors_from new k (place_length p n)) (sym place) ∙ ap (sectors_from new at) (sym size) ∙ is) read
+
+-- if a block that was read is written home, the home has the same sectors
+pub block_copied : {T E : Type 0} (result : Result T E) (old new : Disk) (p : Plan) (generation : ℕ) (es : List Entry) (n : ℕ)
+    (block : List ℕ) → IsPlan p → IsDirectory p.geometry es → n < count_of p → p.total ≤ old.sectors → new.sectors ≡ old.sectors →
+    IsWhole old.sectors old.seen → IsWhole new.sectors new.seen →
+    ((row p.version).sealed ≡ true → block_in old.seen p generation es n ≡ block) →
+    OnOk result (sectors_from new.seen (home_place p n) (place_length p n) ≡ block) →
+    OnOk result ((row p.version).sealed ≡ true → (i : ℕ) → i < place_length p n →
+    new.seen (home_place p n + i) ≡ old.seen (frame_sector p generation es n + i))
+block_copied result old new p generation es n block fits is lt inside size whole_old whole_new read written =
+    let home = (places_within p n fits lt).1 in
+    let there = block_within generation n fits is lt in
+    on_ok_weaker result
+    (λ bytes sealed. same_each old.seen new.seen (home_place p n) (frame_sector p generation es n) (place_length p n)
+    (λ i low. whole_new.size (home_place p n + i) (omega (arith, low, home, inside, size)))
+    (λ i low. whole_old.size (frame_sector p generation es n + i) (omega (arith, low, there, inside)))
+    (bytes ∙ sym (read sealed))) written
 
 -- if a block that ends in zeros is written, its sectors end in zeros
 pub zeros_there : {T E : Type 0} (result : Result T E) (p : Plan) (n : ℕ) (there block : List ℕ) → OnOk result (there ≡ block) →
-    EndsInZeros p n block → OnOk result (EndsInZeros p n there)
-zeros_there {T} {E} result p n there block written zeros = grind (arith, nat_tests)
+    ((row p.version).sealed ≡ false → EndsInZeros p n block) → OnOk result ((row p.version).sealed ≡ false → EndsInZeros p n there)
+zeros_there result p n there block written zeros =
+    on_ok_weaker result (λ same plain. subst (EndsInZeros p n) (sym same) (zeros plain)) written
 
 -- ---- a frame that fills its block
 

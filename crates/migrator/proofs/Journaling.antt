@@ -3,21 +3,23 @@
 use Rattle.migrator.proofs.Names.{nat_tests, IsIdle, MayReplace, Stays, ℕ, Option, Some, None, List, [], length, get_or, set, refl, sym, ap, subst, arith}
 use Rattle.migrator.proofs.Names.{option_map, get_or_past, get_or_default, Frame, ObjectHeader, Geometry, frame_at, IsKeepable, AreKeptWords, Image, Disk}
 use Rattle.migrator.proofs.Names.{Entry, Extent, IsDirectory, entry_at, IsFrameOf, page_frame_bytes, frame_from, IsHeader, frame_in, frame_slot_in, slot_sector}
-use Rattle.migrator.proofs.Names.{half_sector, sectors_from, shaped_at, bytes_at, count_of, frames_read, AreSpelt, Plan, IsPlan, IsInside, half_extent}
-use Rattle.migrator.proofs.Names.{slot_behind, slot_here, own_frame_slot, slot_bytes, length_read, read_at, spelt_same, spelt_at, bytes_spelt, Shape}
-use Rattle.migrator.proofs.Names.{home_place, shape_of, WritesAt, slot_extent, directory_extent, slots_inside, most, with_words, Books, IsDurable}
-use Rattle.migrator.proofs.Names.{frozen_generation, working_generation, FrozenPuts, journaled, replaced, stored_in, stored_on, IsIntact, replaced_header}
-use Rattle.migrator.proofs.Names.{on_snapshots, first_bytes, first_frame, page_words, page_shape, page_whole, page_long, shape_bytes, frame_bytes}
-use Rattle.migrator.proofs.Names.{beside_frame_slot, alone, IsHeaderAt, MayAdopt, SparesKept, adopted, mended, MayJournal, directories_inside, one_more}
-use Rattle.migrator.proofs.Names.{IsSpelt, cases_eq, inl, inr}
+use Rattle.migrator.proofs.Names.{half_sector, shaped_at, bytes_at, count_of, frames_read, AreSpelt, Plan, IsPlan, IsInside, half_extent, slot_behind}
+use Rattle.migrator.proofs.Names.{slot_here, own_frame_slot, slot_bytes, length_read, read_at, spelt_same, spelt_at, bytes_spelt, Shape, home_place, shape_of}
+use Rattle.migrator.proofs.Names.{WritesAt, slot_extent, directory_extent, slots_inside, most, with_words, Books, IsDurable, frozen_generation}
+use Rattle.migrator.proofs.Names.{working_generation, FrozenPuts, journaled, replaced, stored_in, stored_on, IsIntact, replaced_header, on_snapshots}
+use Rattle.migrator.proofs.Names.{first_bytes, first_frame, frame_bytes, beside_frame_slot, alone, IsHeaderAt, MayAdopt, SparesKept, adopted, mended}
+use Rattle.migrator.proofs.Names.{MayJournal, directories_inside, one_more, IsSpelt, cases_eq, inl, inr, Bool, true, false, row, Sums, HasUnits, IsSlotSummed}
+use Rattle.migrator.proofs.Names.{ReadsOnly, agrees_is, slot_beside, beside_here, sealed_frame_slot, found_beside, root_of, units_in, IsNextRoot}
 use Rattle.std.proofs.Common.{◌≡◌, ◌+◌, ◌%◌, ◌^◌, ◌<◌, ◌≤◌, ◌∷◌, ◌∙◌}
 use Rattle.std.specs.Prelude.{◌==◌}
+use Rattle.migrator.proofs.NextUnits.{home_root, next_units}
+use Rattle.migrator.proofs.Opening.{read_stays}
 use Rattle.model.specs.declared.object.Content.TheVariants as content
 use Rattle.model.specs.declared.object.Role.TheVariants as role
 use Rattle.migrator.proofs.PlacesApart.{touches, at_home, in_frame_slot, spares_log, none_beside, page_own, no_entries}
 use Rattle.migrator.proofs.PlacesApart.{mended_disk, writes_mended}
 use Rattle.migrator.proofs.Kept.{nowhere_frozen, puts_same, map_set, stored_stays, kept_on, goes_seen, goes_spared}
-use Rattle.migrator.proofs.Publishing.{after_same, idle_kept, idle_stored, keepable_later, may_adopt_idle, slot_same, with_header}
+use Rattle.migrator.proofs.Publishing.{after_same, idle_kept, idle_stored, keepable_later, may_adopt_idle, slot_same, sums_same, with_header}
 use Rattle.migrator.proofs.Putting.{half_spares, homes_spare, idle_half, none_spares}
 
 -- ---- a page with other words
@@ -156,7 +158,14 @@ none_frozen f g o is = grind (arith, nat_tests)
 
 module _ {disk : Disk} {b : Books} {n age : ℕ} (may : MayReplace disk b n age) where
   kept : IsIntact disk.sectors disk.seen b
-  kept = idle_kept (replaced_header age b) (one_entry n) may.stands may.free
+  kept = idle_kept (replaced_header age b) b.root (one_entry n) may.stands may.free
+
+  -- the root of all units at home
+  pub idle_root : (h : ℕ) → (row b.plan.version).sealed ≡ true → b.root ≡ root_of (units_in disk.seen b.plan h [])
+  idle_root h sealed = home_root (kept.units sealed) (kept.count ∙ may.home) h
+
+  pub idle_fits : IsDirectory b.plan.geometry (one_entry n)
+  idle_fits = one_fits kept.plan may.object
 
   abbrev again : ℕ
   again = b.header.generation + 2
@@ -169,9 +178,6 @@ module _ {disk : Disk} {b : Books} {n age : ℕ} (may : MayReplace disk b n age)
 
   abbrev frame : Frame
   frame = first_frame disk.seen b n
-
-  abbrev books : Books
-  books = with_header b (replaced_header age b) (one_entry n)
 
   some : 1 ≤ b.plan.geometry.log
   some = omega (arith, kept.plan.geometry.least_log)
@@ -186,7 +192,10 @@ module _ {disk : Disk} {b : Books} {n age : ℕ} (may : MayReplace disk b n age)
   inside_half = directories_inside b.plan again 1 some
 
   own_here : frame_slot_in b.plan (one_entry n) n ≡ Some 0
-  own_here = own_frame_slot b.plan (one_entry n) n kept.opened (slot_here entry [] n refl)
+  own_here = by (row b.plan.version).sealed refl where
+    by : (sealed : Bool) → (row b.plan.version).sealed ≡ sealed → frame_slot_in b.plan (one_entry n) n ≡ Some 0
+    by true sealed = sealed_frame_slot b.plan (one_entry n) n sealed ∙ beside_here b.plan entry [] n refl
+    by false plain = own_frame_slot b.plan (one_entry n) n plain (slot_here entry [] n refl)
 
   frame_here : frame_in disk.seen b.plan again (one_entry n) n ≡ first_bytes disk.seen b n
   frame_here =
@@ -220,15 +229,73 @@ module _ {disk : Disk} {b : Books} {n age : ℕ} (may : MayReplace disk b n age)
         (keepable_later b.plan.geometry b.header.age age (omega (arith, may.later)) now.0)
   ]
 
-  replaced_stored : stored_in disk.seen books ≡ on_snapshots (replaced age n frame) (stored_in disk.seen b)
-  replaced_stored = grind (arith, nat_tests, puts_same, slot_same, after_same, parity, none_frozen, frames_next)
+  -- the page is the only object whose home has an entry
+  only_page : (m s : ℕ) → m < count_of b.plan → slot_beside b.plan (one_entry n) m ≡ Some s → (n ≡ m) × (0 ≡ s)
+  only_page m s lt beside =
+      let found = found_beside b.plan (one_entry n) m s beside in
+      let here : found.index ≡ 0 = omega (arith, found.within) in
+      (one_page found.index found.within lt found.home_is, sym (ap (λ (i : ℕ). (entry_at (one_entry n) i).slot) here) ∙ found.slot_is)
 
-  pub may_replace : MayAdopt disk b (replaced_header age b) b.root (one_entry n)
-  may_replace = search (arith, may_adopt_idle, parity, header_fits, some, directory_next, spelt_next, spares_log, inside_half)
+  module _ {root : Sums} (next : IsNextRoot disk.seen b.plan (b.header.generation + 2) (one_entry n) b.root root) where
+    abbrev books : Books
+    books = with_header b (replaced_header age b) root (one_entry n)
 
-  pub replaced_on : stored_on disk (adopted (replaced_header age b) b.root (one_entry n) b)
-      ≡ on_snapshots (replaced age n (first_frame disk.seen b n)) (stored_on disk b)
-  replaced_on = idle_stored (replaced_header age b) (one_entry n) may.stands may.free (replaced age n frame) replaced_stored
+    units_next : (row b.plan.version).sealed ≡ true → HasUnits disk.seen b.plan root again (one_entry n)
+    units_next sealed =
+        next_units (kept.units sealed) (kept.count ∙ may.home) again (one_entry n) sealed
+        (λ m s less begins beside.
+        let only = only_page m s (omega (arith, less)) beside in absurd (omega (arith, only.0, less, may.page)))
+        (λ m s le lt beside.
+        let only = only_page m s lt beside in
+        subst (λ (k : ℕ). IsSlotSummed disk.seen b.plan again k m) only.1
+        (subst (λ (k : ℕ). IsSlotSummed disk.seen b.plan again 0 k) only.0
+        (sums_same disk.seen b.plan again b.header.generation parity 0 n may.summed))) (next.sealed sealed)
+
+    replaced_stored : stored_in disk.seen books ≡ on_snapshots (replaced age n frame) (stored_in disk.seen b)
+    replaced_stored = grind (arith, nat_tests, puts_same, slot_same, after_same, parity, none_frozen, frames_next)
+
+    pub may_replace : MayAdopt disk b (replaced_header age b) root (one_entry n)
+    may_replace = may_adopt_idle (replaced_header age b) root (one_entry n) may.stands may.free parity
+        (header_fits b kept.header may.later may.most some) refl directory_next spelt_next
+        (spares_log b.header b.directory again kept.plan kept.count may.home inside_half) units_next next.plain may.sound refl
+
+    pub replaced_on : stored_on disk (adopted (replaced_header age b) root (one_entry n) b)
+        ≡ on_snapshots (replaced age n (first_frame disk.seen b n)) (stored_on disk b)
+    replaced_on = idle_stored (replaced_header age b) root (one_entry n) may.stands may.free (replaced age n frame) replaced_stored
+
+-- reads change nothing that a page's commit needs
+pub replace_read : {old mid : Disk} {b : Books} {n age : ℕ} → MayReplace old b n age → ReadsOnly old mid → MayReplace mid b n age
+replace_read {old} {mid} {b} {n} {age} may reads =
+    let stays = read_stays reads may.stands in
+    let seen : old.seen ≡ mid.seen = sym (agrees_is mid.seen old.seen reads.seen) in
+    record {
+      idle = record { stands = stays.stands; free = may.free; home = may.home; sound = stays.goes_on.sound may.sound };
+      object = may.object;
+      page = may.page;
+      spelt = subst (λ (image : Image). IsFrameOf b.plan.geometry age n (first_bytes image b n) (first_frame image b n)) seen may.spelt;
+      summed = subst (λ (image : Image). IsSlotSummed image b.plan b.header.generation 0 n) seen may.summed;
+      later = may.later;
+      most = may.most;
+    }
+
+-- the seals are read, and then the object is saved
+module _ {old mid : Disk} {b : Books} {n age : ℕ} (may : MayReplace old b n age) (reads : ReadsOnly old mid) {root : Sums}
+    (next : IsNextRoot old.seen b.plan (b.header.generation + 2) (one_entry n) b.root root) where
+  seen : old.seen ≡ mid.seen
+  seen = sym (agrees_is mid.seen old.seen reads.seen)
+
+  next_mid : IsNextRoot mid.seen b.plan (b.header.generation + 2) (one_entry n) b.root root
+  next_mid = subst (λ (image : Image). IsNextRoot image b.plan (b.header.generation + 2) (one_entry n) b.root root) seen next
+
+  pub may_replace_read : MayAdopt mid b (replaced_header age b) root (one_entry n)
+  may_replace_read = may_replace (replace_read may reads) next_mid
+
+  pub replaced_same : stored_on mid (adopted (replaced_header age b) root (one_entry n) b)
+      ≡ on_snapshots (replaced age n (first_frame old.seen b n)) (stored_on old b)
+  replaced_same =
+      replaced_on (replace_read may reads) next_mid
+      ∙ ap (λ (image : Image). on_snapshots (replaced age n (first_frame image b n)) (stored_on mid b)) (sym seen)
+      ∙ ap (on_snapshots (replaced age n (first_frame old.seen b n))) (read_stays reads may.stands).stored
 
 -- if there is no frozen state, no checkpoint size is recorded
 pub size_none : (f : ℕ → FrozenPuts) (o : Option ℕ) → option_map f o ≡ None → o ≡ None
@@ -239,6 +306,7 @@ size_none f o is = grind (arith, nat_tests)
 module _ {old mid : Disk} {b : Books} {n age : ℕ} {words : List ℕ} (idle : IsIdle old b) (stays : Stays old mid b b)
     (may : MayJournal age n (stored_on old b).saved)
     (spelt : IsFrameOf b.plan.geometry age n (first_bytes mid.seen b n) (with_words words (frame_at (stored_on old b).saved.frames n)))
+    (summed : IsSlotSummed mid.seen b.plan b.header.generation 0 n)
   where
     -- the slot encodes a frame: the page with its new words
     found : IsFrameOf b.plan.geometry age n (first_bytes mid.seen b n) (first_frame mid.seen b n)
@@ -247,7 +315,7 @@ module _ {old mid : Disk} {b : Books} {n age : ℕ} {words : List ℕ} (idle : I
         spelt.0 spelt.1
 
     pub may_save_first : MayReplace mid b n age
-    may_save_first = search (stays.goes_on.sound idle.sound, found.0)
+    may_save_first = search (stays.goes_on.sound idle.sound, found.0, summed)
 
     pub journaled_is : on_snapshots (replaced age n (first_frame mid.seen b n)) (stored_on mid b)
         ≡ on_snapshots (journaled age n words) (stored_on old b)

@@ -4,10 +4,10 @@ use Rattle.migrator.proofs.Names.{LeavesState, GoesOnDisk, kept_of, Holds, Leave
 use Rattle.migrator.proofs.Names.{length-set, get_or-set_same, get_or-set_other, length-map-range_with_len, get_or-map-range_with_len, Elsewhere, entry_at}
 use Rattle.migrator.proofs.Names.{count_of, Plan, IsPlan, IsApart, spelt_same, home_extent, one_length, Place, Nowhere, Whole, place_at, slot_bytes, put_of}
 use Rattle.migrator.proofs.Names.{puts_in, ArePut, maps_same, frozen_generation, working_generation, stored_in, IsHome, IsIntact, SparesFrames, SparesKept}
-use Rattle.migrator.proofs.Names.{SparesPuts, IsReadable, CheckpointHeader, Entry, SealedHeader, Sums, committed_header, same_units, IsSlotSummed, IsFrameOf}
-use Rattle.migrator.proofs.Names.{frame_from, most, sym}
+use Rattle.migrator.proofs.Names.{SparesPuts, IsReadable, CheckpointHeader, Entry, Sums, committed_header, same_units, IsSlotSummed, IsFrameOf, frame_from}
+use Rattle.migrator.proofs.Names.{most, sym, IsCopied, home_place, place_length}
 use Rattle.std.specs.Prelude.{map}
-use Rattle.std.proofs.Common.{◌≡◌, ◌<◌}
+use Rattle.std.proofs.Common.{◌≡◌, ◌<◌, ◌∙◌}
 use Rattle.migrator.proofs.PlacesApart.{mended_disk, sound_spared, moments_spared, frame_stays, state_stays, bytes_stay, stays, sums_stay}
 
 -- an image that encodes a saved state holds the frames of that state
@@ -114,7 +114,6 @@ pub readable_stays : {size : ℕ} {p : Plan} {h : CheckpointHeader} {root : Sums
     SparesFrames p h.generation es e → Elsewhere e.sector e.length old new → IsReadable size old p h root es →
     IsReadable size new p h root es
 readable_stays {size} {p} {h} {root} {es} {e} {old} {new} spares change is = record {
-  opened = is.opened;
   plan = is.plan;
   inside = is.inside;
   header = is.header;
@@ -126,12 +125,26 @@ readable_stays {size} {p} {h} {root} {es} {e} {old} {new} spares change is = rec
   no_root = is.no_root;
 }
 
--- if no sector of saved frames changes, the frames of a home stay
+-- if no sector of saved frames changes, the frames of a home stay, and its block
+same_home : (p : Plan) {e : Extent} {old new : Image} (generation : ℕ) (es : List Entry) (o : ℕ) → SparesFrames p generation es e →
+    Elsewhere e.sector e.length old new → IsPlan p → o < count_of p → IsApart (home_extent p o) e → IsCopied old old p generation es o →
+    IsCopied new new p generation es o
+same_home p {e} {old} {new} generation es o spares change plan fits apart is = record {
+  frames = λ n is_n same.
+      let long : place_length p o ≡ place_length p n = one_length p o n plan fits is_n (sym same) in
+      let here : IsApart (home_extent p n) e =
+      subst (λ (k : ℕ). IsApart (record { sector = home_place p n; length = k }) e) long
+      (subst (λ (k : ℕ). IsApart (record { sector = k; length = place_length p o }) e) (sym same) apart) in
+      bytes_stay p n here change ∙ is.frames n is_n same ∙ sym (frame_stays p generation es e spares change n is_n);
+  block = λ sealed i lt. stays apart change i lt ∙ is.block sealed i lt ∙ sym (stays (spares o fits) change i lt);
+}
+
 pub home_stays : (b : Books) {e : Extent} {old new : Image} → SparesFrames b.plan b.header.generation b.directory e →
     Elsewhere e.sector e.length old new → (i : ℕ) → IsPlan b.plan → (entry_at b.directory i).object < count_of b.plan
     → IsApart (home_extent b.plan (entry_at b.directory i).object) e → IsHome old b.plan b.header.generation b.directory i →
     IsHome new b.plan b.header.generation b.directory i
-home_stays b {e} {old} {new} spares change i plan fits apart is = grind (arith, nat_tests, one_length, bytes_stay, frame_stays)
+home_stays b spares change i plan fits apart is =
+    same_home b.plan b.header.generation b.directory (entry_at b.directory i).object spares change plan fits apart is
 
 module _ (size : ℕ) {b : Books} {e : Extent} {old new : Image} (spares : SparesKept b e) (change : Elsewhere e.sector e.length old new)
   where

@@ -3,6 +3,7 @@ pub mod Tables
 mod PlacesApart
 pub mod Kept
 mod Gathering
+mod CompleteSlots
 mod Completing
 pub mod Publishing
 pub mod Putting
@@ -11,6 +12,10 @@ mod Committing
 pub mod Moving
 mod Journaling
 mod Opening
-mod SealedUnits
+pub mod SealedUnits
 mod ReplacedUnits
 mod ReadSeals
+mod Clusters
+mod Blocks
+mod NewFrames
+mod NextUnits

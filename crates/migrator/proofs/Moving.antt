@@ -5,9 +5,11 @@ use Rattle.migrator.proofs.Names.{Place, slot_of, IsTable, taken_count, IsCopied
 use Rattle.migrator.proofs.Names.{stored_in, stored_on, IsHome, IsRunning, IsIntact, Spares, Touches, SparesPuts, SparesKept, Unwritten, mended, is_err}
 use Rattle.migrator.proofs.Names.{Migrates, Publishes, ⊎_elim, all_moved, IsSoundOn, IsLesser, on_snapshots, Result, Ok, Err, IsErr, Counts, MayFinish, []}
 use Rattle.migrator.proofs.Names.{CheckpointHeader, IsDirectory, IsHeader, frame_in, frame_slot_in, AreSpelt, half_within, read_same, spelt_same}
-use Rattle.migrator.proofs.Names.{frame_slot_entry, directory_extent, home_header, MayAdopt, adopted, no_sectors}
+use Rattle.migrator.proofs.Names.{frame_slot_entry, directory_extent, home_header, MayAdopt, adopted, no_sectors, one_length, row, true, HasUnits, frame_sector}
 use Rattle.std.proofs.Common.{◌≡◌, ◌+◌, ◌-◌, ◌<◌, ◌≤◌, ◌∙◌, ◌⊎◌}
-use Rattle.migrator.proofs.PlacesApart.{frame_stays, mended_disk, touches_mended, place_inside, home_apart, spares_home, at_home, no_entries}
+use Rattle.migrator.proofs.Blocks.{block_home, one_sector}
+use Rattle.migrator.proofs.NextUnits.{units_kept}
+use Rattle.migrator.proofs.PlacesApart.{stays, frame_stays, mended_disk, touches_mended, place_inside, home_apart, spares_home, at_home, no_entries}
 use Rattle.migrator.proofs.Kept.{nowhere_frozen, stored_stays, kept_on, goes_seen, goes_spared}
 use Rattle.migrator.proofs.Completing.{none_idle, without}
 use Rattle.migrator.proofs.Putting.{none_spares}
@@ -38,6 +40,26 @@ moved_books b k = record b { moved = b.moved + k }
 moved_one : {size : ℕ} {image : Image} {b : Books} → IsIntact size image b → b.moved < b.header.entries →
     IsHome image b.plan b.header.generation b.directory b.moved → IsIntact size image (moved_books b 1)
 moved_one {size} {image} {b} kept some home = grind (arith, nat_tests)
+
+-- so has an entry that shares the home of the one before it
+home_too : {size : ℕ} {image : Image} {b : Books} → IsIntact size image b → 0 < b.moved → b.moved < length b.directory →
+    home_place b.plan (entry_at b.directory (b.moved - 1)).object ≡ home_place b.plan (entry_at b.directory b.moved).object →
+    IsHome image b.plan b.header.generation b.directory b.moved
+home_too {size} {image} {b} kept one within same =
+    let p : Plan = b.plan in
+    let m : ℕ = (entry_at b.directory (b.moved - 1)).object in
+    let n : ℕ = (entry_at b.directory b.moved).object in
+    let object : (i : ℕ) → i < length b.directory → (entry_at b.directory i).object < count_of p =
+    λ i lt. (kept.directory.each i (record { object = 0; slot = 0 }) lt).object in
+    let was = kept.moved (b.moved - 1) (omega (arith, one)) in
+    let long : place_length p n ≡ place_length p m = one_length p n m kept.plan (object b.moved within)
+    (object (b.moved - 1) (omega (arith, within))) (sym same) in
+    record {
+      frames = λ k is_k home. was.frames k is_k (home ∙ sym same);
+      block = λ sealed i lt.
+          ap (λ (h : ℕ). image (h + i)) (sym same) ∙ was.block sealed i (omega (arith, lt, long))
+          ∙ ap (λ (k : ℕ). image (k + i)) (one_sector p b.header.generation b.directory m n sealed same);
+    }
 
 module _ {old : Disk} (new : Disk) {b : Books} (is : IsDurable old b) (some : b.moved < b.header.entries) where
   none : b.frozen_size ≡ None
@@ -104,9 +126,12 @@ module _ {old : Disk} (new : Disk) {b : Books} (is : IsDurable old b) (some : b.
         object)
         (sym written) copied in
         record {
-          kept = moved_one kept_new some (λ n lt same. seen n lt same ∙
-              sym (frame_stays b.plan b.header.generation b.directory (home_extent b.plan object) spares.frames seen_touches.elsewhere n
-              lt));
+          kept = moved_one kept_new some (record {
+            frames = λ n lt same. seen.frames n lt same ∙
+                sym (frame_stays b.plan b.header.generation b.directory (home_extent b.plan object) spares.frames
+                seen_touches.elsewhere n lt);
+            block = λ sealed i lt. seen.block sealed i lt ∙ sym (stays (spares.frames object object_fits) seen_touches.elsewhere i lt);
+          });
           unwritten = without (moved_books b 1) written;
         }
 
@@ -114,7 +139,10 @@ module _ {old : Disk} (new : Disk) {b : Books} (is : IsDurable old b) (some : b.
 
   pub passed_durable : 0 < b.moved → home_place b.plan (entry_at b.directory (b.moved - 1)).object
       ≡ home_place b.plan (entry_at b.directory b.moved).object → IsDurable old (moved_books b 1)
-  passed_durable one same = grind (arith, nat_tests)
+  passed_durable one same = record {
+    kept = moved_one is.kept some (home_too is.kept one (omega (arith, some, is.kept.count)) same);
+    unwritten = is.unwritten;
+  }
 
 -- ---- one entry after another
 
@@ -220,7 +248,7 @@ module _ {disk : Disk} {b : Books} (may : MayFinish disk b) where
   header = home_header b.header
 
   kept : IsIntact disk.sectors disk.seen b
-  kept = idle_kept header [] may.stands idle
+  kept = idle_kept header b.root [] may.stands idle
 
   -- an object's home frame is its saved frame
   same_frame : {n : ℕ} → n < count_of b.plan → frame_in disk.seen b.plan b.header.generation [] n
@@ -232,14 +260,38 @@ module _ {disk : Disk} {b : Books} (may : MayFinish disk b) where
         (at_home disk.seen b.plan b.header.generation b.directory n is)
     by (Some s) is =
         let entry = frame_slot_entry b.plan b.directory n s is in
-        at_home disk.seen b.plan b.header.generation [] n (no_entries b.plan [] n refl) ∙ kept.moved entry.index (omega (
+        at_home disk.seen b.plan b.header.generation [] n (no_entries b.plan [] n refl) ∙ (kept.moved entry.index (omega (
           arith,
           entry.within,
           kept.count,
           may.all,
-        )) n
+        ))).frames n
         lt
         (sym entry.home_is)
+
+  -- and its home is the block that it was read from
+  same_sector : (row b.plan.version).sealed ≡ true → (n : ℕ) → n < count_of b.plan → (i : ℕ) → i < place_length b.plan n →
+      disk.seen (frame_sector b.plan b.header.generation [] n + i) ≡ disk.seen (frame_sector b.plan b.header.generation b.directory n + i)
+  same_sector sealed n lt i low = by (frame_slot_in b.plan b.directory n) refl where
+    home : frame_sector b.plan b.header.generation [] n ≡ home_place b.plan n
+    home = block_home b.plan b.header.generation [] n (no_entries b.plan [] n refl)
+
+    by : (o : Option ℕ) → frame_slot_in b.plan b.directory n ≡ o → disk.seen (frame_sector b.plan b.header.generation [] n + i)
+        ≡ disk.seen (frame_sector b.plan b.header.generation b.directory n + i)
+    by None is = ap (λ (k : ℕ). disk.seen (k + i)) (home ∙ sym (block_home b.plan b.header.generation b.directory n is))
+    by (Some s) is =
+        let entry = frame_slot_entry b.plan b.directory n s is in
+        let m : ℕ = (entry_at b.directory entry.index).object in
+        let is_m : m < count_of b.plan = (kept.directory.each entry.index (record { object = 0; slot = 0 }) entry.within).object in
+        let long : place_length b.plan m ≡ place_length b.plan n = one_length b.plan m n kept.plan is_m lt entry.home_is in
+        ap (λ (k : ℕ). disk.seen (k + i)) (home ∙ sym entry.home_is)
+        ∙ (kept.moved entry.index (omega (arith, entry.within, kept.count, may.all))).block sealed i (omega (arith, low, long))
+        ∙ ap (λ (k : ℕ). disk.seen (k + i)) (one_sector b.plan b.header.generation b.directory m n sealed entry.home_is)
+
+  -- so the units stay, and the root
+  units_home : (row b.plan.version).sealed ≡ true → HasUnits disk.seen b.plan b.root b.header.generation []
+  units_home sealed =
+      units_kept b.plan b.header.generation b.header.generation b.directory [] disk.seen disk.seen (same_sector sealed) (kept.units sealed)
 
   spelt_home : AreSpelt disk.seen b.plan b.header.age b.header.generation []
   spelt_home = grind (arith, nat_tests, spelt_same, same_frame, kept)
@@ -247,12 +299,12 @@ module _ {disk : Disk} {b : Books} (may : MayFinish disk b) where
   apart : Spares b.plan b.header b.directory (directory_extent b.plan b.header.generation 0)
   apart = grind (arith, nat_tests, half_within, kept, directory_spares, no_sectors)
 
-  home_stored : stored_in disk.seen (with_header b header []) ≡ on_snapshots all_moved (stored_in disk.seen b)
+  home_stored : stored_in disk.seen (with_header b header b.root []) ≡ on_snapshots all_moved (stored_in disk.seen b)
   home_stored = grind (arith, nat_tests, read_same, same_frame)
 
   pub may_finish : MayAdopt disk b (home_header b.header) b.root []
-  may_finish = may_adopt_idle header [] may.stands idle refl (home_fits kept.header may.some) refl (no_directory b.plan) spelt_home apart
-      may.sound refl
+  may_finish = may_adopt_idle header b.root [] may.stands idle refl (home_fits kept.header may.some) refl (no_directory b.plan) spelt_home
+      apart units_home (λ unsealed. refl) may.sound refl
 
   pub finished_stored : stored_on disk (adopted (home_header b.header) b.root [] b) ≡ on_snapshots all_moved (stored_on disk b)
-  finished_stored = idle_stored header [] may.stands idle all_moved home_stored
+  finished_stored = idle_stored header b.root [] may.stands idle all_moved home_stored

@@ -6,10 +6,9 @@ use Rattle.migrator.proofs.Names.{length, length-map-range_with_len, Stays, Opti
 use Rattle.migrator.proofs.Names.{put_or, put_of, ArePut, Geometry, Failed, Agrees, Counts, IsFrameOf, one_frame, CountsOpen, IsRefused, Holds, Books}
 use Rattle.migrator.proofs.Names.{DurableState, frozen_generation, working_generation, below_at, frozen_put, frozen_of, newest, IsRunning, stored_in}
 use Rattle.migrator.proofs.Names.{saved_state, IsIntact, ReadsStore, IsDurable, frame_in, sectors_from, Result, append-nil, IfErr, BadImage, entry_at}
-use Rattle.migrator.proofs.Names.{AreRising, IsTooSmall, total_in, slot_in, IsOpened, IsPlan, superblock_bytes, own_slot, rising_to, no_slot, total_reported}
+use Rattle.migrator.proofs.Names.{AreRising, IsTooSmall, total_in, slot_in, IsPlan, superblock_bytes, own_slot, rising_to, no_slot, total_reported}
 use Rattle.migrator.proofs.Names.{HasNoPlan, IsUnplanned, take, replicate, length-replicate, length_read, Nowhere, Absent, IsSoundOn, IsRead, OpensDurable}
-use Rattle.migrator.proofs.Names.{OnlyReads, first_books, SealedHeader, Sums, row, true, false, with_sums, no_sums, HasUnits, plain_to, false≢true}
-use Rattle.migrator.proofs.Names.{IsPlanRefused}
+use Rattle.migrator.proofs.Names.{OnlyReads, first_books, SealedHeader, Sums, row, true, false, with_sums, no_sums, HasUnits, plain_to, IsPlanRefused}
 use Rattle.std.specs.Prelude.{map}
 use Rattle.std.proofs.Common.{◌≡◌, ◌+◌, ◌<◌, ◌∷◌, ◌++◌, ◌∙◌, ◌≤◌}
 use Rattle.migrator.proofs.Putting.{put_is}
@@ -182,8 +181,8 @@ pub refused_plan : {T : Type 0} (result : Result T OpenFault) (image : Image) (s
 refused_plan {T} result image size none = grind (arith, nat_tests)
 
 pub plan_read : {image : Image} {size : ℕ} {bytes : List ℕ} {p : Plan} → image 0 ≡ bytes → 5 ≤ size → total_in bytes ≤ size →
-    bytes ≡ superblock_bytes p → IsPlan p → IsOpened p.version → HasPlan image size p
-plan_read {image} {size} {bytes} {p} is least whole spelt fits opened = grind (arith, nat_tests, total_reported)
+    bytes ≡ superblock_bytes p → IsPlan p → HasPlan image size p
+plan_read {image} {size} {bytes} {p} is least whole spelt fits = grind (arith, nat_tests, total_reported)
 
 -- ---- finding a slot by binary search
 
@@ -226,7 +225,6 @@ module _ {old new : Disk} {p : Plan} {h : SealedHeader} {es : List Entry} {fs ws
   first_kept = record {
     readable = record {
       plan = plan.fits;
-      opened = plan_new.opened;
       inside = plan_new.whole;
       header = read.header.fits;
       count = read.directory.count;

@@ -1,19 +1,16 @@
 -- Frames that don't overlap, and writes outside them.
 use Rattle.migrator.proofs.Names.{ℕ, zero, suc, Bool, true, false, not, nat_eq, Option, Some, None, List, [], length, refl, sym, ap, subst, inl, inr, arith}
 use Rattle.migrator.proofs.Names.{cases_eq, cases_lt, eq-eqb, Entry, IsDirectory, AreRising, entry_at, home_place, shape_of, slot_in, slot_beside}
-use Rattle.migrator.proofs.Names.{frame_slot_in, count_of, Plan, IsPlan, found_slot, own_slot, rising_to, IsWhole, alone, IsFirstOf, beside_behind, beside_here}
-use Rattle.migrator.proofs.Names.{row, IsOpened, sealed_frame_slot, beside_frame_slot, own_frame_slot, same_Some, frame_slot_entry, home_between, IsFirst}
-use Rattle.migrator.proofs.Names.{Image, Extent, CheckpointHeader, place_length, bytes_at, frame_in, slot_sector, half_sector, sector_or, IsApart, IsInside}
-use Rattle.migrator.proofs.Names.{half_extent, itself, apart_inside, apart_turned, within_inside, home_extent, places_within, places_apart, places_spare_log}
-use Rattle.migrator.proofs.Names.{place_extent, directory_extent, slots_inside, frames_in_slots, directories_inside, halves_within, halves_apart}
-use Rattle.migrator.proofs.Names.{HomesAreBehind, slot_bytes, frame_extent, Spares, ⊎_elim, Frame, Disk, Elsewhere, IsTorn, LeavesOnly, elsewhere_same}
-use Rattle.migrator.proofs.Names.{elsewhere_on, leaves_weaker, leaves_on, Encodes, state_in, same_shaped, read_same, ReadsOnly, WritesAt, SameFrom}
-use Rattle.migrator.proofs.Names.{SameWhereRead, same_saved, LeavesState, SparesFrames, Touches, nat_le, nat_lt, nat_tests, image_of, Elapses, agrees_is}
-use Rattle.migrator.proofs.Names.{Geometry, Shape, IsFrameOf, frame_from, shape_bytes, one_frame, most, Unwritten, mended, unwritten_of, IsSpeltIn}
-use Rattle.migrator.proofs.Names.{directory_length, same_sectors, no_sectors, IfSummed, sectors_from, places_begin}
-use Rattle.migrator.proofs.Names.{EncodesBy, SealedHeader, first_some, half_behind}
-use Rattle.ckpt_log.proofs.Places.{opening_stays}
-use Rattle.ckpt_log.proofs.SavedStates.{same_header}
+use Rattle.migrator.proofs.Names.{frame_slot_in, count_of, Plan, IsPlan, found_slot, rising_to, IsWhole, IsFirstOf, beside_behind, beside_here, row}
+use Rattle.migrator.proofs.Names.{sealed_frame_slot, beside_frame_slot, own_frame_slot, same_Some, frame_slot_entry, home_between, IsFirst, Image, Extent}
+use Rattle.migrator.proofs.Names.{CheckpointHeader, place_length, bytes_at, frame_in, slot_sector, half_sector, sector_or, IsApart, IsInside, half_extent}
+use Rattle.migrator.proofs.Names.{itself, apart_inside, apart_turned, home_extent, places_within, places_apart, places_spare_log, place_extent}
+use Rattle.migrator.proofs.Names.{directory_extent, slots_inside, frames_in_slots, directories_inside, halves_apart, HomesAreBehind, slot_bytes, frame_extent}
+use Rattle.migrator.proofs.Names.{Spares, ⊎_elim, Frame, Disk, Elsewhere, IsTorn, LeavesOnly, elsewhere_same, elsewhere_on, leaves_weaker, leaves_on, Encodes}
+use Rattle.migrator.proofs.Names.{state_in, same_shaped, read_same, ReadsOnly, WritesAt, SameFrom, SameWhereRead, same_saved, LeavesState, SparesFrames}
+use Rattle.migrator.proofs.Names.{Touches, nat_le, nat_lt, nat_tests, image_of, Elapses, agrees_is, Geometry, Shape, IsFrameOf, frame_from, shape_bytes}
+use Rattle.migrator.proofs.Names.{one_frame, most, Unwritten, mended, unwritten_of, IsSpeltIn, directory_length, same_sectors, no_sectors, IfSummed}
+use Rattle.migrator.proofs.Names.{sectors_from, places_begin, EncodesBy, SealedHeader, first_some, half_behind, opening_stays, same_header}
 use Rattle.std.proofs.Common.{◌≡◌, ◌-◌, ◌<◌, ◌≤◌, ◌∷◌, ◌∙◌, ◌%◌, ◌+◌}
 use Rattle.std.specs.Prelude.{if◌then◌else◌, ◌&&◌}
 
@@ -68,7 +65,7 @@ found_first p (e ∷ es) n s is = elim (cases_eq (home_place p e.object) (home_p
   behind e es k other before (suc j) lt same = before j (omega (arith, lt)) same
 
 -- if an entry shares an object's home, `slot_beside` finds a slot
-some_beside : (p : Plan) (es : List Entry) (n i : ℕ) → i < length es → home_place p (entry_at es i).object ≡ home_place p n →
+pub some_beside : (p : Plan) (es : List Entry) (n i : ℕ) → i < length es → home_place p (entry_at es i).object ≡ home_place p n →
     slot_beside p es n ≡ None → ⊥
 some_beside p [] n i lt is none = omega (arith, lt)
 some_beside p (e ∷ es) n zero lt is none = let never : None ≡ Some e.slot = sym none ∙ beside_here p e es n is in cc
@@ -163,10 +160,6 @@ pub in_frame_slot : (image : Image) (p : Plan) (generation : ℕ) (es : List Ent
     frame_in image p generation es n ≡ slot_bytes image p generation s n
 in_frame_slot image p generation es n is = ap (λ (o : Option ℕ). bytes_at image (sector_or o (slot_sector p generation) (home_place p n)) p
     n) is
-
-pub in_slot : (image : Image) (p : Plan) (generation : ℕ) (es : List Entry) (n : ℕ) {s : ℕ} → IsOpened p.version →
-    slot_in es n ≡ Some s → frame_in image p generation es n ≡ slot_bytes image p generation s n
-in_slot image p generation es n {s} opened is = in_frame_slot image p generation es n (own_frame_slot p es n opened is)
 
 pub at_home : (image : Image) (p : Plan) (generation : ℕ) (es : List Entry) (n : ℕ) → frame_slot_in p es n ≡ None →
     frame_in image p generation es n ≡ bytes_at image (home_place p n) p n

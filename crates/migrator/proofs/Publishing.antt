@@ -2,16 +2,16 @@
 use Rattle.migrator.proofs.Names.{IfOk-from_err, nat_tests, Snapshots, generation_after, working_generation, IsDirectory, IsHeader, AreSpelt, IsInside}
 use Rattle.migrator.proofs.Names.{half_extent, half_sector, half_start, directories_inside, First, Second, ArePut, slot_bytes, bytes_at, ap, IsDurable}
 use Rattle.migrator.proofs.Names.{IsIntact, Books, MayAdopt, Option, Unwritten, mended, saved_state, stored_in, stored_on, ℕ, Result, Ok, Err, List, refl, sym}
-use Rattle.migrator.proofs.Names.{subst, inl, inr, ⊎_elim, OnOk, OnErr, Image, Disk, Elsewhere, Only, LeavesOnly, agrees_is, leaves_weaker, leaves_on, Entry}
+use Rattle.migrator.proofs.Names.{subst, inl, inr, ⊎_elim, OnOk, OnErr, Image, Disk, Only, LeavesOnly, agrees_is, leaves_weaker, leaves_on, Entry}
 use Rattle.migrator.proofs.Names.{CheckpointHeader, IsFrameOf, Encodes, SavedState, frame_in, directory_sector, directory_length, state_in, Plan, length_read}
 use Rattle.migrator.proofs.Names.{read_at, spelt_same, CommitsOne, Precedes, HasNew, IsOld, IsOldOrNew, IsReady, directory_extent, spares_opening, SparesRest}
 use Rattle.migrator.proofs.Names.{same_units, old_denoted, new_denoted, LeavesState, SavesOnly, IsErr, Extent, Touches, None, MayCommitAt, Stays, AreKeepable}
 use Rattle.migrator.proofs.Names.{AreComplete, Keeps, committed, next_saved, FrozenPuts, frozen_generation, frozen_of, next_header, seen_by, puts, on_snapshots}
 use Rattle.migrator.proofs.Names.{adopted, entries_of, arith, Counts, Publishes, SavedFrames, LeavesSaved, LeavesEither, Stored, IsSoundOn, zero, suc, []}
 use Rattle.migrator.proofs.Names.{length, replicate, Place, Nowhere, IsRunning, SparesKept, place_at, Spares, Frame, Geometry, IsKeepable, Commits, LeavesOneOf}
-use Rattle.migrator.proofs.Names.{same_Some, option_map, on_ok_weaker, EncodesBy, committed_header, with_sums, Sums, SealedHeader, Version, IsOpened, row, Bool}
+use Rattle.migrator.proofs.Names.{same_Some, option_map, on_ok_weaker, EncodesBy, committed_header, with_sums, Sums, SealedHeader, Version, row, Bool, HasUnits}
 use Rattle.migrator.proofs.Names.{true, one_committed, AreEntriesOf, place_length, sectors_from, shape_of, IsSlotSummed, IfSummed, sums_if, TouchesAt}
-use Rattle.migrator.proofs.Names.{first_home_inside, false≢true}
+use Rattle.migrator.proofs.Names.{first_home_inside, false, IsNextRoot}
 use Rattle.std.specs.Prelude.{if◌then◌else◌, ◌==◌}
 use Rattle.std.proofs.Common.{◌≡◌, ◌⊎◌, ◌∙◌, ◌+◌, ◌*◌, ◌%◌, ◌∷◌, ◌≤◌}
 use Rattle.layout.specs.Committed.{Commits as CommitsHeader}
@@ -181,7 +181,8 @@ module _ {old mid : Disk} {b : Books} {o : Option Unwritten} {k age : ℕ} (may 
   pub mid_stays : Stays old mid b (record b { unwritten = o })
   mid_stays = search (arith, kept_with, mid_kept, has_after, stored_after, goes_seen, goes_after)
 
-  module _ (none : o ≡ None) (complete : AreComplete mid.seen b.plan (frozen_generation b) (entries_of b.frozen)) where
+  module _ (none : o ≡ None) (complete : AreComplete mid.seen b.plan (frozen_generation b) (entries_of b.frozen)) {root : Sums}
+      (next : IsNextRoot mid.seen b.plan (frozen_generation b) (entries_of b.frozen) b.root root) where
     now : IsCompleted old (seen_by old.seen b) b k mid
     now = ready was may.running keeps none
 
@@ -191,15 +192,15 @@ module _ {old mid : Disk} {b : Books} {o : Option Unwritten} {k age : ℕ} (may 
     keepable : AreKeepable b.plan.geometry age (next_saved puts age (frozen_of mid.seen b k) (stored_in mid.seen b).saved).frames
     keepable = keepable_at now may.keepable
 
-    pub may_commit_now : MayAdopt mid (record b { unwritten = o }) (next_header age b) b.root (entries_of b.frozen)
-    may_commit_now = may_commit mid k kept may.running may.stable complete may.later may.most keepable mid_stays.stands none
+    pub may_commit_now : MayAdopt mid (record b { unwritten = o }) (next_header age b) root (entries_of b.frozen)
+    may_commit_now = may_commit mid k kept may.running may.stable complete may.later may.most keepable next mid_stays.stands none
         (mid_stays.goes_on.sound may.sound)
 
-    pub commit_stored : stored_on mid (adopted (next_header age b) b.root (entries_of b.frozen) (record b { unwritten = o })) ≡ on_snapshots
+    pub commit_stored : stored_on mid (adopted (next_header age b) root (entries_of b.frozen) (record b { unwritten = o })) ≡ on_snapshots
         (committed puts age (frozen_of (seen_by old.seen b) b k)) (stored_on old b)
     commit_stored =
-        stored_raw mid books none (adopted (next_header age b) b.root (entries_of b.frozen) books) refl
-        ∙ committed_stored mid k kept may.running may.stable complete may.later may.most keepable
+        stored_raw mid books none (adopted (next_header age b) root (entries_of b.frozen) books) refl
+        ∙ committed_stored mid k kept may.running may.stable complete may.later may.most keepable next
         ∙ ap (λ (f : FrozenPuts). on_snapshots (committed puts age f) (stored_in mid.seen b)) now.frozen ∙
         ap (on_snapshots (committed puts age frozen)) now.stored
 
@@ -307,14 +308,10 @@ commits_by {old = old} {new = new} {b = b} {c = c} {k = k} {age = age} {r = r} m
 
 -- ---- if no checkpoint is frozen
 
--- programs do not open version 3 yet
-pub never_sealed : (v : Version) → IsOpened v → (row v).sealed ≡ true → ⊥
-never_sealed v opened sealed = false≢true (sym opened ∙ sealed)
-
--- the books with this header and directory
-abbrev pub with_header : Books → CheckpointHeader → List Entry → Books
-with_header b next es =
-    record b { header = next; directory = es; moved = 0 }
+-- the books with this header, root and directory
+abbrev pub with_header : Books → CheckpointHeader → Sums → List Entry → Books
+with_header b next root es =
+    record b { header = next; root = root; directory = es; moved = 0 }
 
 no_places : (ps : List Place) → ((n : ℕ) → place_at ps n ≡ Nowhere) → replicate (length ps) Nowhere ≡ ps
 no_places [] none = refl
@@ -325,7 +322,7 @@ pub slot_same : (image : Image) (plan : Plan) (g h : ℕ) → g % 2 ≡ h % 2 �
     slot_bytes image plan g s n ≡ slot_bytes image plan h s n
 slot_same image plan g h same s n = ap (λ (r : ℕ). bytes_at image (half_start plan (if r == 0 then First else Second) + 9 * s) plan n) same
 
-sums_same : (image : Image) (plan : Plan) (g h : ℕ) → g % 2 ≡ h % 2 → (s n : ℕ) → IsSlotSummed image plan h s n →
+pub sums_same : (image : Image) (plan : Plan) (g h : ℕ) → g % 2 ≡ h % 2 → (s n : ℕ) → IsSlotSummed image plan h s n →
     IsSlotSummed image plan g s n
 sums_same image plan g h same s n =
     subst (λ (r : ℕ). IfSummed (shape_of plan n) (sectors_from image (half_start plan (if r == 0 then First else Second) + 9 * s)
@@ -338,7 +335,8 @@ half_put : {image : Image} {p : Plan} {g h : ℕ} {ps : List Place} → h % 2 �
 half_put {image} {p = plan} {g} {h} same are =
     are_put_same (λ n s lt is. slot_same image plan h g same s n) (λ n s lt is. sums_same image plan h g same s n) are
 
-module _ {disk : Disk} {b : Books} (next : CheckpointHeader) (es : List Entry) (is : IsDurable disk b) (idle : b.frozen_size ≡ None) where
+module _ {disk : Disk} {b : Books} (next : CheckpointHeader) (root : Sums) (es : List Entry) (is : IsDurable disk b)
+    (idle : b.frozen_size ≡ None) where
   none : b.unwritten ≡ None
   none = none_idle b b.unwritten is.unwritten idle
 
@@ -348,59 +346,59 @@ module _ {disk : Disk} {b : Books} (next : CheckpointHeader) (es : List Entry) (
   pub idle_kept : IsIntact disk.sectors disk.seen b
   idle_kept = kept_raw none is
 
-  idle_books : with_header b next es ≡ adopted next b.root es b
+  idle_books : with_header b next root es ≡ adopted next root es b
   idle_books = grind (arith, nat_tests, no_places, blank)
 
   pub idle_stored : (stage : Snapshots FrozenPuts → Snapshots FrozenPuts) →
-      stored_in disk.seen (with_header b next es) ≡ on_snapshots stage (stored_in disk.seen b) →
-      stored_on disk (adopted next b.root es b) ≡ on_snapshots stage (stored_on disk b)
+      stored_in disk.seen (with_header b next root es) ≡ on_snapshots stage (stored_in disk.seen b) →
+      stored_on disk (adopted next root es b) ≡ on_snapshots stage (stored_on disk b)
   idle_stored stage stored = grind (arith, nat_tests)
 
   module _ (parity : next.generation % 2 ≡ b.header.generation % 2) (header : IsHeader
       (row b.plan.version).first_sequence b.plan.geometry.log next)
       (count : length es ≡ next.entries)
       (directory : IsDirectory b.plan.geometry es) (spelt : AreSpelt disk.seen b.plan next.age next.generation es)
-      (apart : Spares b.plan b.header b.directory (directory_extent b.plan next.generation next.entries)) where
+      (apart : Spares b.plan b.header b.directory (directory_extent b.plan next.generation next.entries))
+      (units : (row b.plan.version).sealed ≡ true → HasUnits disk.seen b.plan root next.generation es)
+      (plain : (row b.plan.version).sealed ≡ false → root ≡ b.root) where
     abbrev sectors : Extent
     sectors = directory_extent b.plan next.generation next.entries
 
     inside : IsInside sectors (half_extent b.plan.version b.plan.geometry (half_sector b.plan next.generation))
     inside = directories_inside b.plan next.generation next.entries header.entries
 
-    kept_next : IsIntact disk.sectors disk.seen (with_header b next es)
+    kept_next : IsIntact disk.sectors disk.seen (with_header b next root es)
     kept_next = record {
       readable = record {
         plan = is.kept.plan;
-        opened = is.kept.opened;
         inside = is.kept.inside;
         header = header;
         count = count;
         directory = directory;
         saved = spelt;
-        -- an opened image isn't sealed
-        units = λ sealed. absurd (never_sealed b.plan.version is.kept.opened sealed);
-        no_root = is.kept.no_root;
+        units = units;
+        no_root = λ unsealed. plain unsealed ∙ is.kept.no_root unsealed;
       };
       few = omega arith;
       moved = λ i less. absurd (omega (arith, less));
       frozen = half_put (omega (arith, parity)) idle_kept.frozen;
-      running = subst (IsRunning (with_header b next es)) (sym idle) blank;
+      running = subst (IsRunning (with_header b next root es)) (sym idle) blank;
       working = half_put (after_same next.generation b.header.generation b.frozen_size parity) idle_kept.working;
     }
 
     spares : SparesKept b sectors
     spares = search (arith, homes_spare, inside, none_spares, blank, half_spares, idle_half)
 
-    spares_next : SparesKept (with_header b next es) sectors
+    spares_next : SparesKept (with_header b next root es) sectors
     spares_next = record {
       frames = directory_spares next.generation next.entries is.kept.plan directory header.entries;
       homes = λ i less. absurd (omega (arith, less));
       frozen = none_spares b.plan (next.generation + 1) b.frozen sectors blank;
-      working = half_spares (working_generation (with_header b next es)) next.generation is.kept.plan
-          (idle_half (with_header b next es) idle next.generation refl) is.kept.working.table is.kept.working.few inside;
+      working = half_spares (working_generation (with_header b next root es)) next.generation is.kept.plan
+          (idle_half (with_header b next root es) idle next.generation refl) is.kept.working.table is.kept.working.few inside;
     }
 
-    pub may_adopt_idle : IsSoundOn disk b → b.header.sequence + 1 ≡ next.sequence → MayAdopt disk b next b.root es
+    pub may_adopt_idle : IsSoundOn disk b → b.header.sequence + 1 ≡ next.sequence → MayAdopt disk b next root es
     may_adopt_idle sound follows = grind (arith, nat_tests, sound, none, seen, idle_books, kept_next, spares, spares_next)
 
 -- ---- a frame that may be kept at an age may be kept at a later one

@@ -8,8 +8,10 @@ use Rattle.migrator.proofs.Names.{slot_frame, Touches, entries_of, slot_for, Cou
 use Rattle.migrator.proofs.Names.{Err, IsErr, counts_on, IsSlotSummed}
 use Rattle.std.proofs.Common.{◌≡◌, ◌⊎◌, ◌∙◌, ◌+◌, ◌<◌, ◌≤◌}
 use Rattle.std.specs.Prelude.{if◌then◌else◌}
-use Rattle.migrator.proofs.Completing.{entry_of, held_after, without, working_again, goes_after, kept_with, mid_kept, stored_after, keeps_written}
-use Rattle.migrator.proofs.Completing.{unwritten_inside, working_sums}
+use Rattle.migrator.proofs.CompleteSlots.{keeps_written}
+use Rattle.migrator.proofs.Completing.{entry_of, held_after, without, working_again, goes_after, kept_with, mid_kept, stored_after}
+use Rattle.migrator.proofs.CompleteSlots.{unwritten_inside}
+use Rattle.migrator.proofs.Completing.{working_sums}
 use Rattle.migrator.proofs.Committing.{frozen_fits}
 use Rattle.migrator.proofs.Kept.{GoesOnSeen, goes_seen, goes_spared, stored_stays, kept_on}
 use Rattle.migrator.proofs.PlacesApart.{unmended, writes_mended, place_inside, spares_other, touches}

@@ -1,15 +1,9 @@
 -- How many sectors the seal of a unit needs, and whose seal it is.
-use Rattle.migrator.proofs.Names.{ℕ, Bool, List, Image, Entry, Sums, sectors_from, ap, Plan, Shape, Version, true, false, nat_lt, refl, sym, subst, arith, nat_tests, false≢true, row, place_length}
+use Rattle.migrator.proofs.Names.{ℕ, Bool, List, Image, Entry, Sums, sectors_from, ap, Plan, Shape, Version, true, false, nat_lt, refl, sym, subst, arith}
+use Rattle.migrator.proofs.Names.{nat_tests, false≢true, row, place_length, range_with, rank_in, shape_of, node_shape, page_shape, frame_sector, seal_in}
+use Rattle.migrator.proofs.Names.{unit_in, one_from, IsRootWith, unit_at, unit_length}
 use Rattle.std.proofs.Common.{◌≡◌, ◌≤◌, ◌∙◌}
 use Rattle.std.specs.Prelude.{if◌then◌else◌}
-use Rattle.layout.specs.Homes.{range_with, rank_in, shape_of}
-use Rattle.layout.specs.Shape.{node_shape, page_shape}
-use Rattle.layout.specs.Image.{frame_sector}
-use Rattle.layout.specs.sealed.Sector.{seal_in}
-use Rattle.layout.specs.sealed.Units.{unit_in}
-use Rattle.layout.proofs.Sectors.{one_from}
-use Rattle.ckpt_log.specs.sealed.Units.{IsRootWith}
-use Rattle.migrator.specs.Units.{unit_at, unit_length}
 
 abbrev shape_by : Version → Bool → ℕ → Shape
 shape_by v node rank = if node then node_shape v rank else page_shape v

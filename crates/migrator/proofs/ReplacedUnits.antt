@@ -1,12 +1,8 @@
--- The root of units, after some of them were replaced one by one.
-use Rattle.migrator.proofs.Names.{ℕ, zero, suc, Bool, List, [], Sums, true, false, refl, sym, ap, subst, arith, range_with_len}
+-- The root of units, after one of them was replaced.
+use Rattle.migrator.proofs.Names.{ℕ, zero, suc, Bool, List, [], Sums, true, false, refl, sym, ap, arith, range_with_len, flat_map-append, flat_map, Unit}
+use Rattle.migrator.proofs.Names.{root_of, unit_of, IsRootWith}
 use Rattle.std.proofs.Common.{◌≡◌, ◌+◌, ◌-◌, ◌<◌, ◌≤◌, ◌∷◌, ◌++◌, ◌∙◌}
 use Rattle.std.specs.Prelude.{if◌then◌else◌}
-use Rattle.std.proofs.lemmas.List.Concat.{flat_map-append}
-use Rattle.std.specs.List.{flat_map}
-use Rattle.layout.specs.sealed.Root.{Unit, root_of}
-use Rattle.layout.specs.sealed.RootLaws.{unit_of}
-use Rattle.ckpt_log.specs.sealed.Units.{IsRootWith}
 
 -- ---- lists
 
@@ -89,41 +85,3 @@ module _ (begins : ℕ → Bool) (k : ℕ) where
       ∙ ap (λ (us : List Unit). root_of (us ++ g m ∷ after f m)) front
       ∙ ap (λ (us : List Unit). root_of (before g m ++ g m ∷ us)) back
       ∙ ap root_of (sym (around g m lt is))
-
-  -- ---- some units are replaced: those of the numbers that are done
-
-  module _ (old new : ℕ → Unit) where
-    abbrev pub unit_by : Bool → ℕ → Unit
-    unit_by replaced n = if replaced then new n else old n
-
-    abbrev pub mixed : (ℕ → Bool) → ℕ → Unit
-    mixed done n = unit_by (done n) n
-
-    pub none_mixed : (done : ℕ → Bool) → ((n : ℕ) → n < k → begins n ≡ true → done n ≡ false) → units_by (mixed done) ≡ units_by old
-    none_mixed done none = same_units_by (mixed done) old (λ n lt is. ap (λ (b : Bool). unit_by b n) (none n lt is))
-
-    -- the units that are not done are those that stay
-    pub all_mixed : (done : ℕ → Bool) → ((n : ℕ) → n < k → begins n ≡ true → done n ≡ false → old n ≡ new n) →
-        units_by (mixed done) ≡ units_by new
-    all_mixed done stay = same_units_by (mixed done) new (λ n lt is. by (done n) n (stay n lt is)) where
-      by : (b : Bool) (n : ℕ) → (b ≡ false → old n ≡ new n) → unit_by b n ≡ new n
-      by true n same = refl
-      by false n same = same refl
-
-    -- one more is done
-    pub one_mixed : (done more : ℕ → Bool) (m : ℕ) (root next : Sums) → m < k → begins m ≡ true → HasNumber m (old m) →
-        HasNumber m (new m) → done m ≡ false → more m ≡ true → ((n : ℕ) → (n ≡ m → ⊥) → n < k → begins n ≡ true → done n ≡ more n) →
-        root ≡ root_of (units_by (mixed done)) → IsRootWith m (old m).seal (new m).seal root next → next ≡ root_of (units_by (mixed more))
-    one_mixed done more m root next lt is old_is new_is undone is_done same was step =
-        let before_is : mixed done m ≡ old m = ap (λ (b : Bool). unit_by b m) undone in
-        let after_is : mixed more m ≡ new m = ap (λ (b : Bool). unit_by b m) is_done in
-        replaced_one (mixed done) (mixed more) m root next lt is (subst (HasNumber m) (sym before_is) old_is)
-        (subst (HasNumber m) (sym after_is) new_is) (λ n other less begun. ap (λ (b : Bool). unit_by b n) (same n other less begun)) was
-        (subst (λ (u : Unit). IsRootWith m u.seal (mixed more m).seal root next) (sym before_is)
-        (subst (λ (u : Unit). IsRootWith m (old m).seal u.seal root next) (sym after_is) step))
-
-    -- none of the units changes in a step that does no new number
-    pub same_mixed : (done more : ℕ → Bool) → ((n : ℕ) → n < k → begins n ≡ true → done n ≡ more n) →
-        units_by (mixed done) ≡ units_by (mixed more)
-    same_mixed done more same =
-        same_units_by (mixed done) (mixed more) (λ n lt is. ap (λ (b : Bool). unit_by b n) (same n lt is))

@@ -1,27 +1,14 @@
 -- The units of a sealed image, number by number.
-use Rattle.migrator.proofs.Names.{ℕ, Bool, List, [], Image, Disk, Entry, Plan, OpenFault, BadImage, HasUnits, HasHeader, HasPlan, HasDirectory, SealedHeader, Sums}
-use Rattle.migrator.proofs.Names.{count_of, row, true, false, nat_lt, refl, sym, ap, subst, inl, inr, arith, nat_tests, cases_lt, take, length, sectors_from}
-use Rattle.migrator.proofs.Names.{Option, Some, None, Result, Ok, Err, false≢true, OnOk, IfErr, frame_slot_in, home_place, sector_or, slot_sector}
-use Rattle.migrator.proofs.Names.{place_length, range_with_len, map-range_with_len_more, append-nil, IsBadFor, Shape, Version, IsBadAt}
-use Rattle.std.specs.Prelude.{if◌then◌else◌, ◌==◌, IsTrue, IfOk}
+use Rattle.migrator.proofs.Names.{ℕ, Bool, List, [], Image, Entry, Plan, OpenFault, HasUnits, HasHeader, HasPlan, HasDirectory, SealedHeader, Sums, count_of}
+use Rattle.migrator.proofs.Names.{row, true, false, nat_lt, sym, ap, subst, inl, inr, arith, nat_tests, cases_lt, take, length, sectors_from, Option, Some}
+use Rattle.migrator.proofs.Names.{None, Result, Ok, Err, false≢true, OnOk, IfErr, frame_slot_in, home_place, sector_or, slot_sector, place_length}
+use Rattle.migrator.proofs.Names.{range_with_len, map-range_with_len_more, append-nil, IsBadFor, Version, IsTrue, IfOk, lt-ltb, le-ltb, map-id, take_at}
+use Rattle.migrator.proofs.Names.{flat_map-append, flat_map, range_with, rank_in, frame_sector, node_shape, page_shape, IsCluster, Unit, root_of, unit_of}
+use Rattle.migrator.proofs.Names.{seal_in, IsSummed, begins_unit, block_in, cluster_count, unit_in, IsBadBlock, IsBadCluster, IsRootAfter, page_seal, AreUnits}
+use Rattle.migrator.proofs.Names.{HasBadUnit, HasOtherUnits, IsBadUnit, IsUnitAt, IsUnitBy, units_until}
+use Rattle.std.specs.Prelude.{if◌then◌else◌, ◌==◌}
 use Rattle.std.proofs.Common.{◌≡◌, ◌+◌, ◌<◌, ◌≤◌, ◌∷◌, ◌++◌, ◌∙◌}
-use Rattle.std.proofs.lemmas.Bool.{lt-ltb, le-ltb}
-use Rattle.std.proofs.lemmas.List.{map-id, take_at}
-use Rattle.std.proofs.lemmas.List.Concat.{flat_map-append}
-use Rattle.std.specs.List.{flat_map}
-use Rattle.device.specs.Disk.{IsWhole}
-use Rattle.layout.specs.Homes.{range_with, rank_in, shape_of}
-use Rattle.layout.specs.Image.{frame_sector}
-use Rattle.layout.specs.Shape.{node_shape, page_shape}
 use Rattle.layout.specs.declared.open_fault.OpenFault.TheVariants as refusal
-use Rattle.layout.specs.sealed.Cluster.{IsCluster}
-use Rattle.layout.specs.sealed.Root.{Unit, root_of}
-use Rattle.layout.specs.sealed.RootLaws.{unit_of}
-use Rattle.layout.specs.sealed.Sector.{seal_in}
-use Rattle.layout.specs.sealed.Summed.{IsSummed}
-use Rattle.layout.specs.sealed.Units.{begins_unit, block_in, cluster_count, unit_in, units_in}
-use Rattle.ckpt_log.specs.sealed.Units.{IsBadBlock, IsBadCluster, IsRootAfter, page_seal}
-use Rattle.migrator.specs.Units.{AreUnits, HasBadUnit, HasOtherUnits, IsBadUnit, IsUnitAt, IsUnitBy, units_until}
 
 -- ---- lists
 

@@ -4,7 +4,7 @@ use Rattle.migrator.specs.Names.{frame_at, Image, Disk, Agrees, Narrows, Peeks, 
 use Rattle.migrator.specs.Names.{entry_at, IsHeader, place_length, SavedState, Encodes, slot_sector, AreSpelt, state_in}
 use Rattle.migrator.specs.Names.{Plan, IsPlan, SavedFrames, kept_of, LeavesSaved, FrozenView, Snapshots, freezing}
 use Rattle.migrator.specs.Names.{IsObject, IsKeepable, most, Counts, LeavesEither, Result, OnOk, OnErr, moved}
-use Rattle.migrator.specs.Names.{moved_saved, LeavesOneOf, committed, next_saved, true, false, HasUnits, IsOpened, Sums}
+use Rattle.migrator.specs.Names.{moved_saved, LeavesOneOf, committed, next_saved, true, false, HasUnits, Sums}
 use Rattle.migrator.specs.Names.{SealedHeader, Version, no_sums, row, sums_if}
 use Rattle.std.specs.Prelude.{◌≡◌, ◌⊎◌, ◌+◌, ◌-◌, ◌^◌, ◌<◌, ◌≤◌}
 use Rattle.model.specs.declared.object.Role.TheVariants as role
@@ -123,7 +123,6 @@ IsRunning b o = MayRun b.header.entries b.plan.geometry.log b.frozen o
 pub record IsReadable (size : ℕ) (image : Image) (p : Plan) (h : CheckpointHeader) (root : Sums) (es : List Entry)
     : Type 0 where
   pub plan : IsPlan p
-  pub opened : IsOpened p.version
   pub inside : p.total ≤ size
   pub header : IsHeader (row p.version).first_sequence p.geometry.log h
   pub count : length es ≡ h.entries

@@ -16,15 +16,15 @@ pub use Rattle.layout.specs.Frame.{IsFrameOf}
 unfoldable pub use Rattle.layout.specs.FrameReader.{frame_from}
 pub use Rattle.layout.specs.Frames.{IsObject}
 pub use Rattle.layout.specs.Header.{IsHeader}
-pub use Rattle.layout.specs.Homes.{home_place, place_length, shape_of}
-pub use Rattle.layout.specs.Image.{bytes_at, directory_sector, frame_in, frame_sector, half_sector, slot_beside}
-pub use Rattle.layout.specs.Image.{slot_in, slot_sector}
+pub use Rattle.layout.specs.Homes.{home_place, place_length, range_with, shape_of}
+pub use Rattle.layout.specs.Image.{bytes_at, directory_sector, frame_in, frame_sector, half_sector, sector_or, slot_in}
+pub use Rattle.layout.specs.Image.{slot_sector}
 unfoldable pub use Rattle.layout.specs.Image.{sectors_from}
 pub use Rattle.layout.specs.Shape.{IsShapeFor, shape_bytes}
 pub use Rattle.layout.specs.Spelt.{AreSpelt, count_of, state_in}
 unfoldable pub use Rattle.layout.specs.Spelt.{frames_read}
 pub use Rattle.layout.specs.Superblock.{IsApart, IsPlan, Plan}
-pub use Rattle.layout.specs.Version.{IsOpened, row}
+pub use Rattle.layout.specs.Version.{row}
 unfoldable pub use Rattle.layout.specs.Version.{directory_length}
 pub use Rattle.layout.specs.declared.bad_image.BadImage.{BadImage}
 pub use Rattle.layout.specs.declared.bad_image.BadImage.TheVariants.{BadFrame}
@@ -35,14 +35,17 @@ pub use Rattle.layout.specs.declared.open_fault.OpenFault.{OpenFault}
 pub use Rattle.layout.specs.declared.sealed.header.SealedHeader.{SealedHeader}
 pub use Rattle.layout.specs.declared.shape.Shape.{Shape}
 pub use Rattle.layout.specs.declared.version.Version.{Version}
-pub use Rattle.layout.specs.sealed.Summed.{IfSummed}
-pub use Rattle.layout.specs.sealed.Units.{HasUnits}
+pub use Rattle.layout.specs.sealed.Cluster.{IsCluster}
+pub use Rattle.layout.specs.sealed.Root.{Unit}
+unfoldable pub use Rattle.layout.specs.sealed.Root.{root_of}
+pub use Rattle.layout.specs.sealed.Summed.{IfSummed, IsSummed}
+pub use Rattle.layout.specs.sealed.Units.{HasUnits, begins_unit, block_in, cluster_count, unit_in, units_in}
 pub use Rattle.model.specs.Frame.{frame_at}
 pub use Rattle.model.specs.Keepable.{AreKeepable, IsKeepable}
 pub use Rattle.model.specs.declared.frame.Frame.{Frame}
 pub use Rattle.model.specs.declared.geometry.Geometry.{Geometry}
 pub use Rattle.seal.specs.declared.sums.Sums.{Sums}
-pub use Rattle.std.specs.List.{range_with_len}
-pub use Rattle.std.specs.Prelude.{Bool, List, None, OnErr, OnOk, Option, Result, Some, [], false, length, map, nat_le}
-pub use Rattle.std.specs.Prelude.{nat_lt, option_map, replicate, slice_index_or, slice_set, take, true, vec_capacity, ℕ}
-pub use Rattle.std.specs.Prelude.{⊤}
+pub use Rattle.std.specs.List.{flat_map, range_with_len}
+pub use Rattle.std.specs.Prelude.{Bool, IsTrue, List, None, OnErr, OnOk, Option, Result, Some, [], false, length, map}
+pub use Rattle.std.specs.Prelude.{nat_le, nat_lt, option_map, replicate, slice_index_or, slice_set, take, true}
+pub use Rattle.std.specs.Prelude.{vec_capacity, ℕ, ⊤}

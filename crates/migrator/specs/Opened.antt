@@ -1,7 +1,8 @@
 -- The results of opening a device.
 use Rattle.migrator.specs.Names.{ℕ, None, List, length, take, replicate, ⊤, Frame, Entry, CheckpointHeader}
 use Rattle.migrator.specs.Names.{SealedHeader, BadImage, BadFrame, IsFrameOf, AreSpelt, Plan, OpenFault, Image, Disk}
-use Rattle.migrator.specs.Names.{Only, IsBadBy, HasHeader, HasDirectory, HasUnits, frame_in, Holds, OnlyReads, row, true}
+use Rattle.migrator.specs.Names.{Only, IsBadBy, HasHeader, HasDirectory, HasUnits, frame_in, Holds, OnlyReads, row}
+use Rattle.migrator.specs.Names.{true}
 use Rattle.std.specs.Prelude.{◌≡◌}
 use Rattle.layout.specs.declared.bad_image.BadImage.TheVariants as bad
 use Rattle.layout.specs.declared.open_fault.OpenFault.TheVariants as refusal

@@ -9,6 +9,7 @@ use Rattle.migrator.specs.declared.table.Place.{Place}
 use Rattle.migrator.specs.declared.table.Place.TheVariants.{Nowhere, Whole}
 use Rattle.migrator.specs.Durable.{IsDurable, IsIntact, frozen_generation, working_generation, IsSoundOn, frozen_of}
 use Rattle.migrator.specs.Durable.{first_bytes, first_frame, puts, seen_by, stored_on}
+use Rattle.migrator.specs.Put.{IsSlotSummed}
 use Rattle.migrator.specs.Table.{place_at, whole_count}
 use Rattle.migrator.specs.Spared.{Spares, SparesFrames}
 
@@ -83,12 +84,13 @@ pub record IsIdle (disk : Disk) (b : Books) : Type 0 where
   pub home : b.header.entries ≡ 0
   pub sound : IsSoundOn disk b
 
--- the store is idle, and the new frame of page n is in slot 0 of the half that the saved generation used
+-- the store is idle; the new frame of page n, with its sums, is in slot 0 of the half that the saved generation used
 pub record MayReplace (disk : Disk) (b : Books) (n age : ℕ) : Type 0 where
   pub idle : IsIdle disk b
   pub open idle use *
   pub object : n < count_of b.plan
   pub page : b.plan.geometry.nodes ≤ n
   pub spelt : IsFrameOf b.plan.geometry age n (first_bytes disk.seen b n) (first_frame disk.seen b n)
+  pub summed : IsSlotSummed disk.seen b.plan b.header.generation 0 n
   pub later : b.header.age < age
   pub most : age ≤ 2 ^ 62

@@ -1,15 +1,10 @@
 -- Why the units of a sealed image aren't read.
-use Rattle.migrator.specs.Names.{ℕ, Bool, List, Image, Entry, Plan, OpenFault, BadFrame, HasUnits, Sums}
-use Rattle.migrator.specs.Names.{row, nat_lt, range_with_len, true, false}
-use Rattle.migrator.specs.Names.{⊤, [], place_length, sectors_from}
-use Rattle.std.specs.Prelude.{◌≡◌, ◌<◌, ◌∷◌, if◌then◌else◌, IsTrue}
-use Rattle.std.specs.List.{flat_map}
-use Rattle.layout.specs.Homes.{range_with}
+use Rattle.migrator.specs.Names.{ℕ, Bool, List, Image, Entry, Plan, OpenFault, BadFrame, HasUnits, Sums, row, nat_lt}
+use Rattle.migrator.specs.Names.{range_with_len, true, false, ⊤, [], place_length, sectors_from, IsTrue, flat_map}
+use Rattle.migrator.specs.Names.{range_with, IsCluster, Unit, root_of, IsSummed, begins_unit, block_in, cluster_count}
+use Rattle.migrator.specs.Names.{unit_in, units_in}
+use Rattle.std.specs.Prelude.{◌≡◌, ◌<◌, ◌∷◌, if◌then◌else◌}
 use Rattle.layout.specs.declared.open_fault.OpenFault.TheVariants as refusal
-use Rattle.layout.specs.sealed.Cluster.{IsCluster}
-use Rattle.layout.specs.sealed.Root.{Unit, root_of}
-use Rattle.layout.specs.sealed.Summed.{IsSummed}
-use Rattle.layout.specs.sealed.Units.{begins_unit, block_in, cluster_count, unit_in}
 
 -- the block of a unit: a sealed cluster, or a page's block with its sums
 abbrev pub IsUnitBy : Bool → Plan → ℕ → List ℕ → Type 0
@@ -57,3 +52,8 @@ HasOtherUnits image p root generation es refusal.Failed = ⊤
 HasOtherUnits image p root generation es refusal.NoMemory = ⊥
 HasOtherUnits image p root generation es (refusal.Bad reason) =
     (reason ≡ BadFrame) × ((row p.version).sealed ≡ true) × (HasUnits image p root generation es → ⊥)
+
+-- `new` is the root of the state with these entries; without seals it is the old root
+pub record IsNextRoot (image : Image) (p : Plan) (generation : ℕ) (es : List Entry) (root new : Sums) : Type 0 where
+  pub sealed : (row p.version).sealed ≡ true → new ≡ root_of (units_in image p generation es)
+  pub plain : (row p.version).sealed ≡ false → new ≡ root

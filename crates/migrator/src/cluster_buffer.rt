@@ -1,5 +1,5 @@
 // The cluster that is being written into a log slot.
-ghost use Rattle.std.specs.Prelude.{◌≡◌, ◌+◌, ◌<◌, ◌≤◌, None, Some, true, false, length, IfOk, OnOk, OnErr};
+ghost use Rattle.std.specs.Prelude.{◌≡◌, ◌+◌, ◌<◌, ◌≤◌, None, Some, true, false, [], length, IfOk, OnOk, OnErr};
 ghost use Rattle.device.specs.Calls.{Counts};
 ghost use Rattle.layout.specs.Directory.{IsDirectory, entry_at};
 ghost use Rattle.layout.specs.Frame.{frame_of};
@@ -8,21 +8,25 @@ ghost use Rattle.layout.specs.Homes.{place_length};
 ghost use Rattle.layout.specs.Image.{sectors_from, slot_sector};
 ghost use Rattle.layout.specs.Shape.{shape_bytes};
 ghost use Rattle.layout.specs.Superblock.{IsPlan};
-ghost use Rattle.layout.specs.Calls.{ReadsOnly};
-ghost use Rattle.layout.specs.Frames.{IsObject};
-ghost use Rattle.migrator.specs.Completed.{AreComplete, IsComplete, IsFilled, Keeps, KeepsOne};
+ghost use Rattle.layout.specs.Version.{row};
+ghost use Rattle.layout.specs.sealed.Root.{root_of};
+ghost use Rattle.layout.specs.sealed.Units.{units_in};
+ghost use Rattle.migrator.specs.Completed.{AreComplete, IsComplete, Keeps, KeepsOne};
 ghost use Rattle.home_ranges.specs.Home.{EndsInZeros};
 ghost use Rattle.migrator.specs.Gathered.{IsFirst};
 ghost use Rattle.migrator.specs.Mended.{IfUnwritten, IsSpeltIn, Unwritten, mended};
 ghost use Rattle.migrator.specs.Spared.{Touches};
+ghost use Rattle.migrator.specs.Units.{IsNextRoot};
 
+use crate::assemble::assemble;
 use crate::first_in_cluster::is_first;
-use crate::gather::{copy_place, gather};
+use crate::next_root::next_root;
 use crate::whole::is_whole;
 use ckpt_log::Log;
 use device::{Device, Failed};
 use layout::{BLOCK_BYTES, Body, Entry, Scratch, Shape, Superblock, decode_in_block};
 use model::{Geometry, ObjectHeader};
+use seal::Sums;
 use std::alloc::{AllocError, Global};
 use std::marker::Model;
 
@@ -47,42 +51,6 @@ impl Model for ClusterBuffer {
     ghost view = { λ b. unwritten_of b.sector b.bytes.items };
 
     ghost invariant = { λ b. length b.bytes.items ≡ 4096 };
-}
-
-// Assembles the cluster for an entry's slot: the frame in the slot, the home frames of the other nodes, and
-// zeros after them.
-fn fill<D: Device>(
-    device: &mut D,
-    plan: &Superblock,
-    generation: u64,
-    entry: Entry,
-    cluster: &mut [u8],
-    scratch: &mut [u8; BLOCK_BYTES],
-) -> Result<(), Failed>
-    requires plan { IsPlan plan.now }
-    requires object { IsObject plan.now.geometry entry.object }
-    requires slot { entry.slot < plan.now.geometry.log }
-    requires sectors { place_length plan.now entry.object ≡ 8 }
-    requires cluster { length cluster.old ≡ 4096 }
-    requires inside { plan.now.total ≤ (D.disk device.old).sectors }
-    ensures filled { OnOk result (IsFilled (D.disk device.old).seen plan.now generation entry cluster.new) }
-    ensures zeros { OnOk result (EndsInZeros plan.now entry.object cluster.new) }
-    ensures size { length cluster.new ≡ 4096 }
-    ensures reads { ReadsOnly (D.disk device.old) (D.disk device.new) }
-    ensures cause { Counts (D.disk device.old) (D.disk device.new) result }
-{
-    gather(
-        device,
-        plan,
-        generation,
-        &[],
-        entry.object,
-        cluster,
-        scratch,
-    )?;
-    let log = Log::new(plan);
-    let at = log.slot_sector(generation, entry.slot);
-    copy_place(device, at, plan.shape(entry.object), cluster, scratch)
 }
 
 impl ClusterBuffer {
@@ -146,8 +114,8 @@ impl ClusterBuffer {
         }
     }
 
-    // If an entry is the first of its cluster, completes its slot: the other nodes of the cluster get their home
-    // frames there.
+    // If an entry is the first of its cluster, completes its slot: it gets the new frames of all nodes of the cluster,
+    // and a seal if the version has seals.
     fn complete_one<D: Device>(
         &mut self,
         device: &mut D,
@@ -164,7 +132,7 @@ impl ClusterBuffer {
         ensures none { OnOk result (self.new ≡ None) }
         ensures complete { OnOk result (IsComplete (D.disk device.new).seen plan.now generation
             entries.now index) }
-        ensures zeros { OnOk result (IsFirst plan.now entries.now index
+        ensures zeros { OnOk result ((row plan.now.version).sealed ≡ false → IsFirst plan.now entries.now index
             → place_length plan.now (entry_at entries.now index).object ≡ 8 → EndsInZeros plan.now
             (entry_at entries.now index).object (sectors_from (D.disk device.new).seen
             (slot_sector plan.now generation (entry_at entries.now index).slot) 8)) }
@@ -179,19 +147,17 @@ impl ClusterBuffer {
         if !is_first(plan, entries, index) {
             return Ok(());
         }
-        fill(device, plan, generation, entry, &mut self.bytes, scratch)?;
+        let number = entry.object;
+        let bytes = &mut self.bytes;
+        assemble(device, plan, generation, entries, number, bytes, scratch)?;
         let log = Log::new(plan);
         self.sector = Some(log.slot_sector(generation, entry.slot));
         self.write(device)
     }
 
-    /// Completes the slots of a directory's entries. In each cluster with an entry, the nodes without one get their
-    /// home frames into the slot of the cluster's first entry. If the device failed to write a cluster before, that
-    /// is written first.
-    ///
-    /// Fails exactly if the device fails. Then the frames of the entries are still readable: from this buffer if
-    /// their slot was torn.
-    pub(crate) fn complete<D: Device>(
+    // Completes the slots of a directory's entries. The slot of the first entry of each cluster gets the whole cluster.
+    // If the device failed to write a cluster before, that is written first.
+    fn complete_slots<D: Device>(
         &mut self,
         device: &mut D,
         plan: &Superblock,
@@ -215,5 +181,39 @@ impl ClusterBuffer {
             self.complete_one(device, plan, generation, entries, index, &mut scratch)?;
         }
         Ok(())
+    }
+
+    /// Completes the slots of a directory's entries, and returns the root of the state that they save. The slot of the
+    /// first entry of each cluster gets the whole cluster: the frames of its entries from their slots, the home frames
+    /// of its other nodes, and a seal if the version has seals. If the device failed to write a cluster before, that is
+    /// written first.
+    ///
+    /// Fails exactly if the device fails. Then the frames of the entries are still readable: from this buffer if
+    /// their slot was torn.
+    pub(crate) fn complete<D: Device>(
+        &mut self,
+        device: &mut D,
+        plan: &Superblock,
+        generation: u64,
+        entries: &[Entry],
+        root: Sums,
+    ) -> Result<Sums, Failed>
+        requires plan { IsPlan plan.now }
+        requires unwritten { IfUnwritten plan.now generation entries.now self.old }
+        requires directory { IsDirectory plan.now.geometry entries.now }
+        requires inside { plan.now.total ≤ (D.disk device.old).sectors }
+        requires root { (row plan.now.version).sealed ≡ true → root
+            ≡ root_of (units_in (mended (D.disk device.old).seen self.old) plan.now generation []) }
+        ensures none { OnOk result (self.new ≡ None) }
+        ensures complete { OnOk result (AreComplete (D.disk device.new).seen plan.now generation
+            entries.now) }
+        ensures root { IfOk result (λ new.
+            IsNextRoot (D.disk device.new).seen plan.now generation entries.now root new) }
+        ensures keeps { Keeps plan.now generation entries.now (D.disk device.old) self.old
+            (D.disk device.new) self.new }
+        ensures cause { Counts (D.disk device.old) (D.disk device.new) result }
+    {
+        self.complete_slots(device, plan, generation, entries)?;
+        next_root(device, plan, generation, entries, root)
     }
 }

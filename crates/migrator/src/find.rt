@@ -30,8 +30,8 @@ fn first_from(entries: &[Entry], number: u64) -> usize
     low
 }
 
-// Returns the slot of an object's entry, or `None` if it has none.
-fn find(entries: &[Entry], number: u64) -> Option<u64>
+/// Returns the slot of an object's entry, or `None` if it has none.
+pub(crate) fn find(entries: &[Entry], number: u64) -> Option<u64>
     requires { AreRising entries.now }
     ensures { result ≡ slot_in entries.now number }
 {

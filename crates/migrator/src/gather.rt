@@ -1,10 +1,10 @@
 // Gathers the saved frames of all objects that share a home.
-ghost use Rattle.std.specs.Prelude.{◌≡◌, ◌+◌, ◌*◌, ◌≤◌, ℕ, length, drop, IsTrue, OnOk};
+ghost use Rattle.std.specs.Prelude.{◌≡◌, ◌+◌, ◌*◌, ◌<◌, ◌≤◌, ℕ, length, drop, IsTrue, IfSome, OnOk};
 ghost use Rattle.device.specs.Calls.{Counts};
 ghost use Rattle.layout.specs.declared.shape.Shape.{Shape};
 ghost use Rattle.layout.specs.Directory.{IsDirectory};
 ghost use Rattle.layout.specs.Homes.{home_place, place_length, shape_of};
-ghost use Rattle.layout.specs.Image.{frame_in, shaped_at};
+ghost use Rattle.layout.specs.Image.{bytes_at, frame_in, sector_or, shaped_at, slot_sector};
 ghost use Rattle.layout.specs.Calls.{ReadsOnly};
 ghost use Rattle.layout.specs.Frames.{IsObject};
 ghost use Rattle.layout.specs.Shape.{AreBeside, shape_bytes, shape_end, shape_length};
@@ -97,6 +97,41 @@ pub(crate) fn copy_place<D: Device>(
     copy_part(device, at, shape, block, scratch)
 }
 
+/// Copies the frame of an object from a slot, or from home without one, into a block, at the offset of its shape. No
+/// other byte of the block changes.
+pub(crate) fn copy_from<D: Device>(
+    device: &mut D,
+    plan: &Superblock,
+    generation: u64,
+    slot: Option<u64>,
+    number: u64,
+    block: &mut [u8],
+    scratch: &mut [u8; BLOCK_BYTES],
+) -> Result<(), Failed>
+    requires slot { IfSome slot (λ s. s < plan.now.geometry.log) }
+    requires object { IsObject plan.now.geometry number }
+    requires block { length block.old ≡ 512 * place_length plan.now number }
+    requires inside { plan.now.total ≤ (D.disk device.old).sectors }
+    ensures copied { OnOk result (shape_bytes (shape_of plan.now number) block.new
+        ≡ bytes_at (D.disk device.old).seen (sector_or slot (slot_sector plan.now generation)
+        (home_place plan.now number)) plan.now number) }
+    ensures others { (other : Shape) → AreBeside (shape_of plan.now number) other
+        → shape_bytes other block.new ≡ shape_bytes other block.old }
+    ensures behind { drop (shape_end (shape_of plan.now number)) block.new
+        ≡ drop (shape_end (shape_of plan.now number)) block.old }
+    ensures size { length block.new ≡ length block.old }
+    ensures reads { ReadsOnly (D.disk device.old) (D.disk device.new) }
+    ensures cause { Counts (D.disk device.old) (D.disk device.new) result }
+{
+    let home = Home::new(plan);
+    let log = Log::new(plan);
+    let at = match slot {
+        Some(slot) => log.slot_sector(generation, slot),
+        None => home.place(number),
+    };
+    copy_place(device, at, plan.shape(number), block, scratch)
+}
+
 // Copies the saved frame of an object into a block, at the offset of its shape. No other byte of the block
 // changes.
 fn gather_one<D: Device>(
@@ -122,13 +157,8 @@ fn gather_one<D: Device>(
     ensures reads { ReadsOnly (D.disk device.old) (D.disk device.new) }
     ensures cause { Counts (D.disk device.old) (D.disk device.new) result }
 {
-    let home = Home::new(plan);
-    let log = Log::new(plan);
-    let at = match find_frame_slot(plan, directory, number) {
-        Some(slot) => log.slot_sector(generation, slot),
-        None => home.place(number),
-    };
-    copy_place(device, at, plan.shape(number), block, scratch)
+    let slot = find_frame_slot(plan, directory, number);
+    copy_from(device, plan, generation, slot, number, block, scratch)
 }
 
 // Fills a block with the saved frames of all objects that share the home of an object, and zeros after them.

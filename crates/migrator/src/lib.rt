@@ -2,6 +2,7 @@
 //! checkpoint.
 #![tactic(auto)]
 
+mod assemble;
 mod books;
 mod cluster_buffer;
 mod copy;
@@ -12,6 +13,7 @@ mod first_in_cluster;
 mod gather;
 mod image;
 mod intake;
+mod next_root;
 mod read;
 mod table;
 mod unit_seals;
@@ -21,5 +23,6 @@ mod whole_store;
 
 pub use durable::{Durable, Opened};
 pub use intake::Intake;
-pub use read::read_superblock;
+pub use read::{read_saved, read_superblock};
+pub use units::{check_seals, frame_sector, read_unit};
 pub use whole_store::{AllObjects, WholeStore};

@@ -47,7 +47,7 @@ pub fn read_superblock<D: Device>(device: &mut D) -> Result<Superblock, OpenFaul
 
 /// Reads the saved frame of an object, from its own or its cluster's log slot, or from home if there is none.
 /// Puts the slots of a node or an annex and the words of a page into `scratch`.
-pub(crate) fn read_saved<D: Device>(
+pub fn read_saved<D: Device>(
     device: &mut D,
     plan: &Superblock,
     header: CheckpointHeader,

@@ -21,8 +21,8 @@ use seal::Sums;
 // How many bytes a cluster takes.
 const CLUSTER_BYTES: usize = 4096;
 
-// Returns the first sector of the block that an object's frame is read from: a slot, or the object's home.
-fn frame_sector(plan: &Superblock, generation: u64, directory: &[Entry], number: u64) -> u64
+/// Returns the first sector of the block that an object's frame is read from: a slot, or the object's home.
+pub fn frame_sector(plan: &Superblock, generation: u64, directory: &[Entry], number: u64) -> u64
     requires directory { IsDirectory plan.now.geometry directory.now }
     requires object { IsObject plan.now.geometry number }
     ensures value { result ≡ frame_sector plan.now generation directory.now number }
@@ -36,9 +36,9 @@ fn frame_sector(plan: &Superblock, generation: u64, directory: &[Entry], number:
     }
 }
 
-// Reads the unit that an object begins, where it is saved, and returns its seal. Returns `Failed` exactly if the device
-// failed, and `BadFrame` exactly if the unit isn't right.
-fn read_unit<D: Device>(
+/// Reads the unit that an object begins, where it is saved, and returns its seal. Returns `Failed` exactly if the device
+/// failed, and `BadFrame` exactly if the unit isn't right.
+pub fn read_unit<D: Device>(
     device: &mut D,
     plan: &Superblock,
     generation: u64,
@@ -156,7 +156,7 @@ fn check_units<D: Device>(
 }
 
 /// In a version with seals, checks all units as `check_units` does. In another version it doesn't call the device.
-pub(crate) fn check_seals<D: Device>(
+pub fn check_seals<D: Device>(
     device: &mut D,
     plan: &Superblock,
     header: SealedHeader,

@@ -2,7 +2,6 @@
 use Rattle.queries.specs.Names.{ℕ, List, Some, Members, parse_document, Frame, Geometry, IsSoundFrames, world_at, Saved}
 use Rattle.queries.specs.Names.{World, Image, Version, Plan, version_number, Holds, SavedFrames, MayBeLaid, Denotes}
 use Rattle.queries.specs.Names.{Description, IsDescription, IsAccepted, plan_for, IsSavedOf, Describes, IsGrown}
-use Rattle.queries.specs.Names.{IsOpened}
 use Rattle.std.specs.Prelude.{◌≡◌, ◌≤◌}
 use Rattle.queries.specs.Images.{IsTextIn, IsTextOf}
 
@@ -18,12 +17,12 @@ DescribedIsDenoted = (p : Plan) (age : ℕ) (frames : List Frame) (text : List �
     IsTextOf p age frames text → parse_document text ≡ Some table → IsDescription table d → IsSavedOf d saved →
     Holds size c saved → Denotes p.geometry size c (anew age frames)
 
--- Take a description of a world, with a version that programs open and home ranges that an image may have. It is
+-- Take a description of a world, with a version of the layout and home ranges that an image may have. It is
 -- accepted on each device with enough sectors.
 abbrev pub DescribedIsAccepted : Type 0
 DescribedIsAccepted = (g : Geometry) (age : ℕ) (fs : List Frame) (d : Description) (v : Version) (sectors : ℕ) →
     IsSoundFrames g age fs → Describes g (world_at age fs) d →
-    d.layout ≡ version_number v → IsOpened v → MayBeLaid d.geometry d.ranges.items → (plan_for d).total ≤ sectors →
+    d.layout ≡ version_number v → MayBeLaid d.geometry d.ranges.items → (plan_for d).total ≤ sectors →
     IsAccepted d sectors
 
 -- Take a text that describes an image for other sizes. If the sectors hold what `build` makes of it, the image

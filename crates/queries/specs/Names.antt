@@ -29,7 +29,6 @@ pub use Rattle.json_lines.specs.Objects.{number_line, number_object}
 pub use Rattle.json_lines.specs.declared.format.Format.{Format}
 pub use Rattle.layout.specs.Denoted.{Encodes, SavedState}
 pub use Rattle.layout.specs.Superblock.{IsGeometry, Plan, version_number}
-pub use Rattle.layout.specs.Version.{IsOpened}
 pub use Rattle.layout.specs.declared.extent.HomeRange.{HomeRange}
 pub use Rattle.layout.specs.declared.open_fault.OpenFault.{OpenFault}
 pub use Rattle.layout.specs.declared.version.Version.{Version}

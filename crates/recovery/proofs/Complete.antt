@@ -2,7 +2,7 @@
 use Rattle.recovery.proofs.Names.{ℕ, zero, suc, List, [], length, refl, sym, ap, subst, inl, inr, arith, cases_lt, Frame, Image, BadImage, frame_at}
 use Rattle.recovery.proofs.Names.{AreKeepable, IsSoundFrames, IsBad, IsInconsistent, kept_of, saved_of, NotBadIsDenoted, Entry, CheckpointHeader, IsFrameOf}
 use Rattle.recovery.proofs.Names.{Encodes, HasDirectory, HasHeader, HasPlan, IsBadBy, IsTooSmall, SavedState, total_in, IsPlan, Plan, superblock_bytes}
-use Rattle.recovery.proofs.Names.{total_reported, opened_of, HasMark, Bool, true, false, false≢true, IsOpened, row, SealedHeader, HasUnits}
+use Rattle.recovery.proofs.Names.{total_reported, Bool, true, false, false≢true, row, SealedHeader, HasUnits}
 use Rattle.std.proofs.Common.{◌≡◌, ◌<◌, ◌≤◌, ◌^◌, ◌∷◌, ◌∙◌, ◌+◌}
 use Rattle.layout.specs.Image.{frame_in}
 use Rattle.layout.specs.declared.bad_image.BadImage.TheVariants as bad
@@ -31,10 +31,9 @@ module _ (size : ℕ) (c : Image) (fair : (reason : BadImage) → IsBad size c r
   large : IsTooSmall c size → ⊥
   large = first bad.Small
 
-  planned : HasMark (c 0) → (p : Plan) → IsPlan p → c 0 ≡ superblock_bytes p → HasPlan c size p
-  planned mark p is spelt =
+  planned : (p : Plan) → IsPlan p → c 0 ≡ superblock_bytes p → HasPlan c size p
+  planned p is spelt =
       let total : total_in (c 0) ≡ p.total = ap total_in spelt ∙ total_reported p is in record {
-        opened = opened_of p is.few (subst HasMark spelt mark);
         least = elim (cases_lt size 5) [ inl less ↦ absurd (large (inl less)) | inr le ↦ le ];
         whole = elim (cases_lt size p.total) [
           | inl less ↦ absurd (large (inr (subst (λ (n : ℕ). size < n) (sym total) less)))
@@ -51,7 +50,7 @@ module _ (size : ℕ) (c : Image) (fair : (reason : BadImage) → IsBad size c r
       large,
       mark,
       λ p is spelt. none p
-          (planned mark p is spelt),
+          (planned p is spelt),
     ),
   )
 

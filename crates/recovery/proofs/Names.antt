@@ -18,14 +18,13 @@ pub use Rattle.device.specs.Disk.{Disk, Image}
 pub use Rattle.device.specs.Moments.{Peeks}
 pub use Rattle.layout.proofs.Denoted.{frames_not_bad}
 pub use Rattle.layout.proofs.Images.{one_state}
-pub use Rattle.layout.proofs.Superblocks.{opened_of}
 pub use Rattle.layout.proofs.Totals.{total_reported}
 pub use Rattle.layout.specs.Denoted.{Encodes, HasDirectory, HasHeader, HasPlan, IsBadBy, IsTooSmall, SavedState}
 pub use Rattle.layout.specs.Frame.{IsFrameOf}
 pub use Rattle.layout.specs.Image.{total_in}
 pub use Rattle.layout.specs.Superblock.{HasMark, IsPlan, Plan}
 unfoldable pub use Rattle.layout.specs.Superblock.{superblock_bytes}
-pub use Rattle.layout.specs.Version.{IsOpened, row}
+pub use Rattle.layout.specs.Version.{row}
 pub use Rattle.layout.specs.declared.bad_image.BadImage.{BadImage}
 pub use Rattle.layout.specs.declared.bad_image.BadImage.TheVariants.{BadBank, BadCapability, BadProcess}
 pub use Rattle.layout.specs.declared.directory.Entry.{Entry}

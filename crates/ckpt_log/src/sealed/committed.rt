@@ -47,8 +47,8 @@ pub(crate) fn numbers_of(slots: &[HeaderSlot]) -> [SlotNumbers; 3]
     ]
 }
 
-// Returns the committed header, which has this sequence number.
-fn header_of(slots: &[HeaderSlot], sequence: u64) -> SealedHeader
+/// Returns the committed header, which has this sequence number.
+pub fn header_of(slots: &[HeaderSlot], sequence: u64) -> SealedHeader
     requires slots { length slots.now ≡ 3 }
     requires committed { IsCommitted (numbered slots.now) sequence }
     ensures number { result.header.sequence ≡ sequence }
@@ -60,8 +60,8 @@ fn header_of(slots: &[HeaderSlot], sequence: u64) -> SealedHeader
     }
 }
 
-// Returns the sequence number of the committed header.
-fn decide(slots: &[HeaderSlot]) -> Result<u64, NotCommitted>
+/// Returns the sequence number of the committed header.
+pub fn decide(slots: &[HeaderSlot]) -> Result<u64, NotCommitted>
     requires { length slots.now ≡ 3 }
     ensures ok { IfOk result (λ s. IsCommitted (numbered slots.now) s) }
     ensures err { IfErr result (λ why. IsRefused (numbered slots.now) why) }

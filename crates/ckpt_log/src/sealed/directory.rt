@@ -126,9 +126,9 @@ fn piece_end(count: usize, k: usize) -> usize
     }
 }
 
-// Reads sector `k` into its part of `into`. Returns the sums in its seal, or `None` if it isn't a sector of
-// entries. Earlier entries don't change.
-fn read_next<D: Device>(
+/// Reads sector `k` into its part of `into`. Returns the sums in its seal, or `None` if it isn't a sector of
+/// entries. Earlier entries don't change.
+pub fn read_next<D: Device>(
     device: &mut D,
     at: u64,
     k: usize,
@@ -150,8 +150,8 @@ fn read_next<D: Device>(
     read_piece(device, at + k as u64, &mut into[start..end])
 }
 
-// Reads a directory of `into.len()` entries. Returns its sums, or `None` if some sector isn't one of entries.
-fn read_entries<D: Device>(
+/// Reads a directory of `into.len()` entries. Returns its sums, or `None` if some sector isn't one of entries.
+pub fn read_entries<D: Device>(
     device: &mut D,
     at: u64,
     into: &mut [Entry],
@@ -178,8 +178,8 @@ fn entry_fits(entry: Entry)
     ensures { (entry.object < 2 ^ 64) × (entry.slot < 2 ^ 64) }
 {}
 
-// A lemma as a function, which changes nothing: the numbers of all entries fit their bytes.
-fn entries_fit(entries: &[Entry])
+/// A lemma as a function, which changes nothing: the numbers of all entries fit their bytes.
+pub fn entries_fit(entries: &[Entry])
     ensures { AllFitting entries.now }
 {
     for entry in entries {

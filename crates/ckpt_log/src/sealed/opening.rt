@@ -11,7 +11,7 @@ use layout::{SealedHeader, decode_numbered_gate, decode_sealed_header};
 
 /// The content of a header slot.
 #[derive(Clone, Copy)]
-pub(crate) struct HeaderSlot {
+pub struct HeaderSlot {
     /// The header, if it is sound.
     pub header: Option<SealedHeader>,
     /// The number of the gate, if it has one.
@@ -55,7 +55,7 @@ fn read_slot<D: Device>(device: &mut D, slot: u64) -> Result<HeaderSlot, Failed>
 }
 
 /// Reads the three header slots and their gates.
-pub(crate) fn read_slots<D: Device>(device: &mut D) -> Result<[HeaderSlot; 3], Failed>
+pub fn read_slots<D: Device>(device: &mut D) -> Result<[HeaderSlot; 3], Failed>
     requires inside { 56 ≤ (D.disk device.old).sectors }
     ensures found { IfOk result (λ slots. AreRead (D.disk device.old).seen slots) }
     ensures reads { ReadsOnly (D.disk device.old) (D.disk device.new) }

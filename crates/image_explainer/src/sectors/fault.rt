@@ -13,18 +13,30 @@ pub enum SectorFault {
     Superblock(SuperblockPart),
     /// A field of the superblock is outside its limits.
     Geometry(GeometryPart),
-    /// No header counts. The fields say why the header in each slot doesn't.
+    /// No header of versions 1 and 2 counts. The fields say why the header in each slot doesn't.
     NoHeader(NotCounted, NotCounted),
-    /// The committed header, in this sector, is malformed.
+    /// No two headers of version 3 with consecutive numbers count. The fields say why the header in each slot is in no
+    /// pair.
+    NoPair(NotPaired, NotPaired, NotPaired),
+    /// The committed header, in this sector, is malformed or lost.
     Header {
         sector: u64,
         part: HeaderPart,
     },
-    /// The directory of the committed header, which begins in this sector, is malformed.
+    /// The directory of the committed header, which begins in this sector, is malformed. In version 3 a sector that
+    /// isn't one of entries is this sector.
     Directory {
         sector: u64,
         part: DirectoryPart,
     },
+    /// The cluster or the page frame that an object begins isn't right as a whole. Version 3.
+    Unit {
+        number: u64,
+        is_page: bool,
+        part: UnitPart,
+    },
+    /// The clusters and pages don't add up to the header's root. Version 3.
+    Root,
     /// The saved frame of an object is malformed.
     Frame {
         number: u64,
@@ -40,6 +52,8 @@ pub enum SuperblockPart {
     Version,
     /// A byte after the ranges, from byte 256 on, isn't 0.
     Tail,
+    /// The seal is wrong. Version 3.
+    Seal,
 }
 
 /// A field of a superblock that is outside its limits.
@@ -62,6 +76,21 @@ pub enum NotCounted {
     Misplaced(u64),
 }
 
+/// Why a header of version 3 is in no pair.
+#[derive(Clone, Copy)]
+pub enum NotPaired {
+    /// The gate has no number.
+    Unnumbered,
+    /// The header isn't sealed, or isn't a header.
+    Unsound,
+    /// The header lies in the wrong slot for its sequence number.
+    Misplaced(u64),
+    /// The gate has another number than the header.
+    Renumbered { sequence: u64, gate: u64 },
+    /// The header counts, but neither the header before it nor the one after it does.
+    Alone(u64),
+}
+
 /// What is wrong with the committed header.
 #[derive(Clone, Copy)]
 pub enum HeaderPart {
@@ -72,13 +101,21 @@ pub enum HeaderPart {
     Generation { generation: u64, age: u64 },
     /// The sequence number is greater than its limit at this age.
     Sequence { sequence: u64, age: u64 },
-    /// The magic is wrong, or a byte that must be 0 isn't.
+    /// The magic is wrong, or a byte that must be 0 isn't. Versions 1 and 2.
     Bytes,
+    /// The gate has the number of a header that isn't there, after two that count. Version 3.
+    Lost(u64),
 }
 
-/// What is wrong with a directory. Entries are numbered from 0.
+/// What is wrong with a directory. Entries are numbered from 0. The first three are of version 3.
 #[derive(Clone, Copy)]
 pub enum DirectoryPart {
+    /// The sector isn't sealed.
+    Unsealed,
+    /// A byte after the sector's entries isn't 0.
+    Rest,
+    /// The sectors have other sums than the header says.
+    Sums,
     /// No object has the number of this entry.
     Object {
         entry: u64,
@@ -101,6 +138,15 @@ pub enum DirectoryPart {
         second: u64,
         slot: u64,
     },
+}
+
+/// What is wrong with a cluster or a page frame of version 3.
+#[derive(Clone, Copy)]
+pub enum UnitPart {
+    /// The cluster, or the header sector of the page, isn't sealed.
+    Unsealed,
+    /// A byte after the cluster's frames isn't 0, or the header sector of the page doesn't have the sums of its words.
+    Rest,
 }
 
 /// What is wrong with a frame.

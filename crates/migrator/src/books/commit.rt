@@ -37,8 +37,13 @@ impl Books {
     {
         let header = self.next_header(age);
         spare.fill(&self.frozen);
-        self.unwritten
-            .complete(device, &self.plan, header.generation, spare.as_slice())?;
-        self.adopt(device, header, self.root, spare)
+        let root = self.unwritten.complete(
+            device,
+            &self.plan,
+            header.generation,
+            spare.as_slice(),
+            self.root,
+        )?;
+        self.adopt(device, header, root, spare)
     }
 }

@@ -12,10 +12,12 @@ ghost use Rattle.checkpoint.specs.Saved.{with_words};
 ghost use Rattle.checkpoint.specs.Snapshots.{journaled, replaced};
 ghost use Rattle.migrator.specs.Durable.{IsDurable, MayJournal, Publishes, Stays, first_bytes, first_frame};
 ghost use Rattle.migrator.specs.Durable.{on_snapshots, replaced_header, stored_on};
+ghost use Rattle.migrator.specs.Put.{IsSlotSummed};
 ghost use Rattle.migrator.specs.Saving.{IsIdle, MayReplace};
 
 use crate::books::Books;
 use crate::directory::Directory;
+use crate::next_root::next_root;
 use ckpt_log::Log;
 use device::{Device, Failed};
 use home_ranges::Home;
@@ -63,6 +65,8 @@ impl Books {
             → IsFrameOf self.now.plan.geometry age number
             (first_bytes (D.disk device.new).seen self.now number)
             (with_words words.now (frame_at (stored_on (D.disk device.old) self.now).saved.frames number))) }
+        ensures summed { OnOk result (IsSlotSummed (D.disk device.new).seen self.now.plan
+            self.now.header.generation 0 number) }
         ensures cause { Counts (D.disk device.old) (D.disk device.new) result }
     {
         let log = Log::new(&self.plan);
@@ -102,7 +106,14 @@ impl Books {
             object: number,
             slot: 0,
         });
-        self.adopt(device, header, self.root, spare)
+        let root = next_root(
+            device,
+            &self.plan,
+            header.generation,
+            spare.as_slice(),
+            self.root,
+        )?;
+        self.adopt(device, header, root, spare)
     }
 
     /// Saves a page with new words, under its saved header. No checkpoint may be frozen, and all saved objects must

@@ -1,11 +1,6 @@
-use Rattle.image_builder.proofs.Names.{subst, sym, IsOpened, Plan}
 use Rattle.description.specs.Laid.{AreLaid}
-use Rattle.image_builder.proofs.Images.{builds, left_writing, plan_opened}
+use Rattle.image_builder.proofs.Images.{builds, left_writing}
 use Rattle.image_builder.proofs.writing.write.Goals as goal
-
-pub write_image-requires-clause-opened : goal.write_image-requires-clause-opened
-write_image-requires-clause-opened g c =
-    subst (λ (p : Plan). IsOpened p.version) (sym c.requires.plan) (plan_opened c.args.description.now)
 
 pub returns-clause-built : goal.returns-clause-built
 returns-clause-built g c =

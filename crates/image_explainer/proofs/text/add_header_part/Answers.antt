@@ -1,6 +1,6 @@
 use Rattle.image_explainer.proofs.Names.{ap, sym, HeaderPart, header_part_text}
 use Rattle.std.proofs.Common.{◌++◌, ◌∙◌}
-use Rattle.image_explainer.proofs.Joined.{joined_3, joined_4}
+use Rattle.image_explainer.proofs.Joined.{joined_2, joined_3, joined_4}
 use Rattle.image_explainer.proofs.text.add_header_part.Goals as goal
 
 pub returns-in-Age-clause-text : goal.returns-in-Age-clause-text
@@ -22,3 +22,8 @@ pub returns-in-Bytes-clause-text : goal.returns-in-Bytes-clause-text
 returns-in-Bytes-clause-text c =
     c.push-in-Bytes.ensures
     ∙ ap (λ (x : HeaderPart). c.args.line.now ++ header_part_text x) (sym c.in-Bytes.is)
+
+pub returns-in-Lost-clause-text : goal.returns-in-Lost-clause-text
+returns-in-Lost-clause-text c =
+    joined_2 c.args.line.now _ _ c.push-in-Lost.new.self c.number-in-Lost.new.self c.push-in-Lost.ensures c.number-in-Lost.ensures.text
+    ∙ ap (λ (x : HeaderPart). c.args.line.now ++ header_part_text x) (sym c.in-Lost.is)

@@ -1,4 +1,4 @@
-use Rattle.image_writer.proofs.Names.{Elsewhere, LeavesOnly, half_sector, frames_in, AreClosed, AreInSlots, LeavesClosed}
+use Rattle.image_writer.proofs.Names.{AreInSlots, Elsewhere, IsShut, LeavesOnly, LeavesShut, half_sector, frames_in}
 use Rattle.std.proofs.Common.{◌≡◌, ◌*◌}
 use Rattle.image_writer.proofs.slots.write_slots.Given as goal
 
@@ -9,5 +9,5 @@ invariant-loop-index g l =
     (g.D.Device.disk l.device).seen
     × ((g.D.Device.disk l.device).sectors ≡ (g.D.Device.disk l.fn.device).sectors)
     × ((g.D.Device.disk l.device).failures ≡ (g.D.Device.disk l.fn.device).failures)
-    × LeavesClosed (g.D.Device.disk l.device)
-    × LeavesOnly (g.D.Device.disk l.fn.device) (g.D.Device.disk l.device) (λ c. AreClosed c)
+    × LeavesShut l.home (g.D.Device.disk l.device)
+    × LeavesOnly (g.D.Device.disk l.fn.device) (g.D.Device.disk l.device) (λ c. IsShut l.home c)

@@ -4,7 +4,7 @@ pub returns-in-None-read_plan-clause-refused : goal.returns-in-None-read_plan-cl
 returns-in-None-read_plan-clause-refused c = (
   record {
     magic = c.in-Some.ensures.magic;
-    version = (c.in-Some.version, c.in-Some.ensures.version, c.in-Some.ensures.opened);
+    version = (c.in-Some.version, c.in-Some.ensures.version);
     blank = c.in-Some.ensures.blank;
   },
   c.in-None-read_plan.ensures.none,

@@ -1,7 +1,6 @@
-use Rattle.migrator.proofs.Names.{take, subst, err_from_is_err_and, Image, agrees_is, IsBadAt}
+use Rattle.migrator.proofs.Names.{take, subst, err_from_is_err_and, Image, agrees_is, IsBadAt, HasOtherUnits}
 use Rattle.migrator.proofs.Opening.{bad_frame, reads_more}
 use Rattle.migrator.proofs.SealedUnits.{units_refused}
-use Rattle.migrator.specs.Units.{HasOtherUnits}
 use Rattle.migrator.proofs.image.read_image.Goals as goal
 
 pub returns-in_err-check_seals-clause-refused : goal.returns-in_err-check_seals-clause-refused

@@ -16,8 +16,7 @@ returns-clause-found g c =
     let least : 5 ≤ c.sectors-sectors.result = search rules in
     plan_read is
     (omega (arith, least, c.sectors-sectors.ensures.count)) (omega (arith, le, c.sectors-sectors.ensures.count, c.total_in.ensures))
-    c.in_ok-decode_superblock.ensures.found
-    c.in_ok-decode_superblock.ensures.fits c.in_ok-decode_superblock.ensures.opened
+    c.in_ok-decode_superblock.ensures.found c.in_ok-decode_superblock.ensures.fits
 
 pub returns-in_err-decode_superblock-clause-refused : goal.returns-in_err-decode_superblock-clause-refused
 returns-in_err-decode_superblock-clause-refused g c =

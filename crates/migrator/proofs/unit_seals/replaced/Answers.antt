@@ -1,9 +1,7 @@
-use Rattle.migrator.proofs.Names.{ℕ, Image, agrees_is, ap}
+use Rattle.migrator.proofs.Names.{ℕ, Image, agrees_is, ap, seal_in, unit_at}
 use Rattle.std.proofs.Common.{◌≡◌, ◌∙◌}
-use Rattle.layout.specs.sealed.Sector.{seal_in}
-use Rattle.migrator.proofs.ReadSeals.{same_step}
 use Rattle.migrator.specs.Names.{home_place}
-use Rattle.migrator.specs.Units.{unit_at}
+use Rattle.migrator.proofs.ReadSeals.{same_step}
 use Rattle.migrator.proofs.unit_seals.replaced.Goals as goal
 
 pub returns-clause-root : goal.returns-clause-root

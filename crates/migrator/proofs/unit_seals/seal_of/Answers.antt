@@ -1,6 +1,5 @@
-use Rattle.migrator.proofs.Names.{arith, sym}
-use Rattle.std.proofs.lemmas.List.{length-take-le}
-use Rattle.std.proofs.Common.{◌-◌, length}
+use Rattle.migrator.proofs.Names.{arith, sym, length-take-le, length}
+use Rattle.std.proofs.Common.{◌-◌}
 use Rattle.migrator.proofs.unit_seals.seal_of.Goals as goal
 
 pub slice_bounds-sums_of-length : goal.slice_bounds-sums_of-length

@@ -1,5 +1,4 @@
 use Rattle.migrator.proofs.Names.{ap, arith, Shape}
-use Rattle.std.proofs.Common.{◌≤◌, ◌∙◌}
 use Rattle.migrator.proofs.ReadSeals.{header_alone, whole_cluster}
 use Rattle.migrator.proofs.unit_seals.unit_sectors.Goals as goal
 

@@ -1,6 +1,5 @@
-use Rattle.migrator.proofs.Names.{refl, rules, sym, subst, err_from_is_err_and, false≢true, HasUnits, Sums}
+use Rattle.migrator.proofs.Names.{refl, rules, sym, subst, err_from_is_err_and, false≢true, HasUnits, Sums, sums_equal}
 use Rattle.std.proofs.Common.{◌≡◌, ◌∙◌}
-use Rattle.layout.proofs.SummedPages.{sums_equal}
 use Rattle.migrator.proofs.SealedUnits.{other_root, refused_for}
 use Rattle.migrator.proofs.units.check_units.Goals as goal
 

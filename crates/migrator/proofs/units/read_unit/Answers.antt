@@ -1,7 +1,7 @@
 use Rattle.migrator.proofs.Names.{arith, agrees_is, length, subst, Geometry}
 use Rattle.std.proofs.Common.{◌≡◌, ◌<◌, ◌≤◌}
 use Rattle.device.specs.Disk.{IsWhole}
-use Rattle.migrator.proofs.SealedUnits.{IsUnitRead, cluster_length, cluster_read, page_length, page_read}
+use Rattle.migrator.proofs.SealedUnits.{cluster_length, cluster_read, page_length, page_read}
 use Rattle.migrator.proofs.units.read_unit.Goals as goal
 
 pub read_cluster-requires-clause-inside : goal.read_cluster-requires-clause-inside

@@ -1,8 +1,7 @@
-use Rattle.migrator.proofs.Names.{ℕ, refl, rules, sym, subst, err_from_is_err_and, Geometry, Image, agrees_is}
+use Rattle.migrator.proofs.Names.{ℕ, refl, rules, sym, subst, err_from_is_err_and, Geometry, Image, agrees_is, AreUnits, HasBadUnit}
 use Rattle.std.proofs.Common.{◌≡◌, ◌∙◌, ◌+◌}
 use Rattle.migrator.proofs.Opening.{reads_more, reads_none}
 use Rattle.migrator.proofs.SealedUnits.{units_all, units_none}
-use Rattle.migrator.specs.Units.{AreUnits, HasBadUnit}
 use Rattle.migrator.proofs.units.root_of_units.Goals as goal
 
 pub loop-number-init : goal.loop-number-init

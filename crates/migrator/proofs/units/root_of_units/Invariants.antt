@@ -1,6 +1,5 @@
-use Rattle.migrator.proofs.Names.{ReadsOnly}
+use Rattle.migrator.proofs.Names.{ReadsOnly, AreUnits}
 use Rattle.std.proofs.Common.{◌≡◌}
-use Rattle.migrator.specs.Units.{AreUnits}
 use Rattle.migrator.proofs.units.root_of_units.Given as goal
 
 abbrev pub invariant-loop-number : goal.invariant-loop-number

@@ -1,4 +1,4 @@
-use Rattle.migrator.proofs.Names.{counted_ok, counts_on, sym}
+use Rattle.migrator.proofs.Names.{counted_ok, counts_on}
 use Rattle.std.proofs.Common.{◌∙◌}
 use Rattle.migrator.proofs.Publishing.{adopted_publishes, left_publishes, commits_one, either_before, either_run, may_be_committed, only_both, only_directory}
 use Rattle.migrator.proofs.Publishing.{opening_inside, precedes_next, saved_next, touched_by}

@@ -20,3 +20,6 @@ returns-clause-spelt g c =
     (spelt_page idle.stands idle.free idle.home (rw c.new-log.ensures at c.write_page.ensures.writes) c.args.number c.requires.page
     c.requires.header words)
     (rw c.new-log.ensures at c.write_page.ensures.written)
+
+pub returns-clause-summed : goal.returns-clause-summed
+returns-clause-summed g c = rw c.new-log.ensures at c.write_page.ensures.summed

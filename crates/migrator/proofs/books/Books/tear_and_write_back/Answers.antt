@@ -1,5 +1,5 @@
 use Rattle.std.proofs.Common.{ap}
-use Rattle.migrator.proofs.Completing.{either_of}
+use Rattle.migrator.proofs.CompleteSlots.{either_of}
 use Rattle.migrator.proofs.PutFrames.{torn_stores, unwritten_low}
 use Rattle.migrator.proofs.books.Books.tear_and_write_back.Goals as goal
 

@@ -1,57 +1,33 @@
-use Rattle.migrator.proofs.Names.{ℕ, Option, ap, subst, inl, inr, arith, cases_lt, counted_ok, IsComplete, Keeps, KeepsOne, Unwritten}
-use Rattle.std.proofs.Common.{◌≡◌, ◌∙◌}
-use Rattle.migrator.proofs.Completing.{all_complete, complete_stays, keeps_more, keeps_written, unwritten_inside}
+use Rattle.migrator.proofs.Names.{Image, IfOk-weaker, Option, Unwritten, AreComplete, agrees_is, counted_ok, counts_on, mended, subst, sym, [], root_of}
+use Rattle.migrator.proofs.Names.{units_in, IsNextRoot}
+use Rattle.std.proofs.Common.{◌≡◌}
+use Rattle.migrator.proofs.CompleteSlots.{home_stays_root, keeps_read}
+use Rattle.migrator.proofs.Publishing.{on_ok}
 use Rattle.migrator.proofs.cluster_buffer.ClusterBuffer.complete.Goals as goal
 
-pub write-requires : goal.write-requires
-write-requires g c = record {
-  inside = λ u is. let inside = unwritten_inside c.args.generation c.requires.plan c.requires.directory
-      c.requires.unwritten is in omega (arith, inside, c.requires.inside);
-}
-
-pub returns-in_err-write-clause-keeps : goal.returns-in_err-write-clause-keeps
-returns-in_err-write-clause-keeps g c =
-    keeps_written (g.met.D.Device.only_now c.args.device.now) c.requires.directory c.requires.unwritten c.write.ensures.seen
-    c.write.ensures.touches
-    (λ none. ap g.D.Device.disk (c.write.ensures.nothing none)) (inr c.in_err-write.ensures.kept)
-
-pub loop-index-init : goal.loop-index-init
-loop-index-init g c =
-    let keeps = keeps_written (g.met.D.Device.only_now c.args.device.now) c.requires.directory c.requires.unwritten c.write.ensures.seen
-    c.write.ensures.touches
-    (λ none. ap g.D.Device.disk (c.write.ensures.nothing none)) (inl c.in_ok-write.ensures.written) in (
-      c.in_ok-write.ensures.written,
-      subst (λ (o : Option Unwritten). Keeps c.args.plan.now c.args.generation c.args.entries.now (g.D.Device.disk c.args.device.now)
-          c.args.self.now
-          (g.D.Device.disk c.write.new.device) o) c.in_ok-write.ensures.written keeps,
-      (λ i lt. absurd (omega (arith, lt))),
-      counted_ok c.in_ok-write.ensures.cause,
-    )
-
-pub returns-in_err-complete_one-clause-keeps : goal.returns-in_err-complete_one-clause-keeps
-returns-in_err-complete_one-clause-keeps g c =
-    keeps_more c.requires.plan c.requires.directory c.loop-index-test.true c.loop-index.invariant.1 c.complete_one.ensures.keeps
-
-pub loop-index-preserved : goal.loop-index-preserved
-loop-index-preserved g c =
-    let none = c.in_ok-complete_one.ensures.none in
-    let one = subst (λ (o : Option Unwritten). KeepsOne c.args.plan.now c.args.generation c.args.entries.now c.loop-index.index
-    (g.D.Device.disk c.loop-index.device) (g.D.Device.disk c.complete_one.new.device) o) none c.complete_one.ensures.keeps in (
-      none,
-      keeps_more c.requires.plan c.requires.directory c.loop-index-test.true c.loop-index.invariant.1 one,
-      (λ i lt. elim (cases_lt i c.loop-index.index) [
-        | inl less ↦ complete_stays c.args.generation c.loop-index.index c.requires.plan c.requires.directory c.loop-index-test.true
-            one.elsewhere less
-            (c.loop-index.invariant.2 i less)
-        | inr le ↦ let same : c.loop-index.index ≡ i = omega (arith, lt, le) in subst
-            (λ (k : ℕ). IsComplete (g.D.Device.disk c.complete_one.new.device).seen c.args.plan.now c.args.generation c.args.entries.now k)
-            same
-            c.in_ok-complete_one.ensures.complete
-      ]),
-      counted_ok c.in_ok-complete_one.ensures.cause ∙ c.loop-index.invariant.3,
-    )
+pub next_root-requires-clause-root : goal.next_root-requires-clause-root
+next_root-requires-clause-root g c =
+    λ sealed. subst (λ (o : Option Unwritten). c.args.root
+    ≡ root_of (units_in (mended (g.D.Device.disk c.complete_slots.new.device).seen o) c.args.plan.now c.args.generation []))
+    c.in_ok-complete_slots.ensures.none (home_stays_root c.requires.plan c.complete_slots.ensures.keeps (c.requires.root sealed))
 
 pub returns-clause-complete : goal.returns-clause-complete
 returns-clause-complete g c =
-    all_complete (g.D.Device.disk c.loop-index.device).seen c.args.plan.now c.args.generation c.args.entries.now
-    (λ i lt. c.loop-index.invariant.2 i (omega (arith, lt, c.loop-index-test.false)))
+    let mid = (g.D.Device.disk c.complete_slots.new.device).seen in
+    let seen = agrees_is (g.D.Device.disk c.next_root.new.device).seen mid c.next_root.ensures.reads.seen in
+    on_ok c.next_root.result (subst (λ (i : Image). AreComplete i c.args.plan.now c.args.generation c.args.entries.now) (sym seen)
+    c.in_ok-complete_slots.ensures.complete)
+
+pub returns-clause-keeps : goal.returns-clause-keeps
+returns-clause-keeps g c =
+    keeps_read c.in_ok-complete_slots.ensures.none c.complete_slots.ensures.keeps c.next_root.ensures.reads
+
+pub returns-clause-root : goal.returns-clause-root
+returns-clause-root g c =
+    let mid = (g.D.Device.disk c.complete_slots.new.device).seen in
+    let seen = agrees_is (g.D.Device.disk c.next_root.new.device).seen mid c.next_root.ensures.reads.seen in
+    IfOk-weaker c.next_root.result _ _ (λ new. subst (λ (i : Image). IsNextRoot i c.args.plan.now c.args.generation c.args.entries.now
+    c.args.root new) (sym seen)) c.next_root.ensures.root
+
+pub returns-clause-cause : goal.returns-clause-cause
+returns-clause-cause g c = counts_on (counted_ok c.in_ok-complete_slots.ensures.cause) c.next_root.ensures.cause

@@ -6,7 +6,8 @@ use Rattle.migrator.proofs.PlacesApart.{touches_on, reads_touch}
 use Rattle.migrator.proofs.Tables.{rewritten}
 use Rattle.migrator.proofs.Opening.{reads_none}
 use Rattle.migrator.proofs.Publishing.{err_counts, ok_counts}
-use Rattle.migrator.proofs.Completing.{either_of, kept_one, one_complete, long_of, own_complete, later_complete, whole_length, zeros_written}
+use Rattle.migrator.proofs.CompleteSlots.{either_of, long_of, whole_length, zeros_written}
+use Rattle.migrator.proofs.CompleteSlots.{kept_one, one_complete, own_complete, later_complete}
 use Rattle.migrator.proofs.cluster_buffer.ClusterBuffer.complete_one.Goals as goal
 
 -- a call that only reads keeps the entry's frame
@@ -34,13 +35,13 @@ returns-then-is_whole g c =
     record {
       none = c.requires.none;
       complete = own_complete c.args.generation c.args.index c.shape.ensures.plan c.requires.directory c.requires.within disk.seen own;
-      zeros = λ first long. absurd (whole_length c.args.plan.now (entry_at c.args.entries.now c.args.index).object own long);
+      zeros = λ plain first long. absurd (whole_length c.args.plan.now (entry_at c.args.entries.now c.args.index).object own long);
       keeps = read_keeps c.requires.none (reads_none (g.met.D.Device.only_now c.args.device.now));
       cause = ok_counts refl;
     }
 
-pub fill-requires-clause-sectors : goal.fill-requires-clause-sectors
-fill-requires-clause-sectors g c =
+pub assemble-requires-clause-sectors : goal.assemble-requires-clause-sectors
+assemble-requires-clause-sectors g c =
     long_of c.args.plan.now (entry_at c.args.entries.now c.args.index).object c.shape.ensures.value c.if-is_whole.false c.is_whole.ensures.1
 
 pub returns-then-not-is_first : goal.returns-then-not-is_first
@@ -51,47 +52,48 @@ returns-then-not-is_first g c =
       none = c.requires.none;
       complete = later_complete c.args.generation c.args.index c.shape.ensures.plan c.requires.directory c.requires.within disk.seen
           follows;
-      zeros = λ first long. absurd (first (c.args.index - 1) (omega (arith, follows.0)) follows.1);
+      zeros = λ plain first long. absurd (first (c.args.index - 1) (omega (arith, follows.0)) follows.1);
       keeps = read_keeps c.requires.none (reads_none (g.met.D.Device.only_now c.args.device.now));
       cause = ok_counts refl;
     }
 
-pub returns-in_err-fill : goal.returns-in_err-fill
-returns-in_err-fill g c =
+pub returns-in_err-assemble : goal.returns-in_err-assemble
+returns-in_err-assemble g c =
     record {
       none = search rules;
       complete = search rules;
       zeros = search rules;
       keeps = read_keeps (none_still c.self.inside.sector c.self.inside.bytes.items
-          (with_items c.self.inside.bytes c.fill.new.cluster).items c.self.view_is
-          c.requires.none) c.fill.ensures.reads;
-      cause = err_counts c.from_residual.ensures.0 c.in_err-fill.ensures.cause;
+          (with_items c.self.inside.bytes c.assemble.new.cluster).items c.self.view_is
+          c.requires.none) c.assemble.ensures.reads;
+      cause = err_counts c.from_residual.ensures.0 c.in_err-assemble.ensures.cause;
     }
 
 pub returns : goal.returns
 returns g c =
     let old = g.D.Device.disk c.args.device.now in
-    let mid = g.D.Device.disk c.fill.new.device in
+    let mid = g.D.Device.disk c.assemble.new.device in
     let entry = entry_at c.args.entries.now c.args.index in
     let packed = long_of c.args.plan.now entry.object c.shape.ensures.value c.if-is_whole.false c.is_whole.ensures.1 in
-    let u : Unwritten = record { sector = slot_sector c.args.plan.now c.args.generation entry.slot; bytes = c.fill.new.cluster } in
-    let bytes = rewritten c.self.inside.bytes.items (c.fill.ensures.size ∙ sym c.self.invariant) c.self.inside.bytes.ok.0 in
+    let u : Unwritten = record { sector = slot_sector c.args.plan.now c.args.generation entry.slot; bytes = c.assemble.new.cluster } in
+    let bytes = rewritten c.self.inside.bytes.items (c.assemble.ensures.size ∙ sym c.self.invariant) c.self.inside.bytes.ok.0 in
     let there = rw (c.slot_sector.ensures.value, c.new-log.ensures, bytes) at c.write.ensures.seen in
-    let seen = there ∙ ap (λ (image : Image). mended image (Some u)) (agrees_is mid.seen old.seen c.fill.ensures.reads.seen) in
+    let seen = there ∙ ap (λ (image : Image). mended image (Some u)) (agrees_is mid.seen old.seen c.assemble.ensures.reads.seen) in
     let touched = rw (c.slot_sector.ensures.value, c.new-log.ensures, bytes) at c.write.ensures.touches in
-    let touches = touches_on (reads_touch c.fill.ensures.reads) (touched u refl) in
+    let touches = touches_on (reads_touch c.assemble.ensures.reads) (touched u refl) in
     let kept = rw (c.slot_sector.ensures.value, c.new-log.ensures, bytes) at c.write.ensures.kept in
     let either = either_of c.write.result c.write.ensures.written kept in
     record {
       none = c.write.ensures.written;
       complete = on_ok_weaker c.write.result
           (λ none. one_complete c.args.generation c.args.index c.shape.ensures.plan c.requires.directory c.requires.within packed
-          c.fill.new.cluster
-          c.fill.ensures.size c.write.new.self c.in_ok-fill.ensures.filled seen touches either none) c.write.ensures.written;
-      zeros = on_ok_weaker c.write.result (λ none first long. zeros_written c.args.plan.now entry.object mid.seen
-          (g.D.Device.disk c.write.new.device).seen u c.fill.ensures.size
-          there none c.in_ok-fill.ensures.zeros) c.write.ensures.written;
-      keeps = kept_one c.args.generation c.args.index c.shape.ensures.plan c.requires.directory c.requires.within packed c.fill.new.cluster
-          c.fill.ensures.size c.write.new.self c.in_ok-fill.ensures.filled seen touches either;
-      cause = counts_on (counted_ok c.in_ok-fill.ensures.cause) c.write.ensures.cause;
+          c.assemble.new.cluster
+          c.assemble.ensures.size c.write.new.self c.in_ok-assemble.ensures.filled seen touches either
+          c.in_ok-assemble.ensures.seal none) c.write.ensures.written;
+      zeros = on_ok_weaker c.write.result (λ none plain first long. zeros_written c.args.plan.now entry.object mid.seen
+          (g.D.Device.disk c.write.new.device).seen u c.assemble.ensures.size
+          there none (c.in_ok-assemble.ensures.zeros plain)) c.write.ensures.written;
+      keeps = kept_one c.args.generation c.args.index c.shape.ensures.plan c.requires.directory c.requires.within packed
+          c.assemble.new.cluster c.assemble.ensures.size c.write.new.self c.in_ok-assemble.ensures.filled seen touches either;
+      cause = counts_on (counted_ok c.in_ok-assemble.ensures.cause) c.write.ensures.cause;
     }

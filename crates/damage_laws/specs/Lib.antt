@@ -1,0 +1,5 @@
+pub mod Gates
+pub mod Damage
+pub mod Laws
+pub mod Changed
+pub mod Example
