@@ -9,8 +9,8 @@ from pathlib import Path
 ROOT = Path(__file__).resolve().parent.parent
 EXAMPLES = ROOT / "examples"
 MOST, WORDS = 256, 2**64
-# The outcomes of a power cut over a device that stops; if the last sync of a header fails, OPENING leave its gate open.
-OUTCOMES, OPENING = ("keep", "drop", "0", "1", "255"), ("keep", "1")
+# The outcomes of a power cut over a device that stops.
+OUTCOMES = "keep", "drop", "0", "1", "255"
 # The kinds of capabilities by tag, and the texts of their accesses.
 CAPABILITIES = "void number page node space process start resume bank discrim".split()
 ACCESSES = {0: "", 1: " ro", 3: " weak"}
@@ -25,6 +25,11 @@ NUMBER = rb"(0|[1-9][0-9]*)"
 CAP = rb"(number N|page N(?: ro| weak)?|node N(?: ro| weak)?|space N [1-4](?: ro| weak)?|process N|start N N|resume N|bank N|discrim)"
 FIRST = rb"""free N|page N owner N|node N owner N|annex N owner N|bank N owner N limit N used N
 |process N owner N annex N (?:available|running|waiting) key N words N N N N space (?:void|CAP)"""
+
+
+def opening(version):
+    """The outcomes that leave the gate of a header open if its last sync fails. By version 3 a gate of ones has another number."""
+    return ("keep",) if version == 3 else ("keep", "1")
 
 
 def pattern(text):
