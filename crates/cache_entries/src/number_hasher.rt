@@ -8,7 +8,7 @@ use std::hash::Hasher;
 const MULTIPLIER: u64 = 0x9e37_79b9_7f4a_7c15;
 
 /// Hashes 8 bytes, as one number, by a multiplication (Fibonacci hashing). Places are few and consecutive, so
-/// this spreads them well. Of other than 8 bytes it hashes only how many they are.
+/// this spreads them well. If there are not 8 bytes, it hashes only their count.
 #[derive(Clone, Copy)]
 pub struct NumberHasher {
     hash: u64,

@@ -1,4 +1,4 @@
--- The committed header of an image without seals, as it is read.
+-- How the committed header of an image without seals is read.
 use Rattle.ckpt_log.specs.Names.{ℕ, Option, Some, None, List, ⊤, BadImage, CheckpointHeader, header_bytes}
 use Rattle.ckpt_log.specs.Names.{IsHeader, Image, OpenFault, committed_bytes, committed_slot}
 use Rattle.std.specs.Prelude.{◌≡◌}

@@ -1,4 +1,4 @@
--- An image of which one part has been replaced, as by older bytes.
+-- Images in which one part was replaced, for example by older bytes.
 use Rattle.std.specs.Prelude.{◌≡◌, ℕ, ◌+◌, ◌<◌, ◌≤◌, IsTrue, List}
 use Rattle.device.specs.Disk.{Image, IsWhole}
 use Rattle.layout.specs.Denoted.{IsBadBy, SavedState}

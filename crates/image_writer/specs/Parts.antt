@@ -45,7 +45,7 @@ IsNamed image v = (p : Plan) → IsPlan p → image 0 ≡ superblock_bytes p →
 
 -- ---- headers, homes and slots
 
--- a header as it is committed, with the fields of `header`: its numbers fit, and it has sums only with seals
+-- h is a header to commit: it has the fields of `header`, its numbers fit, and without seals it has no sums
 pub record IsHeaderOf (p : Plan) (header : CheckpointHeader) (h : SealedHeader) : Type 0 where
   pub same : h.header ≡ header
   pub words : AreWords (header_numbers h)

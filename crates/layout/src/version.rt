@@ -8,7 +8,7 @@ ghost use Rattle.layout.specs.Superblock.{version_number};
 pub enum Version {
     One,
     Two,
-    /// Programs do not open version 3 yet.
+    /// The version with seals.
     Three,
 }
 

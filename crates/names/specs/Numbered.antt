@@ -57,7 +57,7 @@ abbrev pub numbered_words : List Name → Place → List (List ℕ) → List ℕ
 numbered_words names at [] = []
 numbered_words names at (w ∷ ws) = numbered_word names at w ++ 32 ∷ numbered_words names (after_word at w) ws
 
--- a line has no numbers because a word is unknown, of which this holds
+-- if a line has no numbers because a word is unknown, P holds of this word
 abbrev pub IfUnknown : Unnumbered → (List ℕ → Type 0) → Type 0
 IfUnknown fault.NoMemory P = Unit {0}
 IfUnknown (fault.Unknown word) P = P word.now

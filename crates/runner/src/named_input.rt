@@ -35,7 +35,7 @@ impl<'r, R: Read> NamedInput<'r, R> {
         }
     }
 
-    // The line with numbers; a line with a name that no object has is left as it is, and that is said.
+    // Returns the line with numbers in place of names. If no object has a name, says so and returns the line unchanged.
     fn number(&self) -> Result<Vec<u8>, AllocError> {
         match number_objects(self.rt.alloc(), &self.names, &self.line) {
             Ok(numbered) => Ok(numbered),

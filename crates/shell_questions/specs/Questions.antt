@@ -1,4 +1,4 @@
--- A question about what is saved, as it is typed at a shell, and its answer.
+-- A question about what is saved, typed at a shell, and its answer.
 use Rattle.std.specs.Prelude.{◌≡◌, ◌⊎◌, ◌∷◌, ℕ, Bool, true, false, List, [], Option, Some, None, Result, Ok, Err, codes, is_some}
 use Rattle.std.specs.List.{All}
 use Rattle.std.specs.Str.{IsUtf8}

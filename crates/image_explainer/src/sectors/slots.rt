@@ -93,7 +93,7 @@ fn sector_of(sequence: u64) -> u64
     8 + 16 * (sequence % 3)
 }
 
-// Returns what is wrong with the committed header in three slots, of which two are a pair.
+// Returns what is wrong with the committed header, if two of the three slots are a pair.
 fn slots_fault(slots: &[HeaderSlot], log: u64) -> SectorFault
     requires slots { length slots.now ≡ 3 }
     requires some { IsRefused (numbered slots.now) NoPair → ⊥ }
